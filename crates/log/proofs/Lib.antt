@@ -1,0 +1,11 @@
+pub mod OpeningLaws
+pub mod Room
+pub mod Stands
+pub mod Steps
+pub mod CallLaws
+pub mod RecoveryLaws
+pub mod OpenLaws
+pub mod Recovery
+pub mod TableLaws
+pub mod CompactLaws
+pub mod WalLaws

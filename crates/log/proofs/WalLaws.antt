@@ -1,0 +1,134 @@
+-- What the code of a step has made is what its definition says: one law for each way through a step.
+use mathlib.Core.Path.{_≡_, refl, ap, sym, _∙_, subst}
+use mathlib.Core.Bool.{Bool, true, false, _&&_}
+use mathlib.Core.Option.{Option, none, some}
+use mathlib.Core.List.{List, [], _∷_, _++_}
+use Prim.Native.Nat.{ℕ, suc, _+_, _-_, _*_, _/_, _^_, _≤_, _<_, max}
+use native.Mathlib.Omega.{arith}
+use borrow.Author.Tests.{le-leb, lt-leb, leb-true, leb-false, lt-ltb, le-ltb, ltb-true, ltb-false}
+use lib.Dec.{leb, ltb}
+use lib.ListN.{length, take, getD, set}
+use Rattle.text.specs.Format.{Message, recordLine, doneLine}
+use Rattle.text.specs.Bytes.{write, part}
+use Rattle.log.specs.Log.{row, rowLen, Wal, state, openRows, Did, turnedAway, extended, squeezed, settled, compacted, withRecord, logged, newMessage, appendRefusal, appended, appendOf, findRow, withoutRow, keeps, markedDone, markOf, syncOf}
+use Rattle.log.specs.Table.{foundOf}
+use Rattle.log.proofs.OpeningLaws.{and-left}
+use Rattle.log.specs.declared.Counters.{Counters}
+use Rattle.log.specs.declared.Order.the-variants.{Append, Replace, Flush}
+use Rattle.log.specs.declared.Refusal.the-variants.{Full, NoId, NoRoom}
+use Rattle.log.specs.declared.Answer.the-variants.{Ordered, Nothing}
+use Rattle.log.specs.declared.Stepped.{Stepped}
+use Rattle.log.specs.declared.table.Found.{Found}
+use Rattle.log.specs.declared.table.Found.the-variants.{At, Missing}
+
+-- whether a done line is appended
+module _ (limit long live to : ℕ) where
+  pub keeps-long : long < to → keeps limit long live to ≡ false
+  unfolding keeps
+  keeps-long h = cc (lt-leb to long h)
+
+  pub keeps-room : keeps limit long live to ≡ true → to ≤ long
+  unfolding keeps
+  keeps-room e = leb-true to long (and-left (leb to long) (ltb to (max limit (2 * live))) e)
+
+  pub keeps-limit : to ≤ long → to < limit → keeps limit long live to ≡ true
+  unfolding keeps
+  keeps-limit h l = cc (le-leb to long h, lt-ltb to (max limit (2 * live)) (omega arith))
+
+  pub keeps-live : to ≤ long → limit ≤ to → keeps limit long live to ≡ ltb (to / 2) live
+  unfolding keeps
+  keeps-live h l = at (ltb (to / 2) live) refl
+    where
+      at : (t : Bool) → ltb (to / 2) live ≡ t → (leb to long && ltb to (max limit (2 * live))) ≡ ltb (to / 2) live
+      at true e = let less = ltb-true (to / 2) live e in cc (le-leb to long h, lt-ltb to (max limit (2 * live)) (omega arith))
+      at false e = let more = ltb-false (to / 2) live e in cc (le-leb to long h, le-ltb to (max limit (2 * live)) (omega arith))
+
+-- the rewrite
+pub compacted-is : (log log' : List ℕ) (rows rows' : List (List ℕ)) (c : Counters) → log' ≡ squeezed (take (c .count) rows) 0 log → rows' ≡ write rows 0 (settled (length log) (take (c .count) rows) 0)
+    → state log' rows' (record { next = c .next; live = c .live; size = c .live; dirty = c .dirty; count = c .count }) ≡ compacted (state log rows c)
+unfolding compacted
+compacted-is log log' rows rows' c p q = rw (p, q) refl
+
+-- append
+pub logged-is : (log log' : List ℕ) (rows rows' : List (List ℕ)) (c : Counters) (m : Message) (len : ℕ) → len ≡ length (recordLine m) → log' ≡ write log (c .size) (recordLine m) → rows' ≡ set rows (c .count) (row (m .id) (c .size) len)
+    → state log' rows' (record { next = c .next + 1; live = c .live + len; size = c .size + len; dirty = true; count = c .count + 1 }) ≡ logged (state log rows c) m
+unfolding extended withRecord
+logged-is log log' rows rows' c m len e p q = rw (p, q, e) refl
+
+module _ (w after : Wal) (m : Message) (len : ℕ) (e : len ≡ length (recordLine m)) where
+  pub appended-behind : leb (w .counters .size + len) (length (w .bytes)) ≡ true → after ≡ logged w m
+      → _≡_ {A = Did} (record { wal = after; answer = Ordered (Append (w .counters .size) (w .counters .size + len)) }) (appended w m)
+  unfolding appended
+  appended-behind t a = let yes : leb (w .counters .size + length (recordLine m)) (length (w .bytes)) ≡ true = rw e at t in cc
+
+  pub appended-anew : leb (w .counters .size + len) (length (w .bytes)) ≡ false → after ≡ logged (compacted w) m
+      → _≡_ {A = Did} (record { wal = after; answer = Ordered (Replace (w .counters .live + len)) }) (appended w m)
+  unfolding appended
+  appended-anew t a = let no : leb (w .counters .size + length (recordLine m)) (length (w .bytes)) ≡ false = rw e at t in cc
+
+module _ (w : Wal) (name body : List ℕ) where
+  abbrev m : Message
+  m = newMessage w name body
+
+  pub append-full : length (w .table) ≤ w .counters .count → turnedAway w Full ≡ appendOf w name body
+  unfolding appendOf appendRefusal
+  append-full h = cc (le-ltb (w .counters .count) (length (w .table)) h)
+
+  module _ (few : w .counters .count < length (w .table)) where
+    pub append-no-id : 2 ^ 64 - 1 ≤ w .counters .next → turnedAway w NoId ≡ appendOf w name body
+    unfolding appendOf appendRefusal
+    append-no-id h = cc (lt-ltb (w .counters .count) (length (w .table)) few, le-ltb (w .counters .next) (2 ^ 64 - 1) h)
+
+    module _ (id : w .counters .next < 2 ^ 64 - 1) where
+      pub append-no-room : length (w .bytes) < w .counters .live + length (recordLine m) → turnedAway w NoRoom ≡ appendOf w name body
+      unfolding appendOf appendRefusal
+      append-no-room h = cc (lt-ltb (w .counters .count) (length (w .table)) few, lt-ltb (w .counters .next) (2 ^ 64 - 1) id, lt-leb (w .counters .live + length (recordLine m)) (length (w .bytes)) h)
+
+      pub append-goes : w .counters .live + length (recordLine m) ≤ length (w .bytes) → appended w m ≡ appendOf w name body
+      unfolding appendOf appendRefusal
+      append-goes h = cc (lt-ltb (w .counters .count) (length (w .table)) few, lt-ltb (w .counters .next) (2 ^ 64 - 1) id, le-leb (w .counters .live + length (recordLine m)) (length (w .bytes)) h)
+
+-- mark
+pub found-missing : (o : Option ℕ) → Missing ≡ foundOf o → o ≡ none
+found-missing none e = refl
+found-missing (some i) e = let z : _≡_ {A = ℕ} 0 1 = cc in absurd (omega arith)
+
+pub found-at : (i : ℕ) (o : Option ℕ) → At i ≡ foundOf o → o ≡ some i
+found-at i none e = let z : _≡_ {A = ℕ} 0 1 = cc in absurd (omega arith)
+found-at i (some j) e = cc
+
+pub mark-unknown : (limit : ℕ) (w : Wal) (id : ℕ) → findRow 0 id (openRows w) ≡ none → record { wal = w; answer = Nothing } ≡ markOf limit w id
+unfolding markOf
+mark-unknown limit w id e = rw e refl
+
+pub mark-known : (limit : ℕ) (w : Wal) (id i : ℕ) → findRow 0 id (openRows w) ≡ some i → markedDone limit (withoutRow w i) id ≡ markOf limit w id
+unfolding markOf
+mark-known limit w id i e = rw e refl
+
+-- a row taken out, whatever the bytes
+pub without-any : (log : List ℕ) (rows rows' : List (List ℕ)) (c c' : Counters) (i : ℕ) → state [] rows' c' ≡ withoutRow (state [] rows c) i → state log rows' c' ≡ withoutRow (state log rows c) i
+unfolding withoutRow
+without-any log rows rows' c c' i e = ap (λ v. state log (v .table) (v .counters)) e
+
+module _ (limit : ℕ) (w : Wal) (id n : ℕ) (e : n ≡ length (doneLine id)) where
+  pub marked-behind : keeps limit (length (w .bytes)) (w .counters .live) (w .counters .size + n) ≡ true → (log' : List ℕ) → log' ≡ write (w .bytes) (w .counters .size) (doneLine id)
+      → _≡_ {A = Did} (record {
+        wal = state log' (w .table) (record { next = w .counters .next; live = w .counters .live; size = w .counters .size + n; dirty = w .counters .dirty; count = w .counters .count });
+        answer = Ordered (Append (w .counters .size) (w .counters .size + n));
+      }) (markedDone limit w id)
+  unfolding markedDone extended
+  marked-behind t log' p = let yes : keeps limit (length (w .bytes)) (w .counters .live) (w .counters .size + length (doneLine id)) ≡ true = rw e at t in cc
+
+  pub marked-anew : keeps limit (length (w .bytes)) (w .counters .live) (w .counters .size + n) ≡ false → (after : Wal) → after ≡ compacted w
+      → _≡_ {A = Did} (record { wal = after; answer = Ordered (Replace (w .counters .live)) }) (markedDone limit w id)
+  unfolding markedDone
+  marked-anew t after a = let no : keeps limit (length (w .bytes)) (w .counters .live) (w .counters .size + length (doneLine id)) ≡ false = rw e at t in cc
+
+-- sync
+pub sync-dirty : (c : Counters) → c .dirty ≡ true → _≡_ {A = Stepped} (record { counters = record { next = c .next; live = c .live; size = c .size; dirty = false; count = c .count }; answer = Ordered Flush }) (syncOf c)
+unfolding syncOf
+sync-dirty c e = rw e refl
+
+pub sync-clean : (c : Counters) → c .dirty ≡ false → _≡_ {A = Stepped} (record { counters = c; answer = Nothing }) (syncOf c)
+unfolding syncOf
+sync-clean c e = cc

@@ -1,0 +1,24 @@
+-- The sum is never made: the room behind `size` is compared with n.
+use Rattle.log.proofs.TableLaws.{room-behind}
+use borrow.Author.Tests.{lt-leb}
+use mathlib.Core.Path.{sym}
+use native.Mathlib.Omega.{arith}
+use Prim.Native.Nat.{_+_, _-_}
+use borrow.Author.Needs.{needs}
+use Rattle.log.proofs.wal.fits_behind.Statement.{statement}
+use Rattle.log.proofs.wal.fits_behind.Tie as tie
+
+returns : tie.Need-returns
+returns c =
+    let args = c .before .args in
+    let if1 = c .if1 in
+    sym (lt-leb (args .size + args .n) (args .long) (omega (arith, if1 .taken)))
+
+returns-2 : tie.Need-returns-2
+returns-2 c =
+    let args = c .before .args in
+    let if1 = c .if1 in
+    room-behind (args .size) (args .n) (args .long) (if1 .left)
+
+pub fits-behind-spec : {M : Type 1} → statement M
+fits-behind-spec = tie.close (tie.spec returns returns-2)

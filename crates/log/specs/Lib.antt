@@ -1,0 +1,5 @@
+pub mod Opening
+pub mod Log
+pub mod Opened
+pub mod Table
+pub mod Recovery

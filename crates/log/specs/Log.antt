@@ -1,0 +1,222 @@
+-- The log's state, and what each call makes of it (01, "Log"). Every definition is total: on any bytes, any table and any counters.
+use mathlib.Core.Bool.{Bool, true, false, _&&_}
+use mathlib.Core.Option.{Option, none, some}
+use mathlib.Core.List.{List, [], _∷_, _++_}
+use mathlib.Core.Path.{_≡_}
+use Prim.Native.Nat.{ℕ, suc, _+_, _-_, _*_, _^_, _≤_, _<_, max}
+use lib.Dec.{eqb, leb, ltb}
+use lib.ListN.{length, take, drop, getD, set}
+use Rattle.text.specs.Format.{Message, recordLine, doneLine}
+use Rattle.text.specs.Bytes.{write, part}
+use Rattle.log.specs.declared.Counters.{Counters}
+use Rattle.log.specs.declared.Order.{Order}
+use Rattle.log.specs.declared.Order.the-variants.{Append, Replace, Flush}
+use Rattle.log.specs.declared.Refusal.{Refusal}
+use Rattle.log.specs.declared.Refusal.the-variants.{Sizes, LastId, TooMuch, Full, NoId, NoRoom}
+use Rattle.log.specs.declared.Answer.{Answer}
+use Rattle.log.specs.declared.Answer.the-variants.{Ordered, Nothing, Refused}
+use Rattle.log.specs.declared.Stepped.{Stepped}
+
+-- 01's number of each refusal (a full table: 256 messages are logged and live)
+abbrev pub numberOf : Refusal → ℕ
+numberOf Sizes = 2
+numberOf LastId = 3
+numberOf TooMuch = 4
+numberOf Full = 8
+numberOf NoId = 9
+numberOf NoRoom = 10
+
+-- a row of the table of open records: the id, where its record begins in the log, and the record's length
+abbrev pub row : ℕ → ℕ → ℕ → List ℕ
+row id at len = id ∷ at ∷ len ∷ []
+
+abbrev pub rowId : List ℕ → ℕ
+rowId r = getD r 0 0
+
+abbrev pub rowAt : List ℕ → ℕ
+rowAt r = getD r 1 0
+
+abbrev pub rowLen : List ℕ → ℕ
+rowLen r = getD r 2 0
+
+-- bytes: the lent log, whose length is L; its first `size` bytes are the file. table: the lent table; its first `count` rows are the open records.
+pub record Wal : Type 0 where
+  pub bytes : List ℕ
+  pub table : List (List ℕ)
+  pub counters : Counters
+
+abbrev pub state : List ℕ → List (List ℕ) → Counters → Wal
+state bytes table counters = record { bytes = bytes; table = table; counters = counters }
+
+abbrev pub openRows : Wal → List (List ℕ)
+openRows w = take (w .counters .count) (w .table)
+
+-- the log after a call, and the answer
+pub record Did : Type 0 where
+  pub wal : Wal
+  pub answer : Answer
+
+abbrev pub turnedAway : Wal → Refusal → Did
+turnedAway w r = record { wal = w; answer = Refused r }
+
+-- a text written from the log's first free byte on
+unfoldable pub extended : Wal → List ℕ → Wal
+extended w text = record {
+  bytes = write (w .bytes) (w .counters .size) text;
+  table = w .table;
+  counters = record {
+    next = w .counters .next;
+    live = w .counters .live;
+    size = w .counters .size + length text;
+    dirty = w .counters .dirty;
+    count = w .counters .count;
+  };
+}
+
+-- a record's range can be moved down to `to`: it lies in the log and not below that
+unfoldable pub movable : ℕ → ℕ → List ℕ → Bool
+movable long to r = leb to (rowAt r) && leb (rowAt r + rowLen r) long
+
+-- the records' ranges moved down, in their order, one behind the other from `to` on ..
+unfoldable pub squeezed : List (List ℕ) → ℕ → List ℕ → List ℕ
+squeezed [] to bytes = bytes
+squeezed (r ∷ rs) to bytes = elim (movable (length bytes) to r) [
+  | true ↦ squeezed rs (to + rowLen r) (write bytes to (part bytes (rowAt r) (rowAt r + rowLen r)))
+  | false ↦ squeezed rs to bytes
+]
+
+-- .. and their rows, with the places that they then have
+unfoldable pub settled : ℕ → List (List ℕ) → ℕ → List (List ℕ)
+settled long [] to = []
+settled long (r ∷ rs) to = elim (movable long to r) [
+  | true ↦ row (rowId r) to (rowLen r) ∷ settled long rs (to + rowLen r)
+  | false ↦ r ∷ settled long rs to
+]
+
+-- the log rewritten to its open records in their order: its size is then the length of these
+unfoldable pub compacted : Wal → Wal
+compacted w = record {
+  bytes = squeezed (openRows w) 0 (w .bytes);
+  table = write (w .table) 0 (settled (length (w .bytes)) (openRows w) 0);
+  counters = record {
+    next = w .counters .next;
+    live = w .counters .live;
+    size = w .counters .live;
+    dirty = w .counters .dirty;
+    count = w .counters .count;
+  };
+}
+
+-- one message more: its row behind the others, for the record that begins at the first free byte; the next id rises by 1
+unfoldable pub withRecord : Wal → Message → Wal
+withRecord w m = record {
+  bytes = w .bytes;
+  table = set (w .table) (w .counters .count) (row (m .id) (w .counters .size) (length (recordLine m)));
+  counters = record {
+    next = w .counters .next + 1;
+    live = w .counters .live + length (recordLine m);
+    size = w .counters .size;
+    dirty = true;
+    count = w .counters .count + 1;
+  };
+}
+
+abbrev pub logged : Wal → Message → Wal
+logged w m = extended (withRecord w m) (recordLine m)
+
+-- the message that is to be logged has the next id
+abbrev pub newMessage : Wal → List ℕ → List ℕ → Message
+newMessage w name body = record { id = w .counters .next; name = name; body = body }
+
+-- turned away: the table is full, no id is left, or the open records and this one would not fit
+unfoldable pub appendRefusal : Wal → Message → Option Refusal
+appendRefusal w m = elim (ltb (w .counters .count) (length (w .table))) [
+  | false ↦ some Full
+  | true ↦
+      elim (ltb (w .counters .next) (2 ^ 64 - 1)) [
+        | false ↦ some NoId
+        | true ↦
+            elim (leb (w .counters .live + length (recordLine m)) (length (w .bytes))) [
+              | false ↦ some NoRoom
+              | true ↦ none
+            ]
+      ]
+]
+
+-- the record behind the others; where it has no room there, done records are dropped first, and all goes out as one replace
+unfoldable pub appended : Wal → Message → Did
+appended w m = elim (leb (w .counters .size + length (recordLine m)) (length (w .bytes))) [
+  | true ↦ record {
+    wal = logged w m;
+    answer = Ordered (Append (w .counters .size) (w .counters .size + length (recordLine m)));
+  }
+  | false ↦ record {
+    wal = logged (compacted w) m;
+    answer = Ordered (Replace (w .counters .live + length (recordLine m)));
+  }
+]
+
+abbrev pub appendJudged : Wal → Message → Option Refusal → Did
+appendJudged w m none = appended w m
+appendJudged w m (some r) = turnedAway w r
+
+-- Append: a message is logged under the next id
+unfoldable pub appendOf : Wal → List ℕ → List ℕ → Did
+appendOf w name body = appendJudged w (newMessage w name body) (appendRefusal w (newMessage w name body))
+
+-- a message that is not turned away, whose record is `len` bytes long
+pub record CanAppend (w : Wal) (m : Message) (len : ℕ) : Type 0 where
+  pub len-is : len ≡ length (recordLine m)
+  pub id : w .counters .next < 2 ^ 64 - 1
+  pub few : w .counters .count < length (w .table)
+  pub live : w .counters .live + len ≤ length (w .bytes)
+
+-- the place of the first row of an id, of rows that begin at place i
+unfoldable pub findRow : ℕ → ℕ → List (List ℕ) → Option ℕ
+findRow i id [] = none
+findRow i id (r ∷ rs) = elim (eqb (rowId r) id) [ true ↦ some i | false ↦ findRow (suc i) id rs ]
+
+-- one open record less: its row is taken out, and the open records' length falls by the record's
+unfoldable pub withoutRow : Wal → ℕ → Wal
+withoutRow w i = record {
+  bytes = w .bytes;
+  table = write (w .table) i (part (w .table) (i + 1) (w .counters .count));
+  counters = record {
+    next = w .counters .next;
+    live = w .counters .live - rowLen (getD (w .table) i []);
+    size = w .counters .size;
+    dirty = w .counters .dirty;
+    count = w .counters .count - 1;
+  };
+}
+
+-- the done line is appended while it fits and the log does not reach the limit
+unfoldable pub keeps : ℕ → ℕ → ℕ → ℕ → Bool
+keeps compactAt long live to = leb to long && ltb to (max compactAt (2 * live))
+
+unfoldable pub markedDone : ℕ → Wal → ℕ → Did
+markedDone compactAt w id = elim (keeps compactAt (length (w .bytes)) (w .counters .live) (w .counters .size + length (doneLine id))) [
+  | true ↦ record {
+    wal = extended w (doneLine id);
+    answer = Ordered (Append (w .counters .size) (w .counters .size + length (doneLine id)));
+  }
+  | false ↦ record { wal = compacted w; answer = Ordered (Replace (w .counters .live)) }
+]
+
+abbrev pub markFound : ℕ → Wal → ℕ → Option ℕ → Did
+markFound compactAt w id none = record { wal = w; answer = Nothing }
+markFound compactAt w id (some i) = markedDone compactAt (withoutRow w i) id
+
+-- Mark: an id that is not open does nothing; else its message is done
+unfoldable pub markOf : ℕ → Wal → ℕ → Did
+markOf compactAt w id = markFound compactAt w id (findRow 0 id (openRows w))
+
+-- Sync: a flush is ordered only where a record was appended since the last one
+unfoldable pub syncOf : Counters → Stepped
+syncOf c = elim (c .dirty) [
+  | true ↦ record {
+    counters = record { next = c .next; live = c .live; size = c .size; dirty = false; count = c .count };
+    answer = Ordered Flush;
+  }
+  | false ↦ record { counters = c; answer = Nothing }
+]

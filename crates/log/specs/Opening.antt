@@ -1,0 +1,73 @@
+-- Opening a log (01, "Log"): the messages left by a file, the next id, and the two refusals that a file can cause.
+use mathlib.Core.Bool.{Bool, true, false, _&&_}
+use mathlib.Core.List.{List, [], _∷_, _++_}
+use Prim.Native.Nat.{ℕ, suc, _+_, _^_, max}
+use lib.Dec.{eqb, leb, ltb}
+use lib.ListN.{length}
+use Rattle.text.specs.Format.{Message, lines, recordLine}
+use Rattle.text.specs.Line.{Line, put, done, other, readLine}
+use Rattle.log.specs.declared.Refusal.{Refusal}
+use Rattle.log.specs.declared.Refusal.the-variants.{LastId, TooMuch}
+
+-- the messages left so far, in rising id order: a record sets its id, the later one winning ..
+unfoldable pub insert : Message → List Message → List Message
+insert m [] = m ∷ []
+insert m (x ∷ xs) = elim (ltb (m .id) (x .id)) [
+  | true ↦ m ∷ x ∷ xs
+  | false ↦
+      elim (eqb (m .id) (x .id)) [ true ↦ m ∷ xs | false ↦ x ∷ insert m xs ]
+]
+
+-- .. and a done line removes its id
+unfoldable pub remove : ℕ → List Message → List Message
+remove id [] = []
+remove id (x ∷ xs) = elim (eqb (x .id) id) [ true ↦ remove id xs | false ↦ x ∷ remove id xs ]
+
+-- what has been read: the messages left, and the next id, which is 1 + the largest record id seen, else 0
+pub record Read : Type 0 where
+  pub left : List Message
+  pub next : ℕ
+
+unfoldable pub takeIn : Read → Line → Read
+takeIn r (put m) = record { left = insert m (r .left); next = max (r .next) (suc (m .id)) }
+takeIn r (done id) = record { left = remove id (r .left); next = r .next }
+takeIn r other = r
+
+unfoldable pub readLines : Read → List (List ℕ) → Read
+readLines r [] = r
+readLines r (text ∷ texts) = readLines (takeIn r (readLine text)) texts
+
+abbrev pub nothingRead : Read
+nothingRead = record { left = []; next = 0 }
+
+-- a file is read by its whole lines
+unfoldable pub readFile : List ℕ → Read
+readFile file = readLines nothingRead (lines file)
+
+-- a message within the limits: a name of at most 32 bytes, a body of at most 128
+unfoldable pub fits : Message → Bool
+fits m = leb (length (m .name)) 32 && leb (length (m .body)) 128
+
+unfoldable pub allFit : List Message → Bool
+allFit [] = true
+allFit (m ∷ ms) = fits m && allFit ms
+
+pub data Opening : Type 0 where
+  refused : Refusal → Opening
+  opened : Read → Opening
+
+-- refused where a record has the id 2 ^ 64 - 1 (so that there is no next id), then where more than 256 messages are left or one is too long
+unfoldable pub judge : Read → Opening
+judge r = elim (ltb (r .next) (2 ^ 64)) [
+  | false ↦ refused LastId
+  | true ↦
+      elim (leb (length (r .left)) 256 && allFit (r .left)) [ false ↦ refused TooMuch | true ↦ opened r ]
+]
+
+unfoldable pub opening : List ℕ → Opening
+opening file = judge (readFile file)
+
+-- the messages as records in their order: what the log is rewritten to
+unfoldable pub image : List Message → List ℕ
+image [] = []
+image (m ∷ ms) = recordLine m ++ image ms

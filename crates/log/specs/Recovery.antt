@@ -1,0 +1,184 @@
+-- What may be on the disk after a power cut, the moments of a list of calls, and what the next opening may then find (01, "Log": write rule, moments).
+use mathlib.Core.Path.{_≡_}
+use mathlib.Core.Bool.{true, false}
+use mathlib.Core.Logic.{_⊎_}
+use mathlib.Core.List.{List, [], _∷_, _++_, List·Memᴰ}
+use Prim.Native.Nat.{ℕ, _-_}
+use lib.ListN.{length, take, drop}
+use Rattle.text.specs.Format.{Message}
+use Rattle.text.specs.Bytes.{part}
+use Rattle.log.specs.Opening.{Read, remove, fits}
+use Rattle.log.specs.Log.{Wal, Did, newMessage, appendOf, markOf, syncOf}
+use Rattle.log.specs.Opened.{Opened, openedBy, openOf}
+use Rattle.log.specs.declared.Order.{Order}
+use Rattle.log.specs.declared.Order.the-variants.{Append, Replace, Flush}
+use Rattle.log.specs.declared.Answer.{Answer}
+use Rattle.log.specs.declared.Answer.the-variants.{Ordered, Nothing, Refused}
+use Rattle.log.specs.declared.Stepped.{Stepped}
+
+-- the calls: log a message, mark an id done, sync
+pub data Call : Type 0 where
+  append : List ℕ → List ℕ → Call
+  mark : ℕ → Call
+  sync : Call
+
+abbrev pub syncDid : Wal → Stepped → Did
+syncDid w s = record { wal = record { bytes = w .bytes; table = w .table; counters = s .counters }; answer = s .answer }
+
+-- what a call makes of the log. A name or body over its limit does not reach the log: its caller turns that away (5).
+unfoldable pub didCall : ℕ → Wal → Call → Did
+didCall compactAt w (append name body) = elim (fits (newMessage w name body)) [ true ↦ appendOf w name body | false ↦ record { wal = w; answer = Nothing } ]
+didCall compactAt w (mark id) = markOf compactAt w id
+didCall compactAt w sync = syncDid w (syncOf (w .counters))
+
+-- an order with its bytes, taken from the log as it stands when the order goes out
+pub data Sent : Type 0 where
+  appending : List ℕ → Sent
+  replacing : List ℕ → Sent
+  flushing : Sent
+
+unfoldable pub sent : List ℕ → Order → Sent
+sent bytes (Append a b) = appending (part bytes a b)
+sent bytes (Replace n) = replacing (take n bytes)
+sent bytes Flush = flushing
+
+-- every order is confirmed; or the last one waits for its answer; or it failed
+pub data Status : Type 0 where
+  settled : Status
+  waits : Sent → Status
+  lost : Sent → Status
+
+-- sure: all bytes up to the last confirmed flush or replace. since: the bytes that confirmed orders appended since.
+pub record Disk : Type 0 where
+  pub sure : List ℕ
+  pub since : List ℕ
+  pub status : Status
+
+-- all of `sure`, then any prefix of `since`
+abbrev pub Cut : List ℕ → List ℕ → List ℕ → Type 0
+Cut sure since file = (k : ℕ) × (file ≡ sure ++ take k since)
+
+-- Write rule: the files that a cut may leave while an order is not confirmed (an order that failed did what an unconfirmed one may) ..
+abbrev pub Unconfirmed : Sent → List ℕ → List ℕ → List ℕ → Type 0
+Unconfirmed (appending new) sure since file = Cut sure (since ++ new) file
+Unconfirmed (replacing new) sure since file = Cut sure since file ⊎ (file ≡ new)
+Unconfirmed flushing sure since file = Cut sure since file
+
+-- .. and the files that a cut may leave
+abbrev pub PossibleIn : Status → List ℕ → List ℕ → List ℕ → Type 0
+PossibleIn settled sure since file = Cut sure since file
+PossibleIn (waits s) sure since file = Unconfirmed s sure since file
+PossibleIn (lost s) sure since file = Unconfirmed s sure since file
+
+abbrev pub Possible : Disk → List ℕ → Type 0
+Possible disk file = PossibleIn (disk .status) (disk .sure) (disk .since) file
+
+-- an order confirmed
+unfoldable pub confirm : Sent → Disk → Disk
+confirm (appending new) disk = record { sure = disk .sure; since = disk .since ++ new; status = settled }
+confirm (replacing new) disk = record { sure = new; since = []; status = settled }
+confirm flushing disk = record { sure = disk .sure ++ disk .since; since = []; status = settled }
+
+-- the place of the moment at which the last confirmed flush or replace stands: `last` if this order is one, else `old`
+unfoldable pub firmMoment : Sent → ℕ → ℕ → ℕ
+firmMoment (appending bytes) old last = old
+firmMoment (replacing bytes) old last = last
+firmMoment flushing old last = last
+
+-- Moments: the messages logged and not done at the opening, and after each order that went out since. now: those of the last moment.
+-- firm: the place in `moments` of the last confirmed flush or replace; without one, of the opening.
+pub record World : Type 0 where
+  pub wal : Wal
+  pub disk : Disk
+  pub moments : List (List Message)
+  pub now : List Message
+  pub firm : ℕ
+
+-- what a call whose order goes out does to the messages logged and not done: a new record adds its message, with the name and body given and the next id;
+-- a mark takes its message off; any other order changes nothing
+unfoldable pub effect : Wal → Call → List Message → List Message
+effect w (append name body) now = now ++ (newMessage w name body ∷ [])
+effect w (mark id) now = remove id now
+effect w sync now = now
+
+-- an order goes out: one more moment
+unfoldable pub issue : World → Wal → List Message → Sent → World
+issue w wal now s = record {
+  wal = wal;
+  disk = record { sure = w .disk .sure; since = w .disk .since; status = waits s };
+  moments = w .moments ++ (now ∷ []);
+  now = now;
+  firm = w .firm;
+}
+
+abbrev pub issued : World → Call → Wal → Answer → World
+issued w c wal (Ordered o) = issue w wal (effect (w .wal) c (w .now)) (sent (wal .bytes) o)
+issued w c wal Nothing = record { wal = wal; disk = w .disk; moments = w .moments; now = w .now; firm = w .firm }
+issued w c wal (Refused r) = record { wal = wal; disk = w .disk; moments = w .moments; now = w .now; firm = w .firm }
+
+unfoldable pub called : World → Call → Did → World
+called w c did = issued w c (did .wal) (did .answer)
+
+-- the order is answered: stored, or failed
+unfoldable pub storedOrder : World → Sent → World
+storedOrder w s = record {
+  wal = w .wal;
+  disk = confirm s (w .disk);
+  moments = w .moments;
+  now = w .now;
+  firm = firmMoment s (w .firm) (length (w .moments) - 1);
+}
+
+unfoldable pub failedOrder : World → Sent → World
+failedOrder w s = record {
+  wal = w .wal;
+  disk = record { sure = w .disk .sure; since = w .disk .since; status = lost s };
+  moments = w .moments;
+  now = w .now;
+  firm = w .firm;
+}
+
+-- a call, or the disk's answer to the order that waits
+pub data Event : Type 0 where
+  call : Call → Event
+  stored : Event
+  failed : Event
+
+-- a call is turned away while an order waits and after one failed; an answer, where no order waits
+unfoldable pub step : ℕ → Status → World → Event → World
+step compactAt settled w (call c) = called w c (didCall compactAt (w .wal) c)
+step compactAt settled w stored = w
+step compactAt settled w failed = w
+step compactAt (waits s) w (call c) = w
+step compactAt (waits s) w stored = storedOrder w s
+step compactAt (waits s) w failed = failedOrder w s
+step compactAt (lost s) w e = w
+
+unfoldable pub run : ℕ → World → List Event → World
+run compactAt w [] = w
+run compactAt w (e ∷ es) = run compactAt (step compactAt (w .disk .status) w e) es
+
+abbrev pub walOf : Opened → Wal
+walOf o = record { bytes = o .log; table = o .table; counters = o .step .counters }
+
+-- the accepted opening of a file, which left these messages, with its replace not yet answered; the file given counts as confirmed
+unfoldable pub begin : Opened → List ℕ → List Message → World
+begin o file left = record {
+  wal = walOf o;
+  disk = record { sure = file; since = []; status = waits (sent (o .log) (Replace (o .step .counters .size))) };
+  moments = left ∷ [];
+  now = left;
+  firm = 0;
+}
+
+-- the next opening of a file, in any lent log of this length that begins with it and with any store and tables of the right sizes, is accepted,
+-- and the messages left, handed back in rising id order, are those of one of the moments
+pub record Recovers (long : ℕ) (file : List ℕ) (moments : List (List Message)) : Type 0 where
+  pub found : Read
+  pub among : List·Memᴰ (found .left) moments
+  pub accepted : (log store : List ℕ) (table left : List (List ℕ)) → length log ≡ long → take (length file) log ≡ file → length store ≡ 40960 → length table ≡ 256 → length left ≡ 256
+      → openOf log (length file) store table left ≡ openedBy log store table left found
+
+-- whatever file a cut may leave, the next opening finds a moment no earlier than the last confirmed flush or replace
+abbrev pub Recoverable : ℕ → World → Type 0
+Recoverable long w = (file : List ℕ) → Possible (w .disk) file → Recovers long file (drop (w .firm) (w .moments))

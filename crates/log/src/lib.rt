@@ -1,0 +1,68 @@
+// The write-ahead log of the rail pool, over a lent slice of bytes: each message logged, each marked done, so that a restart hands back only the rest.
+// State: the lent log (its first `size` bytes are the file), a lent table of 256 rows of open records (id, where the record begins, its length) in rising id order,
+// and the counters, by value. One invariant, a law and no precondition: the table is what the bytes say (proofs/Stands).
+// Calls: `open_log` one pass over the file, `append` and `sync` in the record's length, `mark` in the table's; a rewrite moves the open records down.
+// Each ends on any bytes, tables and numbers and equals its definition (specs/Log). proofs/Recovery: after any list of calls, wherever the power fails, the next opening
+// hands back exactly the messages of one moment no earlier than the last confirmed flush or replace.
+ghost use mathlib.Core.Path.{_≡_};
+ghost use Rattle.log.specs.Log.{numberOf};
+
+pub mod opening; // opening.rt: a file read, decided on and written anew
+pub mod table; // table.rt: rows of the table of open records
+pub mod wal; // wal.rt: append, mark, sync, and the rewrite
+
+// The id under which a message is logged.
+pub struct LogId(pub u64);
+
+// The log's counters: the next id, the length of the open records, the file's length, whether a record was appended since the last flush,
+// and the number of open records.
+pub struct Counters {
+    pub next: u64,
+    pub live: usize,
+    pub size: usize,
+    pub dirty: bool,
+    pub count: usize,
+}
+
+// An order to the disk: append bytes a to b of the log, replace the file by the first n, flush.
+pub enum Order {
+    Append(usize, usize),
+    Replace(usize),
+    Flush,
+}
+
+// Why a call was turned away.
+pub enum Refusal {
+    Sizes,
+    LastId,
+    TooMuch,
+    Full,
+    NoId,
+    NoRoom,
+}
+
+pub enum Answer {
+    Ordered(Order),
+    Nothing,
+    Refused(Refusal),
+}
+
+// The counters after a call, and its answer.
+pub struct Stepped {
+    pub counters: Counters,
+    pub answer: Answer,
+}
+
+// The number of a refusal.
+pub fn number(r: Refusal) -> u64
+    ensures { λ n. ⌜ n ≡ numberOf r ⌝ }
+{
+    match r {
+        Refusal::Sizes => 2,
+        Refusal::LastId => 3,
+        Refusal::TooMuch => 4,
+        Refusal::Full => 8,
+        Refusal::NoId => 9,
+        Refusal::NoRoom => 10,
+    }
+}

@@ -1,0 +1,77 @@
+// Rows of the table of open records: an id, where its record begins, and the record's length. The first `count` rows are in use.
+ghost use mathlib.Core.Path.{_≡_};
+ghost use mathlib.Core.List.{_∷_};
+ghost use Prim.Native.Nat.{_+_, _≤_, _<_};
+ghost use lib.ListN.{length, take, set};
+ghost use Rattle.text.specs.Bytes.{write, part};
+ghost use Rattle.log.specs.Log.{row, findRow};
+ghost use Rattle.log.specs.Table.{foundOf};
+
+pub enum Found {
+    At(usize),
+    Missing,
+}
+
+// The place of an id's row.
+pub(crate) fn find_row(rows: &[[u64; 3]], count: usize, id: u64) -> Found
+    ensures { λ r. ⌜ r ≡ foundOf (findRow 0 id (take count (now (rows .entry)))) ⌝ }
+{
+    let mut i: usize = 0;
+    while i < count {
+        if rows.len() <= i {
+            return Found::Missing;
+        }
+        let r = rows[i];
+        if r[0] == id {
+            return Found::At(i);
+        }
+        i += 1;
+    }
+    Found::Missing
+}
+
+// A row stored, where there is one at that place.
+pub(crate) fn set_row(rows: &mut [[u64; 3]], i: usize, id: u64, at: usize, len: usize)
+    ensures { λ r. ⌜ now (rows .exit) ≡ set (now (rows .entry)) i (row id at len) ⌝ }
+{
+    let r = [id, at as u64, len as u64];
+    if i < rows.len() {
+        rows[i] = r;
+    }
+}
+
+// A row taken out: those behind it move down by one.
+pub(crate) fn close_row(rows: &mut [[u64; 3]], i: usize, count: usize)
+    ensures { λ r. ⌜ now (rows .exit) ≡ write (now (rows .entry)) i (part (now (rows .entry)) (i + 1) count) ⌝ }
+{
+    if rows.len() <= i {
+        return;
+    }
+    let mut to = i;
+    let mut k = i + 1;
+    while k < count {
+        if rows.len() <= k {
+            return;
+        }
+        let r = rows[k];
+        rows[to] = r;
+        to = k;
+        k += 1;
+    }
+}
+
+// A row put at place i: those from there on, up to place n, move up by one.
+pub(crate) fn open_row(rows: &mut [[u64; 3]], i: usize, n: usize, row: [u64; 3])
+    requires { ⌜ (i ≤ n) × (n < length (now rows)) ⌝ }
+    ensures { λ r. ⌜ now (rows .exit) ≡ write (now (rows .entry)) i (row ∷ part (now (rows .entry)) i n) ⌝ }
+{
+    let mut carry = row;
+    let mut j = i;
+    while j < n {
+        let r = rows[j];
+        rows[j] = carry;
+        carry = r;
+        j += 1;
+    }
+    rows[n] = carry;
+}

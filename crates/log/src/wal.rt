@@ -1,0 +1,323 @@
+// The log's steps: append, mark and sync, and the rewrite to the open records.
+ghost use mathlib.Core.Path.{_≡_};
+ghost use mathlib.Core.List.{[]};
+ghost use Prim.Native.Nat.{_+_, _-_, _≤_};
+ghost use lib.Dec.{leb};
+ghost use lib.ListN.{length, take, getD};
+ghost use Rattle.text.specs.Bytes.{write, part};
+ghost use Rattle.log.specs.Log.{state, rowLen, squeezed, settled, CanAppend, newMessage, logged, appended, appendOf, withoutRow, keeps, markedDone, markOf, syncOf};
+ghost use Rattle.log.specs.declared.Answer.the-variants.{Refused};
+use crate::Answer;
+use crate::Counters;
+use crate::LogId;
+use crate::Order;
+use crate::Refusal;
+use crate::Stepped;
+use crate::table::Found;
+use crate::table::close_row;
+use crate::table::find_row;
+use crate::table::set_row;
+use text::escape::Measure;
+use text::record::done_len;
+use text::record::encode_done;
+use text::record::encode_record;
+use text::record::record_len;
+
+// The n bytes from a on moved down to `to`.
+fn move_down(log: &mut [u8], a: usize, n: usize, to: usize)
+    requires { ⌜ (to ≤ a) × (a + n ≤ length (now log)) ⌝ }
+    ensures { λ r. ⌜ now (log .exit) ≡ write (now (log .entry)) to (part (now (log .entry)) a (a + n)) ⌝ }
+{
+    if to == a {
+        return;
+    }
+    let end = a + n;
+    let mut k = a;
+    let mut p = to;
+    while k < end {
+        let b = log[k];
+        log[p] = b;
+        p += 1;
+        k += 1;
+    }
+}
+
+// Whether n bytes fit behind `size` bytes of `long`.
+fn fits_behind(size: usize, n: usize, long: usize) -> bool
+    ensures { λ r. ⌜ r ≡ leb (size + n) long ⌝ }
+{
+    if long < size {
+        return false;
+    }
+    n <= long - size
+}
+
+// The log rewritten to its open records: their ranges are moved down, in their order, and their rows say where to.
+pub(crate) fn compact(log: &mut [u8], records: &mut [[u64; 3]], count: usize)
+    ensures bytes { λ r. ⌜ now (log .exit) ≡ squeezed (take count (now (records .entry))) 0 (now (log .entry)) ⌝ }
+    ensures table { λ r. ⌜ now (records .exit) ≡ write (now (records .entry)) 0 (settled (length (now (log .entry))) (take count (now (records .entry))) 0) ⌝ }
+{
+    let mut to: usize = 0;
+    let mut i: usize = 0;
+    while i < count {
+        if records.len() <= i {
+            return;
+        }
+        let r = records[i];
+        let k = i;
+        i += 1;
+        let at = r[1] as usize;
+        let len = r[2] as usize;
+        if to <= at {
+            if fits_behind(at, len, log.len()) {
+                move_down(log, at, len, to);
+                records[k] = [r[0], to as u64, r[2]];
+                to += len;
+            }
+        }
+    }
+}
+
+// The record of a message behind the file's bytes, its row behind the others, and the counters after it.
+fn put_record(
+    log: &mut [u8],
+    records: &mut [[u64; 3]],
+    counters: Counters,
+    len: usize,
+    name: &[u8],
+    body: &[u8],
+) -> Counters
+    requires { ⌜ CanAppend (state (now log) (now records) counters) (newMessage (state (now log) (now records) counters) (now name) (now body)) len × (counters .size + len ≤ length (now log)) ⌝ }
+    ensures { λ r. ⌜ state (now (log .exit)) (now (records .exit)) r ≡ logged (state (now (log .entry)) (now (records .entry)) counters) (record { id = counters .next; name = now (name .entry); body = now (body .entry) }) ⌝ }
+{
+    let next = counters.next;
+    let size = counters.size;
+    let count = counters.count;
+    encode_record(&mut log[size..], next, name, body);
+    set_row(records, count, next, size, len);
+    Counters {
+        next: next + 1,
+        live: counters.live + len,
+        size: size + len,
+        dirty: true,
+        count: count + 1,
+    }
+}
+
+// A message that is not turned away: its record behind the others, or, for lack of room, behind the open ones alone.
+fn append_record(
+    log: &mut [u8],
+    records: &mut [[u64; 3]],
+    counters: Counters,
+    len: usize,
+    name: &[u8],
+    body: &[u8],
+) -> Stepped
+    requires { ⌜ CanAppend (state (now log) (now records) counters) (newMessage (state (now log) (now records) counters) (now name) (now body)) len ⌝ }
+    ensures { λ r. ⌜ record { wal = state (now (log .exit)) (now (records .exit)) (r .counters); answer = r .answer } ≡ appended (state (now (log .entry)) (now (records .entry)) counters) (record { id = counters .next; name = now (name .entry); body = now (body .entry) }) ⌝ }
+{
+    let size = counters.size;
+    if fits_behind(size, len, log.len()) {
+        let more = put_record(log, records, counters, len, name, body);
+        return Stepped {
+            counters: more,
+            answer: Answer::Ordered(Order::Append(size, size + len)),
+        };
+    }
+    let live = counters.live;
+    let count = counters.count;
+    compact(log, records, count);
+    let dense = Counters {
+        next: counters.next,
+        live,
+        size: live,
+        dirty: counters.dirty,
+        count,
+    };
+    let more = put_record(log, records, dense, len, name, body);
+    Stepped {
+        counters: more,
+        answer: Answer::Ordered(Order::Replace(live + len)),
+    }
+}
+
+fn turned_away(counters: Counters, r: Refusal) -> Stepped
+    ensures { λ s. ⌜ s ≡ record { counters = counters; answer = Refused r } ⌝ }
+{
+    Stepped {
+        counters,
+        answer: Answer::Refused(r),
+    }
+}
+
+// Logs a message under the next id.
+pub fn append(
+    log: &mut [u8],
+    records: &mut [[u64; 3]],
+    counters: Counters,
+    name: &[u8],
+    body: &[u8],
+) -> Stepped
+    ensures { λ r. ⌜ record { wal = state (now (log .exit)) (now (records .exit)) (r .counters); answer = r .answer } ≡ appendOf (state (now (log .entry)) (now (records .entry)) counters) (now (name .entry)) (now (body .entry)) ⌝ }
+{
+    let next = counters.next;
+    let live = counters.live;
+    let count = counters.count;
+    if records.len() <= count {
+        return turned_away(counters, Refusal::Full);
+    }
+    if next == 18446744073709551615 {
+        return turned_away(counters, Refusal::NoId);
+    }
+    if log.len() < live {
+        return turned_away(counters, Refusal::NoRoom);
+    }
+    let Measure::Len(len) = record_len(next, name, body, log.len() - live) else {
+        return turned_away(counters, Refusal::NoRoom);
+    };
+    append_record(log, records, counters, len, name, body)
+}
+
+// A difference, 0 where there is none.
+fn less(a: usize, b: usize) -> usize
+    ensures { λ r. ⌜ r ≡ a - b ⌝ }
+{
+    if a < b {
+        return 0;
+    }
+    a - b
+}
+
+// The length of the record of a row, 0 where there is no such row.
+fn len_at(records: &[[u64; 3]], i: usize) -> usize
+    ensures { λ r. ⌜ r ≡ rowLen (getD (now (records .entry)) i []) ⌝ }
+{
+    if i < records.len() {
+        let r = records[i];
+        return r[2] as usize;
+    }
+    0
+}
+
+// The row of a message that is done taken out, and the counters after it.
+fn take_record(records: &mut [[u64; 3]], counters: Counters, i: usize) -> Counters
+    ensures { λ r. ⌜ state [] (now (records .exit)) r ≡ withoutRow (state [] (now (records .entry)) counters) i ⌝ }
+{
+    let live = counters.live;
+    let count = counters.count;
+    let len = len_at(records, i);
+    close_row(records, i, count);
+    let rest = less(live, len);
+    let fewer = less(count, 1);
+    Counters {
+        next: counters.next,
+        live: rest,
+        size: counters.size,
+        dirty: counters.dirty,
+        count: fewer,
+    }
+}
+
+// Whether a done line of n bytes is appended behind `size`: it fits, and the log does not reach the limit.
+fn keeps_on(size: usize, n: usize, long: usize, limit: usize, live: usize) -> bool
+    ensures { λ r. ⌜ r ≡ keeps limit long live (size + n) ⌝ }
+{
+    if long < size {
+        return false;
+    }
+    if long - size < n {
+        return false;
+    }
+    let to = size + n;
+    if to < limit {
+        return true;
+    }
+    to / 2 < live
+}
+
+// The done line behind the others, or the log rewritten to the open records.
+fn mark_done(
+    log: &mut [u8],
+    records: &mut [[u64; 3]],
+    counters: Counters,
+    limit: usize,
+    id: u64,
+) -> Stepped
+    ensures { λ r. ⌜ record { wal = state (now (log .exit)) (now (records .exit)) (r .counters); answer = r .answer } ≡ markedDone limit (state (now (log .entry)) (now (records .entry)) counters) id ⌝ }
+{
+    let size = counters.size;
+    let live = counters.live;
+    let count = counters.count;
+    let n = done_len(id);
+    if keeps_on(size, n, log.len(), limit, live) {
+        encode_done(&mut log[size..], id);
+        let more = Counters {
+            next: counters.next,
+            live,
+            size: size + n,
+            dirty: counters.dirty,
+            count,
+        };
+        return Stepped {
+            counters: more,
+            answer: Answer::Ordered(Order::Append(size, size + n)),
+        };
+    }
+    compact(log, records, count);
+    let dense = Counters {
+        next: counters.next,
+        live,
+        size: live,
+        dirty: counters.dirty,
+        count,
+    };
+    Stepped {
+        counters: dense,
+        answer: Answer::Ordered(Order::Replace(live)),
+    }
+}
+
+// Marks a message done; an id that is not open does nothing.
+pub fn mark(
+    log: &mut [u8],
+    records: &mut [[u64; 3]],
+    counters: Counters,
+    limit: usize,
+    id: LogId,
+) -> Stepped
+    ensures { λ r. ⌜ record { wal = state (now (log .exit)) (now (records .exit)) (r .counters); answer = r .answer } ≡ markOf limit (state (now (log .entry)) (now (records .entry)) counters) (id .0) ⌝ }
+{
+    let n = id.0;
+    let count = counters.count;
+    let Found::At(i) = find_row(records, count, n) else {
+        return Stepped {
+            counters,
+            answer: Answer::Nothing,
+        };
+    };
+    let rest = take_record(records, counters, i);
+    mark_done(log, records, rest, limit, n)
+}
+
+// Orders a flush, where a record was appended since the last one.
+pub fn sync(counters: Counters) -> Stepped
+    ensures { λ r. ⌜ r ≡ syncOf counters ⌝ }
+{
+    if counters.dirty {
+        let clean = Counters {
+            next: counters.next,
+            live: counters.live,
+            size: counters.size,
+            dirty: false,
+            count: counters.count,
+        };
+        return Stepped {
+            counters: clean,
+            answer: Answer::Ordered(Order::Flush),
+        };
+    }
+    Stepped {
+        counters,
+        answer: Answer::Nothing,
+    }
+}

@@ -1,0 +1,8 @@
+pub mod FormatLaws
+pub mod Bridge
+pub mod WriteLaws
+pub mod IdLaws
+pub mod EscapeLaws
+pub mod RecordLaws
+pub mod LineLaws
+pub mod AnswerLaws

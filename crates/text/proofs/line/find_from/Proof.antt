@@ -1,0 +1,38 @@
+use Rattle.text.proofs.LineLaws.{from, first-from}
+use Rattle.text.specs.Answers.{First}
+use lib.ListN.{length, take, drop, getD, set, length-drop}
+use native.Mathlib.Omega.{arith}
+use Prim.Native.Nat.{_+_, _-_}
+use mathlib.Core.List.{[], _∷_, _++_}
+use mathlib.Core.Path.{_≡_, refl, ap, sym, _∙_}
+use borrow.Author.Needs.{needs}
+use Rattle.text.proofs.line.find_from.Statement.{statement}
+use Rattle.text.proofs.line.find_from.Tie as tie
+
+sub-find : tie.Need-sub-find
+sub-find c = search needs
+
+part-find-start : tie.Need-part-find-start
+part-find-start c = search needs
+
+part-find-end : tie.Need-part-find-end
+part-find-end c = search needs
+
+find-requires : tie.Need-find-requires
+find-requires c κs = search needs
+
+add-result : tie.Need-add-result
+add-result c =
+    let args = c .before .before .before .args in
+    let find = c .find in
+    omega (arith, find .ensures .within, ap length (from (args .s .now) (args .from)), length-drop (args .from) (args .s .now))
+
+returns : tie.Need-returns
+returns c =
+    let pre = c .before .before .before .pre in
+    let find = c .find in
+    first-from _ _ _ _ (pre) (find .ensures)
+
+pub find-from-spec : {M : Type 1} → statement M
+find-from-spec =
+    tie.close (tie.spec sub-find part-find-start part-find-end find-requires add-result returns)

@@ -1,0 +1,80 @@
+-- What the answers of the functions say, in the terms of the definitions.
+use mathlib.Core.Path.{_≡_}
+use mathlib.Core.Bool.{true, false}
+use mathlib.Core.Option.{Option, none, some}
+use mathlib.Core.List.{List, [], _∷_, _++_}
+use Prim.Native.Nat.{ℕ, _+_, _-_, _≤_, _<_}
+use lib.Dec.{leb}
+use lib.ListN.{length, take, drop, getD}
+use Rattle.text.specs.Bytes.{write, part, Free}
+use Rattle.text.specs.Format.{LF, unescape, lines}
+use Rattle.text.specs.Line.{Line, put, done, other, readLine}
+use Rattle.text.specs.declared.ids.IdRead.{IdRead}
+use Rattle.text.specs.declared.ids.IdRead.the-variants.{Is, Not}
+use Rattle.text.specs.declared.escape.Measure.{Measure}
+use Rattle.text.specs.declared.escape.Measure.the-variants.{Len, Over}
+use Rattle.text.specs.declared.line.LineKind.{LineKind}
+use Rattle.text.specs.declared.line.LineKind.the-variants.{Put, Done, Other}
+
+abbrev pub idOf : Option ℕ → IdRead
+idOf none = Not
+idOf (some n) = Is n
+
+-- a length, where it is within a limit
+unfoldable pub within : ℕ → ℕ → Measure
+within n most = elim (leb n most) [ true ↦ Len n | false ↦ Over ]
+
+-- a slice after a text was to be put at its front, and the answer
+pub record Filled : Type 0 where
+  pub bytes : List ℕ
+  pub answer : Measure
+
+-- a text that fits is put at the front of a slice; one that does not changes nothing
+unfoldable pub filled : List ℕ → List ℕ → Filled
+filled old text = elim (leb (length text) (length old)) [
+  | true ↦ record { bytes = write old 0 text; answer = Len (length text) }
+  | false ↦ record { bytes = old; answer = Over }
+]
+
+-- the first place of a separator, else the text's length
+pub record First (text : List ℕ) (sep place : ℕ) : Type 0 where
+  pub within : place ≤ length text
+  pub before : Free sep (take place text)
+  pub there : place < length text → getD text place 0 ≡ sep
+
+-- the same from a place on
+pub record FirstFrom (text : List ℕ) (start sep place : ℕ) : Type 0 where
+  pub low : start ≤ place
+  pub within : place ≤ length text
+  pub first : First (drop start text) sep (place - start)
+
+abbrev pub doneKind : IdRead → LineKind
+doneKind (Is id) = Done id
+doneKind Not = Other
+
+abbrev pub putKind : IdRead → ℕ → ℕ → ℕ → ℕ → LineKind
+putKind (Is id) a b c d = Put id a b c d
+putKind Not a b c d = Other
+
+-- what the answer of `line_kind` says of its line
+abbrev pub kindOf : List ℕ → LineKind → Line
+kindOf line (Put id a b c d) = put (record { id = id; name = unescape (part line a b); body = unescape (part line c d) })
+kindOf line (Done id) = done id
+kindOf line Other = other
+
+abbrev pub Inside : List ℕ → LineKind → Type 0
+Inside line (Put id a b c d) = (a ≤ b) × (b ≤ c) × (c ≤ d) × (d ≤ length line)
+Inside line (Done id) = Unit
+Inside line Other = Unit
+
+pub record Said (line : List ℕ) (r : LineKind) : Type 0 where
+  pub says : kindOf line r ≡ readLine line
+  pub inside : Inside line r
+
+-- the next whole line from `at` on ends at `end`; there is none where that is the file's length
+pub record NextLine (file : List ℕ) (at end : ℕ) : Type 0 where
+  pub within : end ≤ length file
+  pub low : end < length file → at ≤ end
+  pub whole : end < length file → lines (drop at file) ≡ part file at end ∷ lines (drop (end + 1) file)
+  pub feed : end < length file → getD file end 0 ≡ LF
+  pub torn : length file ≤ end → lines (drop at file) ≡ []

@@ -1,0 +1,132 @@
+-- What a log's text is (01, "Log"): escaped fields, decimal ids, records, done lines, lines and fields. A byte is a number, a text a list of bytes.
+use mathlib.Core.Bool.{true, false}
+use mathlib.Core.Option.{Option, none, some}
+use mathlib.Core.List.{List, [], _∷_, _++_}
+use Prim.Native.Nat.{ℕ, zero, suc, _+_, _-_, _*_, _/_, _%_, _^_}
+use lib.Dec.{eqb, leb, ltb}
+
+-- the bytes of the format, once for reader and writer
+abbrev pub TAB : ℕ
+TAB = 9
+
+abbrev pub LF : ℕ
+LF = 10
+
+abbrev pub PLUS : ℕ
+PLUS = 43
+
+abbrev pub DIGIT0 : ℕ
+DIGIT0 = 48
+
+abbrev pub BACKSLASH : ℕ
+BACKSLASH = 92
+
+abbrev pub LETTER-n : ℕ
+LETTER-n = 110
+
+abbrev pub LETTER-t : ℕ
+LETTER-t = 116
+
+-- Escape: a backslash, TAB or LF becomes a backslash and one more byte (backslash, t, n); any other byte stays
+unfoldable pub escapeByte : ℕ → List ℕ
+escapeByte b = elim (eqb b BACKSLASH) [
+  | true ↦ BACKSLASH ∷ BACKSLASH ∷ []
+  | false ↦
+      elim (eqb b TAB) [
+        | true ↦ BACKSLASH ∷ LETTER-t ∷ []
+        | false ↦
+            elim (eqb b LF) [ true ↦ BACKSLASH ∷ LETTER-n ∷ [] | false ↦ b ∷ [] ]
+      ]
+]
+
+unfoldable pub escape : List ℕ → List ℕ
+escape [] = []
+escape (b ∷ bs) = escapeByte b ++ escape bs
+
+-- the byte that stands after a backslash: t is TAB, n is LF, any other byte is itself (so a backslash is a backslash)
+unfoldable pub escaped : ℕ → ℕ
+escaped b = elim (eqb b LETTER-t) [ true ↦ TAB | false ↦ elim (eqb b LETTER-n) [ true ↦ LF | false ↦ b ] ]
+
+-- Unescape: plain text and the byte after a backslash take turns; a lone last backslash is dropped
+unfoldable mutual
+  pub unescape : List ℕ → List ℕ
+  unescape [] = []
+  unescape (b ∷ bs) = elim (eqb b BACKSLASH) [ true ↦ unescape-next bs | false ↦ b ∷ unescape bs ]
+
+  pub unescape-next : List ℕ → List ℕ
+  unescape-next [] = []
+  unescape-next (b ∷ bs) = escaped b ∷ unescape bs
+
+-- n in decimal, without leading zeros, by at most `places` digits
+unfoldable pub digits : ℕ → ℕ → List ℕ
+digits zero n = []
+digits (suc places) n = elim (ltb n 10) [ true ↦ (DIGIT0 + n) ∷ [] | false ↦ digits places (n / 10) ++ ((DIGIT0 + n % 10) ∷ []) ]
+
+-- an id (below 2 ^ 64, so 20 places do) in decimal
+unfoldable pub printId : ℕ → List ℕ
+printId n = digits 20 n
+
+-- the number that decimal digits say after those that said `high`; none if a byte is no digit
+unfoldable pub decimal : ℕ → List ℕ → Option ℕ
+decimal high [] = some high
+decimal high (b ∷ bs) = elim (leb DIGIT0 b) [
+  | false ↦ none
+  | true ↦
+      elim (ltb b (DIGIT0 + 10)) [ false ↦ none | true ↦ decimal (high * 10 + (b - DIGIT0)) bs ]
+]
+
+unfoldable pub below64 : Option ℕ → Option ℕ
+below64 none = none
+below64 (some n) = elim (ltb n (2 ^ 64)) [ true ↦ some n | false ↦ none ]
+
+-- one digit or more, of a value up to 2 ^ 64 - 1; leading zeros count for nothing
+unfoldable pub readDigits : List ℕ → Option ℕ
+readDigits [] = none
+readDigits (b ∷ bs) = below64 (decimal 0 (b ∷ bs))
+
+-- Reading an id: an optional plus sign, then digits
+unfoldable pub readId : List ℕ → Option ℕ
+readId [] = none
+readId (b ∷ bs) = elim (eqb b PLUS) [ true ↦ readDigits bs | false ↦ readDigits (b ∷ bs) ]
+
+-- a message as the log has it (01, "Records"): its id, group name and body
+pub record Message : Type 0 where
+  pub id : ℕ
+  pub name : List ℕ
+  pub body : List ℕ
+
+-- Record: id, TAB, name, TAB, body, the last two escaped; LF ends it
+unfoldable pub recordText : Message → List ℕ
+recordText m = printId (m .id) ++ TAB ∷ escape (m .name) ++ TAB ∷ escape (m .body)
+
+unfoldable pub line : List ℕ → List ℕ
+line text = text ++ (LF ∷ [])
+
+unfoldable pub recordLine : Message → List ℕ
+recordLine m = line (recordText m)
+
+-- Done line: the id alone; LF ends it
+unfoldable pub doneLine : ℕ → List ℕ
+doneLine id = line (printId id)
+
+-- the pieces between the separators: one more than there are separators
+unfoldable pub joinHead : ℕ → List (List ℕ) → List (List ℕ)
+joinHead b [] = (b ∷ []) ∷ []
+joinHead b (p ∷ ps) = (b ∷ p) ∷ ps
+
+unfoldable pub split : ℕ → List ℕ → List (List ℕ)
+split sep [] = [] ∷ []
+split sep (b ∷ bs) = elim (eqb b sep) [ true ↦ [] ∷ split sep bs | false ↦ joinHead b (split sep bs) ]
+
+unfoldable pub allButLast : List (List ℕ) → List (List ℕ)
+allButLast [] = []
+allButLast (p ∷ []) = []
+allButLast (p ∷ q ∷ ps) = p ∷ allButLast (q ∷ ps)
+
+-- the whole lines of a file: what follows the last LF is torn, and no line
+unfoldable pub lines : List ℕ → List (List ℕ)
+lines file = allButLast (split LF file)
+
+-- the fields of a line: what stands between its TABs
+unfoldable pub fields : List ℕ → List (List ℕ)
+fields text = split TAB text

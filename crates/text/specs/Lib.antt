@@ -1,0 +1,4 @@
+pub mod Format
+pub mod Line
+pub mod Bytes
+pub mod Answers

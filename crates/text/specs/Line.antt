@@ -1,0 +1,30 @@
+-- What a line of the log says (01, "Log": opening).
+use mathlib.Core.Option.{Option, none, some}
+use mathlib.Core.List.{List, [], _∷_}
+use Prim.Native.Nat.{ℕ}
+use Rattle.text.specs.Format.{Message, unescape, readId, fields}
+
+-- a record, a done id, or nothing that opening takes in
+pub data Line : Type 0 where
+  put : Message → Line
+  done : ℕ → Line
+  other : Line
+
+unfoldable pub putOf : Option ℕ → List ℕ → List ℕ → Line
+putOf none name body = other
+putOf (some id) name body = put (record { id = id; name = unescape name; body = unescape body })
+
+unfoldable pub doneOf : Option ℕ → Line
+doneOf none = other
+doneOf (some id) = done id
+
+-- one field with an id says that the id is done, three with an id are a record; all else says nothing
+unfoldable pub readFields : List (List ℕ) → Line
+readFields [] = other
+readFields (a ∷ []) = doneOf (readId a)
+readFields (a ∷ b ∷ []) = other
+readFields (a ∷ b ∷ c ∷ []) = putOf (readId a) b c
+readFields (a ∷ b ∷ c ∷ d ∷ rest) = other
+
+unfoldable pub readLine : List ℕ → Line
+readLine text = readFields (fields text)
