@@ -15,7 +15,7 @@ use Rattle.text.specs.Line.{put, done, readLine}
 use Rattle.text.specs.Bytes.{Free, write, part}
 use Rattle.text.proofs.FormatLaws.{recordText-free, printId-free}
 use Rattle.text.proofs.WriteLaws.{length-write, write-write, take-written, drop-written, part-written}
-use Rattle.log.specs.Opening.{insert, remove, Read, takeIn, fits, image}
+use Rattle.log.specs.Opening.{Rising, insert, remove, Read, takeIn, fits, image}
 use Rattle.log.specs.Log.{Wal, Did, turnedAway, extended, compacted, withRecord, logged, newMessage, appendRefusal, appendJudged, appended, appendOf, openRows, findRow, withoutRow, keeps, markedDone, markFound, markOf, syncOf}
 use Rattle.log.specs.Recovery.{Call, append, mark, sync, syncDid, didCall, Sent, appending, replacing, flushing, sent, effect}
 use Rattle.log.specs.declared.Order.{Order}
@@ -24,7 +24,7 @@ use Rattle.log.specs.declared.Refusal.{Refusal}
 use Rattle.log.specs.declared.Refusal.the-variants.{Full, NoId, NoRoom}
 use Rattle.log.specs.declared.Answer.{Answer}
 use Rattle.log.specs.declared.Answer.the-variants.{Ordered, Nothing, Refused}
-use Rattle.log.proofs.OpeningLaws.{readLine-record, readLine-done, Rising, Rising-le, insert-last, Small, image-snoc, and-left}
+use Rattle.log.proofs.OpeningLaws.{readLine-record, readLine-done, Rising-le, insert-last, Small, image-snoc, and-left}
 use Rattle.log.proofs.Stands.{Stands}
 use Rattle.log.proofs.Steps.{extended-stands, logged-stands, live-small, compacted-bytes, compacted-stands, known-below, without-stands}
 

@@ -9,3 +9,10 @@ pub mod Recovery
 pub mod TableLaws
 pub mod CompactLaws
 pub mod WalLaws
+pub mod RowLaws
+pub mod FieldLaws
+pub mod SizeLaws
+pub mod ScanLaws
+pub mod LeftLaws
+pub mod StoreLaws
+pub mod DecisionLaws

@@ -11,12 +11,12 @@ use lib.Seq.{length-take-le}
 use Rattle.text.specs.Format.{Message, recordLine, lines}
 use Rattle.text.specs.Bytes.{write}
 use Rattle.text.proofs.WriteLaws.{length-write, take-written}
-use Rattle.log.specs.Opening.{Read, nothingRead, readFile, opened, opening, image}
+use Rattle.log.specs.Opening.{Rising, Read, nothingRead, readFile, opened, opening, image}
 use Rattle.log.specs.Log.{Wal}
 use Rattle.log.specs.Opened.{sized, rowsFrom, openedBy, openOf}
 use Rattle.log.specs.Recovery.{sent, replacing, walOf}
 use Rattle.log.specs.declared.Order.the-variants.{Replace}
-use Rattle.log.proofs.OpeningLaws.{Rising, readLines-in-order, and-left, and-right, Small, judge-opened}
+use Rattle.log.proofs.OpeningLaws.{readLines-in-order, and-left, and-right, Small, judge-opened}
 use Rattle.log.proofs.Room.{image-short}
 use Rattle.log.proofs.Stands.{Tabled, Stands, small-few, tabled-image, rows-from}
 

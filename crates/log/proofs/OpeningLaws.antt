@@ -13,7 +13,7 @@ use Rattle.text.specs.Format.{LF, Message, recordText, recordLine, line, printI
 use Rattle.text.specs.Bytes.{Free}
 use Rattle.text.proofs.FormatLaws.{unescape-escape, readId-printId, fields-record, fields-done, recordText-free, printId-free, lines-line, lines-torn}
 use Rattle.text.specs.Line.{Line, put, done, other, putOf, doneOf, readFields, readLine}
-use Rattle.log.specs.Opening.{insert, remove, Read, takeIn, readLines, nothingRead, readFile, fits, allFit, opened, judge, image}
+use Rattle.log.specs.Opening.{insert, remove, Read, takeIn, readLines, nothingRead, readFile, fits, allFit, Rising, opened, judge, image}
 
 pub readLine-record : (m : Message) → m .id < 2 ^ 64 → readLine (recordText m) ≡ put m
 unfolding readLine readFields putOf
@@ -111,11 +111,6 @@ take-lines (t ∷ ts) r k f a = at (leb k (length t)) refl (λ j. take-lines ts 
         record { found = r; reads = rw (lines-torn (take k t) (Free-take k t (f .0))); good = a .0; among = List·Memᴰ·head refl }
     at false e ih = let p = ih (k - (length t + 1)) in rw (take-whole t (joined ts) k (leb-false k (length t) e))
         record { found = p .found; reads = rw (lines-line t (take (k - (length t + 1)) (joined ts)) (f .0)) (p .reads); good = p .good; among = List·Memᴰ·tail (p .among) }
-
--- ids rise from `low`, and stay below `high`
-abbrev pub Rising : ℕ → List Message → ℕ → Type 0
-Rising low [] high = low ≤ high
-Rising low (m ∷ ms) high = (low ≤ m .id) × Rising (suc (m .id)) ms high
 
 pub Rising-low : (ms : List Message) (low low' high : ℕ) → low' ≤ low → Rising low ms high → Rising low' ms high
 Rising-low [] low low' high h r = omega arith

@@ -10,14 +10,14 @@ use lib.Seq.{drop-append-le, drop-at, take-nil}
 use Rattle.text.specs.Format.{LF, Message, line, lines}
 use Rattle.text.specs.Line.{readLine}
 use Rattle.text.specs.Bytes.{Free, write}
-use Rattle.log.specs.Opening.{Read, takeIn, readLines, nothingRead, readFile, opened, opening, image}
+use Rattle.log.specs.Opening.{Rising, Read, takeIn, readLines, nothingRead, readFile, opened, opening, image}
 use Rattle.log.specs.Log.{Wal, Did}
 use Rattle.log.specs.Opened.{sized, openOf}
 use Rattle.log.specs.Recovery.{Call, didCall, Sent, appending, replacing, flushing, sent, Status, settled, waits, lost, Disk, Cut, confirm, firmMoment, World, effect, issue, issued, called, storedOrder, failedOrder, Event, call, stored, failed, step, run, begin, Possible, walOf, Recovers, Recoverable}
 use Rattle.log.specs.declared.Order.{Order}
 use Rattle.log.specs.declared.Answer.{Answer}
 use Rattle.log.specs.declared.Answer.the-variants.{Ordered, Nothing, Refused}
-use Rattle.log.proofs.OpeningLaws.{joined, FreeAll, read-joined, joined-snoc, FreeAll-snoc, readLines-append, lefts, lefts-snoc, Accepted, Accepted-snoc, take-lines, Rising, Small, judge-good, judge-opened, texts, image-joined, texts-free, read-texts-left, read-texts-next}
+use Rattle.log.proofs.OpeningLaws.{joined, FreeAll, read-joined, joined-snoc, FreeAll-snoc, readLines-append, lefts, lefts-snoc, Accepted, Accepted-snoc, take-lines, Small, judge-good, judge-opened, texts, image-joined, texts-free, read-texts-left, read-texts-next}
 use Rattle.log.proofs.Stands.{Stands}
 use Rattle.log.proofs.CallLaws.{held, Takes, Kind, appends, replaces, flushes, Orders, ActsBy, Acts, acts}
 

@@ -13,10 +13,10 @@ use lib.Seq.{take-suc-set, length-take-le, take-take, take-at, getD-take}
 use Rattle.text.specs.Format.{Message, recordLine}
 use Rattle.text.specs.Bytes.{write, part}
 use Rattle.text.proofs.WriteLaws.{write-none, length-write, write-write, take-write, take-written, part-below, part-above, part-written}
-use Rattle.log.specs.Opening.{remove, fits, image}
+use Rattle.log.specs.Opening.{Rising, remove, fits, image}
 use Rattle.log.specs.Log.{row, rowId, rowAt, rowLen, Wal, openRows, extended, movable, squeezed, settled, compacted, withRecord, logged, findRow, withoutRow}
 use Rattle.log.specs.Opened.{rowsFrom}
-use Rattle.log.proofs.OpeningLaws.{Rising, Rising-low, Rising-snoc, Rising-remove, Rising-le, Small, Small-remove, Small-snoc, image-snoc, and-left}
+use Rattle.log.proofs.OpeningLaws.{Rising-low, Rising-snoc, Rising-remove, Rising-le, Small, Small-remove, Small-snoc, image-snoc, and-left}
 
 -- the rows say where the messages' records stand, in their order, from `start` on and up to `size`
 abbrev pub Tabled : List ℕ → ℕ → List Message → List (List ℕ) → ℕ → Type 0

@@ -13,10 +13,11 @@ use lib.Seq.{take-suc-set, length-take-le, take-at, take-take, getD-take, take-a
 use Rattle.text.specs.Format.{Message, recordLine}
 use Rattle.text.specs.Bytes.{write, part}
 use Rattle.text.proofs.WriteLaws.{length-write, write-write, take-written, part-written, part-take, length-part}
-use Rattle.log.specs.Opening.{remove, fits, image}
+use Rattle.log.specs.Opening.{Rising, remove, fits, image}
 use Rattle.log.specs.Log.{row, rowId, rowAt, rowLen, Wal, openRows, extended, squeezed, settled, compacted, withRecord, logged, findRow, withoutRow}
 use Rattle.log.specs.Opened.{rowsFrom}
-use Rattle.log.proofs.OpeningLaws.{Rising, Rising-low, Rising-snoc, Rising-remove, Rising-le, Small, Small-remove, Small-snoc, image-snoc}
+use Rattle.log.proofs.TableLaws.{taken-out}
+use Rattle.log.proofs.OpeningLaws.{Rising-low, Rising-snoc, Rising-remove, Rising-le, Small, Small-remove, Small-snoc, image-snoc}
 use Rattle.log.proofs.Stands.{Tabled, Stands, small-few, tabled-size, tabled-length, tabled-start, tabled-behind, tabled-snoc, tabled-image, rows-from, squeezed-image, settled-rows}
 
 -- a text behind the others that says nothing of the open records' places
@@ -147,17 +148,6 @@ module _ (bytes : List ℕ) (id size high : ℕ) where
             fewer = rw kept (ap suc (f .fewer));
             others = rw (kept, one) (t .0, t .1, t .2, f .others);
           }
-
--- the rows after one was taken out of the table
-taken-out : (table : List (List ℕ)) (i n : ℕ) → i < n → n ≤ length table → take (n - 1) (write table i (part table (i + 1) n)) ≡ take i (take n table) ++ drop (suc i) (take n table)
-taken-out table i n h l =
-    let long : length (part table (i + 1) n) ≡ n - (i + 1) = length-part table (i + 1) n (omega arith) l in
-    let e : n - 1 ≡ i + length (part table (i + 1) n) = omega arith in
-    let rest : part table (i + 1) n ≡ drop (i + 1) (take n table) = part-take table (i + 1) n (omega arith) (omega arith) in
-    let s : i + 1 ≡ suc i = omega arith in
-    ap (λ k. take k (write table i (part table (i + 1) n))) e
-    ∙ (take-written table i (part table (i + 1) n) (omega arith)
-    ∙ (ap (λ x. take i table ++ x) (rest ∙ ap (λ k. drop k (take n table)) s) ∙ ap (λ x. x ++ drop (suc i) (take n table)) (sym (take-take i n table (omega arith)))))
 
 module _ (w : Wal) (ms : List Message) (s : Stands w ms) (id i : ℕ) (e : findRow 0 id (openRows w) ≡ some i) where
   abbrev found : Found (w .bytes) 0 id ms (openRows w) (w .counters .size) (w .counters .next) 0 i

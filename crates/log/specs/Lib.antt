@@ -2,4 +2,5 @@ pub mod Opening
 pub mod Log
 pub mod Opened
 pub mod Table
+pub mod Scan
 pub mod Recovery

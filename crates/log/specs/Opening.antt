@@ -1,7 +1,7 @@
 -- Opening a log (01, "Log"): the messages left by a file, the next id, and the two refusals that a file can cause.
 use mathlib.Core.Bool.{Bool, true, false, _&&_}
 use mathlib.Core.List.{List, [], _∷_, _++_}
-use Prim.Native.Nat.{ℕ, suc, _+_, _^_, max}
+use Prim.Native.Nat.{ℕ, suc, _+_, _^_, _≤_, max}
 use lib.Dec.{eqb, leb, ltb}
 use lib.ListN.{length}
 use Rattle.text.specs.Format.{Message, lines, recordLine}
@@ -22,6 +22,11 @@ insert m (x ∷ xs) = elim (ltb (m .id) (x .id)) [
 unfoldable pub remove : ℕ → List Message → List Message
 remove id [] = []
 remove id (x ∷ xs) = elim (eqb (x .id) id) [ true ↦ remove id xs | false ↦ x ∷ remove id xs ]
+
+-- ids rise from `low`, and stay below `high`
+abbrev pub Rising : ℕ → List Message → ℕ → Type 0
+Rising low [] high = low ≤ high
+Rising low (m ∷ ms) high = (low ≤ m .id) × Rising (suc (m .id)) ms high
 
 -- what has been read: the messages left, and the next id, which is 1 + the largest record id seen, else 0
 pub record Read : Type 0 where

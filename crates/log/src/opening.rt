@@ -1,1 +1,463 @@
-// Opening.
+// Opening: a file is read with a table of rows and decided on before anything is written; then what is left goes into the store, and from there into the log.
+ghost use mathlib.Core.Path.{_≡_};
+ghost use mathlib.Core.Bool.{true};
+ghost use mathlib.Core.List.{map};
+ghost use Prim.Native.Nat.{suc, _+_, _-_, _^_, _≤_, _<_, max};
+ghost use lib.ListN.{length, take, drop};
+ghost use Rattle.text.specs.Bytes.{write};
+ghost use Rattle.text.specs.Line.{readLine, nameOf, bodyOf, lineAt};
+ghost use Rattle.log.specs.Opening.{readFile, allFit, image};
+ghost use Rattle.log.specs.Opened.{sized, stored, leftRow, noCounters, openedBy, openOf};
+ghost use Rattle.log.specs.Scan.{messagesOf, RowsRise, PlaceOf, holds, lenOf, Took, passRows, removeRow, TookLine, Scanned, LeftIn, Accepted, Decided, fitLine, fitLeft, fromStore, imaged, lengthsOf};
+ghost use Rattle.log.specs.Log.{row};
+ghost use Rattle.log.specs.declared.Answer.the-variants.{Refused};
+use crate::Answer;
+use crate::Counters;
+use crate::Order;
+use crate::Refusal;
+use crate::Stepped;
+use crate::table::Found;
+use crate::table::close_row;
+use crate::table::find_row;
+use crate::table::open_row;
+use crate::table::set_row;
+use text::escape::Measure;
+use text::escape::copy_field;
+use text::escape::field_fits;
+use text::line::LineKind;
+use text::line::body_field;
+use text::line::line_at;
+use text::line::line_end;
+use text::line::line_kind;
+use text::line::name_field;
+use text::record::encode_record;
+
+// A pass over the file: the rows in use, the id from which on rows were let go, and the next id so far.
+pub(crate) struct Pass {
+    pub count: usize,
+    pub hi: u64,
+    pub next: u64,
+}
+
+pub(crate) enum Taken {
+    Next(Pass),
+    Over,
+}
+
+// The rows of the messages left.
+pub(crate) enum LeftRows {
+    NoNext,
+    Many,
+    Rows { count: usize, next: u64 },
+}
+
+pub(crate) enum Decision {
+    Refuse(Refusal),
+    Accept { count: usize, next: u64 },
+}
+
+// The lengths of a name and a body.
+pub(crate) struct Lengths {
+    pub name: usize,
+    pub body: usize,
+}
+
+// The first place whose id is not below: searched from the end, since ids mostly rise.
+fn row_place(rows: &[[u64; 3]], count: usize, id: u64) -> usize
+    requires { ⌜ (count ≤ length (now rows)) × RowsRise 0 (take count (now rows)) (2 ^ 64) ⌝ }
+    ensures { λ r. ⌜ PlaceOf (take count (now (rows .entry))) id r ⌝ }
+{
+    let mut i = count;
+    while 0 < i {
+        let k = i - 1;
+        let r = rows[k];
+        if r[0] < id {
+            return i;
+        }
+        i = k;
+    }
+    i
+}
+
+// Whether the row at a place is in use and has this id.
+fn row_is(rows: &[[u64; 3]], i: usize, count: usize, id: u64) -> bool
+    requires { ⌜ count ≤ length (now rows) ⌝ }
+    ensures { λ r. ⌜ r ≡ holds (take count (now (rows .entry))) i id ⌝ }
+{
+    if i < count {
+        let r = rows[i];
+        return r[0] == id;
+    }
+    false
+}
+
+// A record taken in, where its id is in the window. A full table lets its largest id go.
+fn put_row(rows: &mut [[u64; 3]], p: Pass, lo: u64, id: u64, at: usize) -> Pass
+    requires { ⌜ (p .count ≤ length (now rows)) × (0 < length (now rows)) × RowsRise lo (passRows p (now rows)) (p .hi) ⌝ }
+    ensures within { λ r. ⌜ r .count ≤ length (now (rows .exit)) ⌝ }
+    ensures took { λ r. ⌜ Took lo (p .hi) (passRows p (now (rows .entry))) (row id at 0) (r .hi) (passRows r (now (rows .exit))) ⌝ }
+    ensures next { λ r. ⌜ r .next ≡ p .next ⌝ }
+{
+    let hi = p.hi;
+    let count = p.count;
+    let next = p.next;
+    if id < lo {
+        return p;
+    }
+    if hi <= id {
+        return p;
+    }
+    let e = [id, at as u64, 0];
+    let i = row_place(rows, count, id);
+    if row_is(rows, i, count, id) {
+        rows[i] = e;
+        return p;
+    }
+    if count < rows.len() {
+        open_row(rows, i, count, e);
+        return Pass {
+            count: count + 1,
+            hi,
+            next,
+        };
+    }
+    if count <= i {
+        return Pass {
+            count,
+            hi: id,
+            next,
+        };
+    }
+    let last = count - 1;
+    let top = rows[last];
+    open_row(rows, i, last, e);
+    Pass {
+        count,
+        hi: top[0],
+        next,
+    }
+}
+
+// A done line taken in.
+fn take_row(rows: &mut [[u64; 3]], p: Pass, id: u64) -> Pass
+    requires { ⌜ (p .count ≤ length (now rows)) × RowsRise 0 (passRows p (now rows)) (2 ^ 64) ⌝ }
+    ensures within { λ r. ⌜ r .count ≤ length (now (rows .exit)) ⌝ }
+    ensures out { λ r. ⌜ passRows r (now (rows .exit)) ≡ removeRow id (passRows p (now (rows .entry))) ⌝ }
+    ensures same { λ r. ⌜ (r .hi ≡ p .hi) × (r .next ≡ p .next) ⌝ }
+{
+    let count = p.count;
+    let Found::At(i) = find_row(rows, count, id) else {
+        return p;
+    };
+    close_row(rows, i, count);
+    Pass {
+        count: count - 1,
+        hi: p.hi,
+        next: p.next,
+    }
+}
+
+// The next id after a record.
+fn next_after(n: u64, id: u64) -> u64
+    requires { ⌜ id < 2 ^ 64 - 1 ⌝ }
+    ensures { λ r. ⌜ r ≡ max n (suc id) ⌝ }
+{
+    if n <= id {
+        return id + 1;
+    }
+    n
+}
+
+// What the line that begins at a place says, taken in.
+fn pass_line(rows: &mut [[u64; 3]], p: Pass, lo: u64, line: &[u8], at: usize) -> Taken
+    requires { ⌜ (p .count ≤ length (now rows)) × (0 < length (now rows)) × RowsRise lo (passRows p (now rows)) (p .hi) ⌝ }
+    ensures { λ r. ⌜ TookLine lo p (now (rows .entry)) (readLine (now (line .entry))) at r (now (rows .exit)) ⌝ }
+{
+    match line_kind(line) {
+        LineKind::Put {
+            id,
+            name: _,
+            name_end: _,
+            body: _,
+            body_end: _,
+        } => {
+            if id == 18446744073709551615 {
+                return Taken::Over;
+            }
+            let next = next_after(p.next, id);
+            let q = put_row(
+                rows,
+                Pass {
+                    count: p.count,
+                    hi: p.hi,
+                    next,
+                },
+                lo,
+                id,
+                at,
+            );
+            Taken::Next(q)
+        }
+        LineKind::Done(id) => {
+            let q = take_row(rows, p, id);
+            Taken::Next(q)
+        }
+        LineKind::Other => Taken::Next(p),
+    }
+}
+
+// One pass over the file: the rows of the messages left with ids from lo on, as far as the table goes, and the next id.
+fn scan(rows: &mut [[u64; 3]], file: &[u8], lo: u64) -> Taken
+    requires { ⌜ (0 < length (now rows)) × (lo < 2 ^ 64 - 1) ⌝ }
+    ensures { λ r. ⌜ Scanned (now (file .entry)) lo r (now (rows .exit)) ⌝ }
+{
+    let mut p = Pass {
+        count: 0,
+        hi: 18446744073709551615,
+        next: 0,
+    };
+    let mut at: usize = 0;
+    loop {
+        let end = line_end(file, at);
+        if file.len() <= end {
+            return Taken::Next(p);
+        }
+        let Taken::Next(q) = pass_line(rows, p, lo, &file[at..end], at) else {
+            return Taken::Over;
+        };
+        p = q;
+        at = end + 1;
+    }
+}
+
+// The rows of the messages left: one pass where the file never has more than 257 open records, else further ones from where the last left off.
+fn left_rows(rows: &mut [[u64; 3]], file: &[u8]) -> LeftRows
+    requires { ⌜ length (now rows) ≡ 257 ⌝ }
+    ensures { λ r. ⌜ LeftIn (now (file .entry)) r (now (rows .exit)) ⌝ }
+{
+    let mut count: usize = 0;
+    let mut lo: u64 = 0;
+    loop {
+        let Taken::Next(p) = scan(&mut rows[count..], file, lo) else {
+            return LeftRows::NoNext;
+        };
+        count += p.count;
+        if 256 < count {
+            return LeftRows::Many;
+        }
+        let hi = p.hi;
+        if hi == 18446744073709551615 {
+            return LeftRows::Rows {
+                count,
+                next: p.next,
+            };
+        }
+        lo = hi;
+    }
+}
+
+// Whether the name and the body of the line at a place are within the limits.
+fn row_fits(file: &[u8], at: usize) -> bool
+    ensures { λ r. ⌜ r ≡ fitLine (lineAt (now (file .entry)) at) ⌝ }
+{
+    let line = line_at(file, at);
+    if field_fits(name_field(line), 32) {
+        return field_fits(body_field(line), 128);
+    }
+    false
+}
+
+fn rows_fit(file: &[u8], rows: &[[u64; 3]], count: usize) -> bool
+    requires { ⌜ count ≤ length (now rows) ⌝ }
+    ensures { λ r. ⌜ r ≡ allFit (messagesOf (now (file .entry)) (take count (now (rows .entry)))) ⌝ }
+{
+    let mut i: usize = 0;
+    while i < count {
+        let r = rows[i];
+        if row_fits(file, r[1] as usize) {
+            i += 1;
+        } else {
+            return false;
+        }
+    }
+    true
+}
+
+// Accepted or not: nothing has been written yet.
+fn decide(rows: &mut [[u64; 3]], file: &[u8]) -> Decision
+    requires { ⌜ length (now rows) ≡ 257 ⌝ }
+    ensures { λ r. ⌜ Decided (now (file .entry)) r (now (rows .exit)) ⌝ }
+{
+    match left_rows(rows, file) {
+        LeftRows::NoNext => Decision::Refuse(Refusal::LastId),
+        LeftRows::Many => Decision::Refuse(Refusal::TooMuch),
+        LeftRows::Rows { count, next } => {
+            if rows_fit(file, rows, count) {
+                return Decision::Accept { count, next };
+            }
+            Decision::Refuse(Refusal::TooMuch)
+        }
+    }
+}
+
+fn len_of(m: Measure) -> usize
+    ensures { λ r. ⌜ r ≡ lenOf m ⌝ }
+{
+    match m {
+        Measure::Len(n) => n,
+        Measure::Over => 0,
+    }
+}
+
+// The name and the body of the line at a place, unescaped, into the entry of the store that begins at `base`.
+fn copy_row(file: &[u8], at: usize, store: &mut [u8], base: usize) -> Lengths
+    requires { ⌜ (base + 160 ≤ length (now store)) × (fitLine (lineAt (now file) at) ≡ true) ⌝ }
+    ensures lengths { λ r. ⌜ r ≡ lengthsOf (nameOf (lineAt (now (file .entry)) at)) (bodyOf (lineAt (now (file .entry)) at)) ⌝ }
+    ensures copied { λ r. ⌜ now (store .exit) ≡ write (write (now (store .entry)) base (nameOf (lineAt (now (file .entry)) at))) (base + 32) (bodyOf (lineAt (now (file .entry)) at)) ⌝ }
+{
+    let line = line_at(file, at);
+    let name = len_of(copy_field(&mut store[base..], name_field(line)));
+    let from = base + 32;
+    let body = len_of(copy_field(&mut store[from..], body_field(line)));
+    Lengths { name, body }
+}
+
+// The messages of the rows into the entries of the store, in their order, and what is handed back of each.
+fn store_rows(file: &[u8], rows: &[[u64; 3]], count: usize, store: &mut [u8], left: &mut [[u64; 3]])
+    requires { ⌜ (count ≤ 256) × (count ≤ length (now rows)) × (length (now store) ≡ 40960) × (length (now left) ≡ 256) × (allFit (messagesOf (now file) (take count (now rows))) ≡ true) ⌝ }
+    ensures store { λ r. ⌜ now (store .exit) ≡ stored 0 (messagesOf (now (file .entry)) (take count (now (rows .entry)))) (now (store .entry)) ⌝ }
+    ensures left { λ r. ⌜ now (left .exit) ≡ write (now (left .entry)) 0 (map leftRow (messagesOf (now (file .entry)) (take count (now (rows .entry))))) ⌝ }
+{
+    let mut i: usize = 0;
+    while i < count {
+        let r = rows[i];
+        let l = copy_row(file, r[1] as usize, store, 160 * i);
+        set_row(left, i, r[0], l.name, l.body);
+        i += 1;
+    }
+}
+
+// The records of the store's messages, written one behind the other from the first byte on, and their rows.
+fn write_image(
+    log: &mut [u8],
+    records: &mut [[u64; 3]],
+    store: &[u8],
+    left: &[[u64; 3]],
+    count: usize,
+) -> usize
+    requires { ⌜ (count ≤ length (now left)) × (count ≤ 256) × (length (now store) ≡ 40960) × (length (now records) ≡ 256) × (fitLeft (take count (now left)) ≡ true) × (length (image (fromStore 0 (take count (now left)) (now store))) ≤ length (now log)) ⌝ }
+    ensures { λ r. ⌜ record { log = now (log .exit); table = now (records .exit); size = r } ≡ imaged (now (log .entry)) (now (records .entry)) (fromStore 0 (take count (now (left .entry))) (now (store .entry))) ⌝ }
+{
+    let mut p: usize = 0;
+    let mut i: usize = 0;
+    while i < count {
+        let x = left[i];
+        let a = 160 * i;
+        let b = a + 32;
+        let c = a + x[1] as usize;
+        let d = b + x[2] as usize;
+        let n = len_of(encode_record(&mut log[p..], x[0], &store[a..c], &store[b..d]));
+        set_row(records, i, x[0], p, n);
+        p += n;
+        i += 1;
+    }
+    p
+}
+
+// Whether the lent sizes are right.
+fn sizes_fit(log: usize, n: usize, store: usize, table: usize, left: usize) -> bool
+    ensures { λ r. ⌜ r ≡ sized log n store table left ⌝ }
+{
+    if log < 16 {
+        return false;
+    }
+    if 65536 < log {
+        return false;
+    }
+    if log < n {
+        return false;
+    }
+    if store != 40960 {
+        return false;
+    }
+    if table != 256 {
+        return false;
+    }
+    left == 256
+}
+
+fn closed(r: Refusal) -> Stepped
+    ensures { λ s. ⌜ s ≡ record { counters = noCounters; answer = Refused r } ⌝ }
+{
+    let none = Counters {
+        next: 0,
+        live: 0,
+        size: 0,
+        dirty: false,
+        count: 0,
+    };
+    Stepped {
+        counters: none,
+        answer: Answer::Refused(r),
+    }
+}
+
+// An accepted file: what is left goes into the store, and from there into the log.
+fn accept(
+    log: &mut [u8],
+    n: usize,
+    store: &mut [u8],
+    records: &mut [[u64; 3]],
+    left: &mut [[u64; 3]],
+    rows: &[[u64; 3]],
+    count: usize,
+    next: u64,
+) -> Stepped
+    requires { ⌜ (sized (length (now log)) n (length (now store)) (length (now records)) (length (now left)) ≡ true) × (length (now rows) ≡ 257) × Accepted (take n (now log)) count next (now rows) ⌝ }
+    ensures { λ r. ⌜ record { log = now (log .exit); store = now (store .exit); table = now (records .exit); left = now (left .exit); step = r } ≡ openedBy (now (log .entry)) (now (store .entry)) (now (records .entry)) (now (left .entry)) (readFile (take n (now (log .entry)))) ⌝ }
+{
+    store_rows(&log[..n], rows, count, store, left);
+    let size = write_image(log, records, store, left, count);
+    let counters = Counters {
+        next,
+        live: size,
+        size,
+        dirty: false,
+        count,
+    };
+    Stepped {
+        counters,
+        answer: Answer::Ordered(Order::Replace(size)),
+    }
+}
+
+// Opens the log whose file is the first n bytes: what is left goes into the store, the log is written anew, and for each entry of the store in use
+// the id and the lengths of name and body are handed back.
+pub fn open_log(
+    log: &mut [u8],
+    n: usize,
+    store: &mut [u8],
+    records: &mut [[u64; 3]],
+    left: &mut [[u64; 3]],
+) -> Stepped
+    ensures { λ r. ⌜ record { log = now (log .exit); store = now (store .exit); table = now (records .exit); left = now (left .exit); step = r } ≡ openOf (now (log .entry)) n (now (store .entry)) (now (records .entry)) (now (left .entry)) ⌝ }
+{
+    if sizes_fit(log.len(), n, store.len(), records.len(), left.len()) {
+        let mut rows = [[0u64; 3]; 257];
+        match decide(&mut rows, &log[..n]) {
+            Decision::Refuse(r) => closed(r),
+            Decision::Accept { count, next } => accept(
+                log,
+                n,
+                store,
+                records,
+                left,
+                &rows,
+                count,
+                next,
+            ),
+        }
+    } else {
+        closed(Refusal::Sizes)
+    }
+}

@@ -2,7 +2,8 @@
 use mathlib.Core.Option.{Option, none, some}
 use mathlib.Core.List.{List, [], _∷_}
 use Prim.Native.Nat.{ℕ}
-use Rattle.text.specs.Format.{Message, unescape, readId, fields}
+use lib.ListN.{drop}
+use Rattle.text.specs.Format.{Message, unescape, readId, fields, lines}
 
 -- a record, a done id, or nothing that opening takes in
 pub data Line : Type 0 where
@@ -28,3 +29,22 @@ readFields (a ∷ b ∷ c ∷ d ∷ rest) = other
 
 unfoldable pub readLine : List ℕ → Line
 readLine text = readFields (fields text)
+
+-- the name and the body that a line has
+abbrev pub nameOf : Line → List ℕ
+nameOf (put m) = m .name
+nameOf (done id) = []
+nameOf other = []
+
+abbrev pub bodyOf : Line → List ℕ
+bodyOf (put m) = m .body
+bodyOf (done id) = []
+bodyOf other = []
+
+abbrev pub firstOf : List (List ℕ) → List ℕ
+firstOf [] = []
+firstOf (l ∷ ls) = l
+
+-- what the whole line that begins at a place says; nothing where there is none
+unfoldable pub lineAt : List ℕ → ℕ → Line
+lineAt file at = readLine (firstOf (lines (drop at file)))

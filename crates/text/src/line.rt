@@ -1,7 +1,9 @@
 // Lines: the next whole line of a file, and what a line says.
 ghost use mathlib.Core.Path.{_≡_};
 ghost use Prim.Native.Nat.{_≤_};
-ghost use lib.ListN.{length};
+ghost use lib.ListN.{length, drop};
+ghost use Rattle.text.specs.Format.{unescape, lines};
+ghost use Rattle.text.specs.Line.{readLine, nameOf, bodyOf, firstOf};
 ghost use Rattle.text.specs.Answers.{First, FirstFrom, doneKind, putKind, Said, NextLine};
 use crate::ids::IdRead;
 use crate::ids::read_id;
@@ -93,4 +95,49 @@ pub fn line_end(file: &[u8], at: usize) -> usize
         return file.len();
     }
     find_from(file, at, b'\n')
+}
+
+// The whole line that begins at a place; nothing where there is none.
+pub fn line_at(file: &[u8], at: usize) -> &[u8]
+    ensures { λ r. ⌜ now r ≡ firstOf (lines (drop at (now (file .entry)))) ⌝ }
+{
+    let end = line_end(file, at);
+    if file.len() <= end {
+        return &file[0..0];
+    }
+    &file[at..end]
+}
+
+// The name of a record, as it stands in the line from after its TAB on; nothing in any other line.
+pub fn name_field(line: &[u8]) -> &[u8]
+    ensures { λ r. ⌜ unescape (now r) ≡ nameOf (readLine (now (line .entry))) ⌝ }
+{
+    match line_kind(line) {
+        LineKind::Put {
+            id: _,
+            name,
+            name_end,
+            body: _,
+            body_end: _,
+        } => &line[name..name_end],
+        LineKind::Done(_) => &line[0..0],
+        LineKind::Other => &line[0..0],
+    }
+}
+
+// The body of a record, in the same way.
+pub fn body_field(line: &[u8]) -> &[u8]
+    ensures { λ r. ⌜ unescape (now r) ≡ bodyOf (readLine (now (line .entry))) ⌝ }
+{
+    match line_kind(line) {
+        LineKind::Put {
+            id: _,
+            name: _,
+            name_end: _,
+            body,
+            body_end,
+        } => &line[body..body_end],
+        LineKind::Done(_) => &line[0..0],
+        LineKind::Other => &line[0..0],
+    }
 }

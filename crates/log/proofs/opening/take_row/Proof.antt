@@ -1,0 +1,76 @@
+-- Ids rise, so that the row found is the only one of its id.
+use Rattle.log.proofs.RowLaws.{remove-missing, remove-found, row-out}
+use Rattle.log.proofs.WalLaws.{found-missing, found-at}
+use Rattle.log.proofs.TableLaws.{taken-out}
+use Rattle.log.specs.Scan.{removeRow}
+use Rattle.log.specs.Log.{findRow}
+use Rattle.text.specs.Bytes.{write, part}
+use lib.Seq.{length-take-le}
+use lib.ListN.{length, take, drop}
+use mathlib.Core.List.{List, [], _∷_, _++_}
+use mathlib.Core.Path.{_≡_, refl, sym, ap, _∙_, subst}
+use native.Mathlib.Omega.{arith}
+use Prim.Native.Nat.{_+_, _-_, _≤_, _<_}
+use borrow.Author.Needs.{needs}
+use Rattle.log.proofs.opening.take_row.Statement.{statement}
+use Rattle.log.proofs.opening.take_row.Tie as tie
+
+find-row-requires : tie.Need-find-row-requires
+find-row-requires c κs = search needs
+
+enum-known-i : tie.Need-enum-known-i
+enum-known-i c = search needs
+
+enum-told : tie.Need-enum-told
+enum-told c = search needs
+
+same-length : tie.Need-same-length
+same-length c = search needs
+
+returns : tie.Need-returns
+returns c =
+    let args = c .before .before .before .before .args in
+    let pre = c .before .before .before .before .pre in
+    let find-row = c .before .before .find-row in
+    let enum-told = c .enum-told in
+    let these = take (args .p .count) (args .rows .now) in
+    (pre .0, (sym (remove-missing (args .id) 0 these (found-missing (findRow 0 (args .id) these) (sym (enum-told .given .1) ∙ find-row .ensures))), (refl, refl)))
+
+close-row-requires : tie.Need-close-row-requires
+close-row-requires c κs = search needs
+
+sub-t12 : tie.Need-sub-t12
+sub-t12 c =
+    let args = c .before .before .before .before .before .before .before .before .args in
+    let pre = c .before .before .before .before .before .before .before .before .pre in
+    let find-row = c .before .before .before .before .before .before .find-row in
+    let i = c .before .before .before .before .i in
+    let out = row-out (args .rows .now) (args .p .count) (args .id) (i .given .0 .0) (pre .0) (pre .1) (found-at (i .given .0 .0) (findRow 0 (args .id) (take (args .p .count) (args .rows .now))) (sym (i .given .1) ∙ find-row .ensures)) in
+    omega (arith, out .short)
+
+same-length-2 : tie.Need-same-length-2
+same-length-2 c = search needs
+
+returns-2 : tie.Need-returns-2
+returns-2 c =
+    let args = c .before .before .before .before .before .before .before .before .args in
+    let pre = c .before .before .before .before .before .before .before .before .pre in
+    let find-row = c .before .before .before .before .before .before .find-row in
+    let i = c .before .before .before .before .i in
+    let close-row = c .before .close-row in
+    let out = row-out (args .rows .now) (args .p .count) (args .id) (i .given .0 .0) (pre .0) (pre .1) (found-at (i .given .0 .0) (findRow 0 (args .id) (take (args .p .count) (args .rows .now))) (sym (i .given .1) ∙ find-row .ensures)) in
+    (omega (arith, pre .0, close-row .kept .0), (ap (take (args .p .count - 1)) (close-row .ensures) ∙ out .gone, (refl, refl)))
+
+pub take-row-spec : {M : Type 1} → statement M
+take-row-spec =
+    tie.close
+    (tie.spec
+    find-row-requires
+    enum-known-i
+    enum-told
+    same-length
+    returns
+    close-row-requires
+    sub-t12
+    same-length-2
+    returns-2)

@@ -1,0 +1,164 @@
+-- Reading a file with a table of rows (id, where its line begins): what the parts of the reader answer. Rows beyond the table's room are let go from the largest id on,
+-- and read in a later pass.
+use mathlib.Core.Path.{_≡_}
+use mathlib.Core.Bool.{Bool, true, false, _&&_}
+use mathlib.Core.List.{List, [], _∷_, _++_, map}
+use Prim.Native.Nat.{ℕ, suc, _+_, _-_, _*_, _^_, _≤_, _<_, max}
+use lib.Dec.{eqb, leb, ltb}
+use lib.ListN.{length, take, drop, getD}
+use Rattle.text.specs.Format.{Message}
+use Rattle.text.specs.Line.{Line, put, done, other, nameOf, bodyOf, lineAt}
+use Rattle.text.specs.Bytes.{write}
+use Rattle.log.specs.Opening.{Read, readFile, allFit, Rising, Opening, refused, opened, opening, image}
+use Rattle.log.specs.Log.{row, rowId, rowAt}
+use Rattle.log.specs.Opened.{rowsFrom}
+use Rattle.log.specs.declared.opening.Lengths.{Lengths}
+use Rattle.log.specs.declared.Refusal.{Refusal}
+use Rattle.log.specs.declared.opening.Pass.{Pass}
+use Rattle.log.specs.declared.opening.Taken.{Taken}
+use Rattle.log.specs.declared.opening.Taken.the-variants.{Next, Over}
+use Rattle.text.specs.declared.escape.Measure.{Measure}
+use Rattle.text.specs.declared.escape.Measure.the-variants as measure
+use Rattle.log.specs.declared.opening.LeftRows.{LeftRows}
+use Rattle.log.specs.declared.opening.LeftRows.the-variants.{NoNext, Many, Rows}
+use Rattle.log.specs.declared.opening.Decision.{Decision}
+use Rattle.log.specs.declared.opening.Decision.the-variants.{Refuse, Accept}
+
+-- the message of a row: its id, with the name and body of the line where it begins
+abbrev pub messageOf : List ℕ → List ℕ → Message
+messageOf file r = record { id = rowId r; name = nameOf (lineAt file (rowAt r)); body = bodyOf (lineAt file (rowAt r)) }
+
+abbrev pub messagesOf : List ℕ → List (List ℕ) → List Message
+messagesOf file rs = map (messageOf file) rs
+
+-- the rows' ids rise from `low`, and stay below `high`
+abbrev pub RowsRise : ℕ → List (List ℕ) → ℕ → Type 0
+RowsRise low [] high = low ≤ high
+RowsRise low (r ∷ rs) high = (low ≤ rowId r) × RowsRise (suc (rowId r)) rs high
+
+-- a row set, the later one winning; and the rows of an id taken out
+unfoldable pub insertRow : List ℕ → List (List ℕ) → List (List ℕ)
+insertRow e [] = e ∷ []
+insertRow e (x ∷ xs) = elim (ltb (rowId e) (rowId x)) [
+  | true ↦ e ∷ x ∷ xs
+  | false ↦
+      elim (eqb (rowId e) (rowId x)) [ true ↦ e ∷ xs | false ↦ x ∷ insertRow e xs ]
+]
+
+unfoldable pub removeRow : ℕ → List (List ℕ) → List (List ℕ)
+removeRow id [] = []
+removeRow id (x ∷ xs) = elim (eqb (rowId x) id) [ true ↦ removeRow id xs | false ↦ x ∷ removeRow id xs ]
+
+-- the first place whose id is not below
+pub record PlaceOf (these : List (List ℕ)) (id place : ℕ) : Type 0 where
+  pub within : place ≤ length these
+  pub stays : (e : List ℕ) → rowId e ≡ id → insertRow e these ≡ take place these ++ insertRow e (drop place these)
+  pub there : place < length these → id ≤ rowId (getD these place [])
+
+-- the row at a place has this id
+unfoldable pub holds : List (List ℕ) → ℕ → ℕ → Bool
+holds these i id = ltb i (length these) && eqb (rowId (getD these i [])) id
+
+-- what a record does to the rows and to hi
+pub data Took (lo hi : ℕ) (these : List (List ℕ)) (e : List ℕ) (hi' : ℕ) (these' : List (List ℕ)) : Type 0 where
+  beneath : rowId e < lo → hi' ≡ hi → these' ≡ these → Took lo hi these e hi' these'
+  beyond : hi ≤ rowId e → hi' ≡ hi → these' ≡ these → Took lo hi these e hi' these'
+  set-in : lo ≤ rowId e → rowId e < hi → hi' ≡ hi → these' ≡ insertRow e these → Took lo hi these e hi' these'
+  evicted : lo ≤ rowId e → rowId e < hi → (y : List ℕ) → insertRow e these ≡ these' ++ (y ∷ []) → hi' ≡ rowId y → 0 < length these' → Took lo hi these e hi' these'
+
+-- the rows of a pass
+abbrev pub passRows : Pass → List (List ℕ) → List (List ℕ)
+passRows p table = take (p .count) table
+
+-- what a line that begins at a place does to a pass; over: a record has the last id, so that there is no next one
+abbrev pub TookNext : ℕ → Pass → List (List ℕ) → Line → ℕ → Pass → List (List ℕ) → Type 0
+TookNext lo p table (put m) at q table' = Took lo (p .hi) (passRows p table) (row (m .id) at 0) (q .hi) (passRows q table') × (q .next ≡ max (p .next) (suc (m .id))) × (m .id < 2 ^ 64 - 1)
+TookNext lo p table (done id) at q table' = (passRows q table' ≡ removeRow id (passRows p table)) × (q .hi ≡ p .hi) × (q .next ≡ p .next)
+TookNext lo p table other at q table' = (passRows q table' ≡ passRows p table) × (q .hi ≡ p .hi) × (q .next ≡ p .next)
+
+abbrev pub LastId : Line → Type 0
+LastId (put m) = 2 ^ 64 - 1 ≤ m .id
+LastId (done id) = ⊥
+LastId other = ⊥
+
+abbrev pub TookLine : ℕ → Pass → List (List ℕ) → Line → ℕ → Taken → List (List ℕ) → Type 0
+TookLine lo p table l at (Next q) table' = (q .count ≤ length table') × TookNext lo p table l at q table'
+TookLine lo p table l at Over table' = LastId l
+
+-- the messages left by ids: below lo, the rows, and from hi on
+pub record Window (file : List ℕ) (lo hi : ℕ) (these : List (List ℕ)) : Type 0 where
+  pub below : List Message
+  pub above : List Message
+  pub are : readFile file .left ≡ below ++ (messagesOf file these ++ above)
+  pub low : Rising 0 below lo
+  pub mid : Rising lo (messagesOf file these) hi
+  pub high : Rising hi above (2 ^ 64)
+  pub wide : lo < hi
+
+-- one pass over a file: the rows of the messages left from lo on and below hi, and the next id
+pub record Passed (file : List ℕ) (lo : ℕ) (p : Pass) (table : List (List ℕ)) : Type 0 where
+  pub room : p .count ≤ length table
+  pub next : p .next ≡ readFile file .next
+  pub window : Window file lo (p .hi) (passRows p table)
+
+abbrev pub Scanned : List ℕ → ℕ → Taken → List (List ℕ) → Type 0
+Scanned file lo (Next p) table = Passed file lo p table
+Scanned file lo Over table = 2 ^ 64 ≤ readFile file .next
+
+-- the rows of all messages left, or that there are more than 256 of them, or that there is no next id
+pub record AllRows (file : List ℕ) (count next : ℕ) (table : List (List ℕ)) : Type 0 where
+  pub few : count ≤ 256
+  pub next-is : next ≡ readFile file .next
+  pub left-are : readFile file .left ≡ messagesOf file (take count table)
+
+abbrev pub LeftIn : List ℕ → LeftRows → List (List ℕ) → Type 0
+LeftIn file NoNext table = 2 ^ 64 ≤ readFile file .next
+LeftIn file Many table = (readFile file .next < 2 ^ 64) × (256 < length (readFile file .left))
+LeftIn file (Rows count next) table = AllRows file count next table
+
+-- what is decided before anything is written
+pub record Accepted (file : List ℕ) (count next : ℕ) (table : List (List ℕ)) : Type 0 where
+  pub rows : AllRows file count next table
+  pub fit : allFit (readFile file .left) ≡ true
+  pub opens : opening file ≡ opened (readFile file)
+
+abbrev pub Decided : List ℕ → Decision → List (List ℕ) → Type 0
+Decided file (Refuse r) table = opening file ≡ refused r
+Decided file (Accept count next) table = Accepted file count next table
+
+-- whether the name and the body of a line are within the limits
+unfoldable pub fitLine : Line → Bool
+fitLine l = leb (length (nameOf l)) 32 && leb (length (bodyOf l)) 128
+
+-- what was handed back of messages left, by entries: within the limits ..
+unfoldable pub fitLeft : List (List ℕ) → Bool
+fitLeft [] = true
+fitLeft (x ∷ xs) = (leb (getD x 1 0) 32 && leb (getD x 2 0) 128) && fitLeft xs
+
+-- .. and the messages that the entries of the store from i on hold
+unfoldable pub fromStore : ℕ → List (List ℕ) → List ℕ → List Message
+fromStore i [] store = []
+fromStore i (x ∷ xs) store =
+    record {
+      id = getD x 0 0;
+      name = take (getD x 1 0) (drop (160 * i) store);
+      body = take (getD x 2 0) (drop (160 * i + 32) store);
+    } ∷ fromStore (suc i) xs store
+
+-- what the log, the records' table and the answer are after the messages' records were written from the first byte on
+pub record Imaged : Type 0 where
+  pub log : List ℕ
+  pub table : List (List ℕ)
+  pub size : ℕ
+
+abbrev pub imaged : List ℕ → List (List ℕ) → List Message → Imaged
+imaged log table ms = record { log = write log 0 (image ms); table = write table 0 (rowsFrom 0 ms); size = length (image ms) }
+
+-- a measured length, 0 where there is none
+abbrev pub lenOf : Measure → ℕ
+lenOf (measure.Len n) = n
+lenOf measure.Over = 0
+
+-- the lengths of a name and a body
+abbrev pub lengthsOf : List ℕ → List ℕ → Lengths
+lengthsOf name body = record { name = length name; body = length body }

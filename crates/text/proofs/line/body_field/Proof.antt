@@ -1,0 +1,107 @@
+-- The line's kind has the places of the body; its meaning is the line's.
+use Rattle.text.specs.Answers.{kindOf, Inside}
+use Rattle.text.specs.Line.{bodyOf}
+use Rattle.text.specs.Format.{unescape}
+use mathlib.Core.Path.{sym, ap, _∙_, subst}
+use native.Mathlib.Omega.{arith}
+use borrow.Author.Needs.{needs}
+use Rattle.text.proofs.line.body_field.Statement.{statement}
+use Rattle.text.proofs.line.body_field.Tie as tie
+
+line-kind-requires : tie.Need-line-kind-requires
+line-kind-requires c κs = search needs
+
+enum-known-body : tie.Need-enum-known-body
+enum-known-body c = search needs
+
+sub-result : tie.Need-sub-result
+sub-result c =
+    let args = c .before .before .before .before .before .args in
+    let line-kind = c .before .before .before .line-kind in
+    let body = c .before .body in
+    let inside = subst (Inside (args .line .now)) (body .given .1) (line-kind .ensures .inside) in
+    omega (arith, inside)
+
+part-result-start : tie.Need-part-result-start
+part-result-start c =
+    let args = c .before .before .before .before .before .args in
+    let line-kind = c .before .before .before .line-kind in
+    let body = c .before .body in
+    let inside = subst (Inside (args .line .now)) (body .given .1) (line-kind .ensures .inside) in
+    omega (arith, inside)
+
+part-result-end : tie.Need-part-result-end
+part-result-end c =
+    let args = c .before .before .before .before .before .args in
+    let line-kind = c .before .before .before .line-kind in
+    let body = c .before .body in
+    let inside = subst (Inside (args .line .now)) (body .given .1) (line-kind .ensures .inside) in
+    omega (arith, inside)
+
+enum-told : tie.Need-enum-told
+enum-told c = search needs
+
+sub-result-2 : tie.Need-sub-result-2
+sub-result-2 c = search needs
+
+part-result-start-2 : tie.Need-part-result-start-2
+part-result-start-2 c = search needs
+
+part-result-end-2 : tie.Need-part-result-end-2
+part-result-end-2 c = search needs
+
+enum-told-2 : tie.Need-enum-told-2
+enum-told-2 c = search needs
+
+sub-result-3 : tie.Need-sub-result-3
+sub-result-3 c = search needs
+
+part-result-start-3 : tie.Need-part-result-start-3
+part-result-start-3 c = search needs
+
+part-result-end-3 : tie.Need-part-result-end-3
+part-result-end-3 c = search needs
+
+returns : tie.Need-returns
+returns c =
+    let args = c .before .before .before .before .before .before .args in
+    let line-kind = c .before .before .before .before .line-kind in
+    let body = c .before .before .body in
+    ap (λ k. bodyOf (kindOf (args .line .now) k)) (sym (body .given .1)) ∙ ap bodyOf (line-kind .ensures .says)
+
+returns-2 : tie.Need-returns-2
+unfolding unescape
+returns-2 c =
+    let args = c .before .before .before .before .before .args in
+    let line-kind = c .before .before .before .line-kind in
+    let enum-told = c .before .enum-told in
+    ap (λ k. bodyOf (kindOf (args .line .now) k)) (sym (enum-told .given .1)) ∙ ap bodyOf (line-kind .ensures .says)
+
+returns-3 : tie.Need-returns-3
+unfolding unescape
+returns-3 c =
+    let args = c .before .before .before .before .before .args in
+    let line-kind = c .before .before .before .line-kind in
+    let enum-told2 = c .before .enum-told2 in
+    ap (λ k. bodyOf (kindOf (args .line .now) k)) (sym (enum-told2 .given .1)) ∙ ap bodyOf (line-kind .ensures .says)
+
+pub body-field-spec : {M : Type 1} → statement M
+body-field-spec =
+    tie.close
+    (tie.spec
+    line-kind-requires
+    enum-known-body
+    sub-result
+    part-result-start
+    part-result-end
+    enum-told
+    sub-result-2
+    part-result-start-2
+    part-result-end-2
+    enum-told-2
+    sub-result-3
+    part-result-start-3
+    part-result-end-3
+    returns
+    returns-2
+    returns-3)
