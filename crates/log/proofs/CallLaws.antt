@@ -1,31 +1,28 @@
 -- What each call does, on a log that stands for the messages logged and not done: the log after it, its order, and what the order is to a reader of the file.
 use mathlib.Core.Path.{_≡_, refl, ap, sym, _∙_, subst}
-use mathlib.Core.Bool.{Bool, true, false, _&&_}
+use mathlib.Core.Bool.{Bool, true, false}
 use mathlib.Core.Option.{Option, none, some}
 use mathlib.Core.List.{List, [], _∷_, _++_}
-use Prim.Native.Nat.{ℕ, suc, _+_, _-_, _*_, _^_, _≤_, _<_, max}
+use Prim.Native.Nat.{ℕ, _+_, _-_, _^_, _≤_, _<_}
 use native.Mathlib.Omega.{arith}
-use native.Mathlib.Numerals.{add-one}
 use borrow.Author.Tests.{ltb-true, leb-true}
-use lib.Dec.{eqb, leb, ltb}
+use lib.Dec.{leb, ltb}
 use lib.ListN.{length, take, drop, length-append}
-use lib.Seq.{take-at, drop-at}
 use Rattle.text.specs.Format.{LF, Message, recordText, recordLine, doneLine, line, printId}
 use Rattle.text.specs.Line.{put, done, readLine}
-use Rattle.text.specs.Bytes.{Free, write, part}
+use Rattle.text.specs.Bytes.{Free, write}
 use Rattle.text.proofs.FormatLaws.{recordText-free, printId-free}
 use Rattle.text.proofs.WriteLaws.{length-write, write-write, take-written, drop-written, part-written}
-use Rattle.log.specs.Opening.{Rising, insert, remove, Read, takeIn, fits, image}
-use Rattle.log.specs.Log.{Wal, Did, turnedAway, extended, compacted, withRecord, logged, newMessage, appendRefusal, appendJudged, appended, appendOf, openRows, findRow, withoutRow, keeps, markedDone, markFound, markOf, syncOf}
-use Rattle.log.specs.Recovery.{Call, append, mark, sync, syncDid, didCall, Sent, appending, replacing, flushing, sent, effect}
 use Rattle.log.specs.declared.Order.{Order}
 use Rattle.log.specs.declared.Order.the-variants.{Append, Replace, Flush}
-use Rattle.log.specs.declared.Refusal.{Refusal}
 use Rattle.log.specs.declared.Refusal.the-variants.{Full, NoId, NoRoom}
 use Rattle.log.specs.declared.Answer.{Answer}
 use Rattle.log.specs.declared.Answer.the-variants.{Ordered, Nothing, Refused}
-use Rattle.log.proofs.OpeningLaws.{readLine-record, readLine-done, Rising-le, insert-last, Small, image-snoc, and-left}
-use Rattle.log.proofs.Stands.{Stands}
+use Rattle.log.specs.Stands.{Stands}
+use Rattle.log.specs.Opening.{insert, remove, Read, takeIn, fits, image}
+use Rattle.log.specs.Log.{Wal, Did, turnedAway, extended, compacted, withRecord, logged, newMessage, appendRefusal, appended, appendOf, openRows, findRow, withoutRow, keeps, markedDone, markFound, markOf, syncOf}
+use Rattle.log.specs.Recovery.{Call, append, mark, sync, syncDid, didCall, Sent, appending, replacing, flushing, sent, effect}
+use Rattle.log.proofs.OpeningLaws.{readLine-record, readLine-done, insert-last, image-snoc, and-left}
 use Rattle.log.proofs.Steps.{extended-stands, logged-stands, live-small, compacted-bytes, compacted-stands, known-below, without-stands}
 
 -- what a reader of the file would have: the messages, and the next id

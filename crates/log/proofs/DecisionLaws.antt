@@ -1,19 +1,15 @@
 -- Laws of the decision, and of what follows it.
 use mathlib.Core.Path.{_≡_, refl, ap, sym, _∙_, subst}
-use mathlib.Core.Bool.{Bool, true, false, _&&_}
-use mathlib.Core.List.{List, [], _∷_, map}
+use mathlib.Core.Bool.{true, false}
+use mathlib.Core.List.{List, map}
 use Prim.Native.Nat.{ℕ, _+_, _*_, _^_, _≤_, _<_}
 use native.Mathlib.Omega.{arith}
 use borrow.Author.Tests.{le-leb, lt-leb, lt-ltb, le-ltb}
-use lib.Dec.{leb, ltb}
 use lib.ListN.{length, take, length-map, length-take}
 use lib.Seq.{length-take-le}
 use Rattle.text.specs.Format.{Message}
 use Rattle.text.specs.Bytes.{write}
 use Rattle.text.proofs.WriteLaws.{take-written, length-write}
-use Rattle.log.specs.Opening.{readFile, allFit, refused, opened, judge, opening, image}
-use Rattle.log.specs.Opened.{Opened, sized, stored, leftRow, rowsFrom, noCounters, openedBy, openOf}
-use Rattle.log.specs.Scan.{messageOf, messagesOf, LeftIn, AllRows, Accepted, Decided, Imaged, imaged, fitLeft, fromStore}
 use Rattle.log.specs.declared.Refusal.{Refusal}
 use Rattle.log.specs.declared.Refusal.the-variants.{Sizes, LastId, TooMuch}
 use Rattle.log.specs.declared.Order.the-variants.{Replace}
@@ -23,6 +19,9 @@ use Rattle.log.specs.declared.opening.LeftRows.{LeftRows}
 use Rattle.log.specs.declared.opening.LeftRows.the-variants.{NoNext, Many, Rows}
 use Rattle.log.specs.declared.opening.Decision.{Decision}
 use Rattle.log.specs.declared.opening.Decision.the-variants.{Refuse, Accept}
+use Rattle.log.specs.Opening.{readFile, allFit, refused, opened, judge, opening, image}
+use Rattle.log.specs.Opened.{Opened, sized, stored, leftRow, rowsFrom, noCounters, openedBy, openOf}
+use Rattle.log.specs.Scan.{messageOf, messagesOf, LeftIn, AllRows, Accepted, Decided, Imaged, imaged, fitLeft, fromStore}
 use Rattle.log.proofs.Room.{image-short}
 use Rattle.log.proofs.OpenLaws.{Sized, sized-all}
 use Rattle.log.proofs.StoreLaws.{stored-long, read-back, left-fit}

@@ -1,7 +1,7 @@
 -- Laws of a line's fields at opening: within the limits, and copied into an entry of the store.
 use mathlib.Core.Path.{_≡_, refl, ap, sym, _∙_}
 use mathlib.Core.Bool.{Bool, true, false, _&&_}
-use mathlib.Core.List.{List, [], _∷_}
+use mathlib.Core.List.{List}
 use Prim.Native.Nat.{ℕ, _+_, _-_, _≤_}
 use native.Mathlib.Omega.{arith}
 use borrow.Author.Tests.{leb-true}
@@ -15,8 +15,8 @@ use Rattle.text.specs.Answers.{Filled, filled}
 use Rattle.text.specs.declared.escape.Measure.{Measure}
 use Rattle.text.proofs.AnswerLaws.{filled-part, filled-answer}
 use Rattle.text.proofs.WriteLaws.{length-write}
-use Rattle.log.specs.Scan.{fitLine, lenOf, lengthsOf}
 use Rattle.log.specs.declared.opening.Lengths.{Lengths}
+use Rattle.log.specs.Scan.{fitLine, lenOf, lengthsOf}
 use Rattle.log.proofs.OpeningLaws.{and-left, and-right}
 
 -- a field of the line at a place

@@ -1,16 +1,16 @@
 -- Laws of the rows left: each pass adds those of a further window of ids, until all are there.
 use mathlib.Core.Path.{_≡_, refl, ap, sym, _∙_, subst}
-use mathlib.Core.List.{List, [], _∷_, _++_, map, append-assoc, append-nil}
-use Prim.Native.Nat.{ℕ, zero, suc, _+_, _-_, _^_, _≤_, _<_}
+use mathlib.Core.List.{List, [], _∷_, _++_, append-assoc, append-nil}
+use Prim.Native.Nat.{ℕ, suc, _+_, _-_, _^_, _≤_}
 use native.Mathlib.Omega.{arith}
 use borrow.Rule.Slice.PartMut.{putMid, same-len-mid}
-use lib.ListN.{length, take, drop, length-append, length-map, length-drop}
-use lib.Seq.{length-take-le, take-append-add, take-append-le, take-all, take-at}
+use lib.ListN.{length, take, drop, length-append, length-map}
+use lib.Seq.{length-take-le, take-append-add, take-append-le}
 use Rattle.text.specs.Format.{Message, lines}
-use Rattle.log.specs.Opening.{Rising, Read, readLines, readFile, nothingRead}
-use Rattle.log.specs.Scan.{messageOf, messagesOf, Window, Passed}
 use Rattle.log.specs.declared.opening.Pass.{Pass}
-use Rattle.log.proofs.OpeningLaws.{Rising-low, Rising-high, Rising-le, readLines-in-order}
+use Rattle.log.specs.Opening.{Rising, readFile, nothingRead}
+use Rattle.log.specs.Scan.{messageOf, messagesOf, Window, Passed}
+use Rattle.log.proofs.OpeningLaws.{Rising-low, Rising-le, readLines-in-order}
 use Rattle.log.proofs.ScanLaws.{map-append}
 
 -- two ways to part a rising list at the same id are one

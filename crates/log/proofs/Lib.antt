@@ -1,6 +1,6 @@
 pub mod OpeningLaws
 pub mod Room
-pub mod Stands
+pub mod TabledLaws
 pub mod Steps
 pub mod CallLaws
 pub mod RecoveryLaws
@@ -16,3 +16,4 @@ pub mod ScanLaws
 pub mod LeftLaws
 pub mod StoreLaws
 pub mod DecisionLaws
+pub mod RowEnds

@@ -1,24 +1,25 @@
 -- The accepted opening: its state stands for the messages left, and its order is their image.
 use mathlib.Core.Path.{_≡_, refl, sym, ap, _∙_, subst}
 use mathlib.Core.Bool.{Bool, true, _&&_}
-use mathlib.Core.List.{List, [], _∷_}
-use Prim.Native.Nat.{ℕ, suc, _+_, _^_, _≤_, _<_}
+use mathlib.Core.List.{List}
+use Prim.Native.Nat.{ℕ, _+_, _≤_}
 use native.Mathlib.Omega.{arith}
 use borrow.Author.Tests.{leb-true, le-leb, eqb-true, eq-eqb}
 use lib.Dec.{eqb, leb}
 use lib.ListN.{length, take}
 use lib.Seq.{length-take-le}
-use Rattle.text.specs.Format.{Message, recordLine, lines}
+use Rattle.text.specs.Format.{lines}
 use Rattle.text.specs.Bytes.{write}
 use Rattle.text.proofs.WriteLaws.{length-write, take-written}
-use Rattle.log.specs.Opening.{Rising, Read, nothingRead, readFile, opened, opening, image}
+use Rattle.log.specs.declared.Order.the-variants.{Replace}
+use Rattle.log.specs.Stands.{Stands, Tabled}
+use Rattle.log.specs.Opening.{Read, nothingRead, readFile, opened, opening, image}
 use Rattle.log.specs.Log.{Wal}
 use Rattle.log.specs.Opened.{sized, rowsFrom, openedBy, openOf}
 use Rattle.log.specs.Recovery.{sent, replacing, walOf}
-use Rattle.log.specs.declared.Order.the-variants.{Replace}
-use Rattle.log.proofs.OpeningLaws.{readLines-in-order, and-left, and-right, Small, judge-opened}
+use Rattle.log.proofs.OpeningLaws.{readLines-in-order, and-left, and-right, judge-opened}
 use Rattle.log.proofs.Room.{image-short}
-use Rattle.log.proofs.Stands.{Tabled, Stands, small-few, tabled-image, rows-from}
+use Rattle.log.proofs.TabledLaws.{small-few, tabled-image, rows-from}
 
 -- the lent sizes are right
 pub record Sized (log n store table left : ℕ) : Type 0 where

@@ -1,19 +1,19 @@
 -- Laws of opening: what canonical lines say, what whole and torn lines are read as, and that the messages left stand in rising id order.
 use mathlib.Core.Path.{_≡_, refl, sym, ap, _∙_}
 use mathlib.Core.Bool.{Bool, true, false, _&&_}
-use mathlib.Core.Option.{some}
 use mathlib.Core.List.{List, [], _∷_, _++_, append-assoc, append-nil, List·Memᴰ, List·Memᴰ·head, List·Memᴰ·tail}
 use Prim.Native.Nat.{ℕ, zero, suc, _+_, _-_, _^_, _≤_, _<_, max}
 use native.Mathlib.Omega.{arith}
 use borrow.Author.Tests.{ltb-true, ltb-false, leb-true, leb-false, eqb-true, eqb-false, lt-ltb, le-ltb, le-leb, ne-eqb}
 use lib.Dec.{eqb, leb, ltb}
-use lib.ListN.{length, take, drop, getD, length-append}
-use lib.Seq.{take-append-le, take-append-add, split-at}
+use lib.ListN.{length, take, length-append}
+use lib.Seq.{take-append-le, take-append-add}
 use Rattle.text.specs.Format.{LF, Message, recordText, recordLine, line, printId, lines}
 use Rattle.text.specs.Bytes.{Free}
-use Rattle.text.proofs.FormatLaws.{unescape-escape, readId-printId, fields-record, fields-done, recordText-free, printId-free, lines-line, lines-torn}
 use Rattle.text.specs.Line.{Line, put, done, other, putOf, doneOf, readFields, readLine}
-use Rattle.log.specs.Opening.{insert, remove, Read, takeIn, readLines, nothingRead, readFile, fits, allFit, Rising, opened, judge, image}
+use Rattle.text.proofs.FormatLaws.{unescape-escape, readId-printId, fields-record, fields-done, recordText-free, lines-line, lines-torn}
+use Rattle.log.specs.Stands.{Small}
+use Rattle.log.specs.Opening.{insert, remove, Read, takeIn, readLines, fits, allFit, Rising, opened, judge, image}
 
 pub readLine-record : (m : Message) → m .id < 2 ^ 64 → readLine (recordText m) ≡ put m
 unfolding readLine readFields putOf
@@ -180,10 +180,6 @@ and-left false b e = e
 pub and-right : (a b : Bool) → (a && b) ≡ true → b ≡ true
 and-right true b e = e
 and-right false b e = cc
-
--- few enough and short enough
-abbrev pub Small : List Message → Type 0
-Small ms = (leb (length ms) 256 && allFit ms) ≡ true
 
 pub judge-good : (r : Read) → r .next < 2 ^ 64 → Small (r .left) → judge r ≡ opened r
 unfolding judge

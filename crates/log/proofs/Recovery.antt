@@ -2,18 +2,25 @@
 use mathlib.Core.Path.{_≡_, refl, sym, ap, _∙_, subst}
 use mathlib.Core.Bool.{true}
 use mathlib.Core.Logic.{_⊎_, inl, inr}
-use mathlib.Core.List.{List, [], _∷_, _++_, append-nil, List·Memᴰ·head}
-use Prim.Native.Nat.{ℕ, _+_, _≤_}
+use mathlib.Core.List.{List, [], _∷_, append-nil, List·Memᴰ·head}
+use Prim.Native.Nat.{ℕ, _≤_}
 use native.Mathlib.Omega.{arith}
-use lib.ListN.{length, take}
+use lib.ListN.{length, take, drop}
 use lib.Seq.{take-nil, length-take-le}
 use Rattle.text.specs.Format.{Message}
+use Rattle.text.specs.Bytes.{write}
+use Rattle.text.proofs.WriteLaws.{drop-write}
+use Rattle.log.specs.declared.Refusal.{Refusal}
+use Rattle.log.specs.declared.Answer.{Answer}
+use Rattle.log.specs.declared.Answer.the-variants.{Ordered, Nothing, Refused}
 use Rattle.log.specs.Opening.{Read, opened, opening, image}
-use Rattle.log.specs.Log.{Wal, openRows}
+use Rattle.log.specs.Log.{Wal}
 use Rattle.log.specs.Opened.{sized, openedBy, openOf}
-use Rattle.log.specs.Recovery.{Cut, World, waits, Event, run, begin, storedOrder, failedOrder, firmMoment, confirm, replacing, Recovers, Recoverable}
-use Rattle.log.proofs.OpenLaws.{Sized, sized-all, sized-true, open-accepts, image-fits, opened-long, opened-stands, opened-sent}
-use Rattle.log.proofs.RecoveryLaws.{ReadBack, ReadsBack, stands-fit, stored-replace, whole-image, Sound, waiting, run-sound, sound-reads}
+use Rattle.log.specs.Recovery.{Call, didCall, Cut, World, waits, Event, run, begin, storedOrder, failedOrder, firmMoment, confirm, replacing, Recovers, Recoverable}
+use Rattle.log.specs.Stands.{Stands, Standing}
+use Rattle.log.proofs.OpenLaws.{sized-all, sized-true, open-accepts, image-fits, opened-long, opened-stands, opened-sent}
+use Rattle.log.proofs.RecoveryLaws.{ReadBack, stands-fit, stored-replace, whole-image, Sound, waiting, run-sound, sound-reads, sound-stands}
+use Rattle.log.proofs.CallLaws.{ActsBy, acts}
 
 -- the accepted opening
 module _ (log : List ℕ) (n : ℕ) (store : List ℕ) (table left : List (List ℕ)) (r : Read) (s : sized (length log) n (length store) (length table) (length left) ≡ true) (ok : opening (take n log) ≡ opened r) where
@@ -64,3 +71,32 @@ recovery compactAt log n store table left r s ok events =
     subst (λ o. Recoverable (length log) (run compactAt (begin o (take n log) (r .left)) events)) (sym (open-accepts log n store table left r s ok))
     (λ file p. next-opening (length log) file _ (lent .least) (lent .most)
     (sound-reads (length log) (run compactAt (start log n store table left r s ok) events) (run-sound (length log) compactAt events (start log n store table left r s ok) (start-sound log n store table left r s ok)) file p))
+
+-- The table is what the bytes say, after every such list: open ids rise and stand below the next id, and the open records' length is live ≤ size ≤ L.
+pub standing : (compactAt : ℕ) (log : List ℕ) (n : ℕ) (store : List ℕ) (table left : List (List ℕ)) (r : Read)
+    → sized (length log) n (length store) (length table) (length left) ≡ true → opening (take n log) ≡ opened r → (events : List Event)
+    → Standing (length log) (run compactAt (begin (openOf log n store table left) (take n log) (r .left)) events)
+standing compactAt log n store table left r s ok events =
+    subst (λ o. Standing (length log) (run compactAt (begin o (take n log) (r .left)) events)) (sym (open-accepts log n store table left r s ok))
+    (sound-stands (length log) (run compactAt (start log n store table left r s ok) events) (run-sound (length log) compactAt events (start log n store table left r s ok) (start-sound log n store table left r s ok)))
+
+-- The bytes at and after the new size keep their value: of an accepted opening, and of every call on such a log.
+pub opening-tail : (log : List ℕ) (ms : List Message) → length (image ms) ≤ length log → drop (length (image ms)) (write log 0 (image ms)) ≡ drop (length (image ms)) log
+opening-tail log ms h = drop-write log 0 (length (image ms)) (image ms) (omega arith) (omega arith)
+
+pub call-tail : (compactAt : ℕ) (w : Wal) (ms : List Message) (c : Call) → Stands w ms → drop (didCall compactAt w c .wal .counters .size) (didCall compactAt w c .wal .bytes) ≡ drop (didCall compactAt w c .wal .counters .size) (w .bytes)
+call-tail compactAt w ms c s = by (didCall compactAt w c .wal) (didCall compactAt w c .answer) (acts compactAt w ms c s)
+  where
+    by : (after : Wal) (a : Answer) → ActsBy w ms c after a → drop (after .counters .size) (after .bytes) ≡ drop (after .counters .size) (w .bytes)
+    by after (Ordered o) x = x .tail
+    by after Nothing x = ap (λ v. drop (after .counters .size) (v .bytes)) x
+    by after (Refused r) x = ap (λ v. drop (after .counters .size) (v .bytes)) x
+
+-- A call that is turned away, or has nothing to do, changes nothing.
+pub call-refused : (compactAt : ℕ) (w : Wal) (ms : List Message) (c : Call) (r : Refusal) → Stands w ms → didCall compactAt w c .answer ≡ Refused r → didCall compactAt w c .wal ≡ w
+call-refused compactAt w ms c r s e = by (didCall compactAt w c .answer) e (acts compactAt w ms c s)
+  where
+    by : (a : Answer) → a ≡ Refused r → ActsBy w ms c (didCall compactAt w c .wal) a → didCall compactAt w c .wal ≡ w
+    by (Ordered o) q x = let z : _≡_ {A = ℕ} 0 1 = cc in absurd (omega arith)
+    by Nothing q x = x
+    by (Refused p) q x = x

@@ -1,25 +1,23 @@
 -- Recovery: whatever file a cut leaves, opening accepts it and finds a moment no earlier than the last confirmed flush or replace.
 use mathlib.Core.Path.{_≡_, refl, sym, ap, _∙_, subst}
-use mathlib.Core.Bool.{true}
 use mathlib.Core.Logic.{_⊎_, inl, inr}
-use mathlib.Core.List.{List, [], _∷_, _++_, append-assoc, append-nil, List·Memᴰ, List·Memᴰ·head, Memᴰ·append-left, Memᴰ·append-right}
+use mathlib.Core.List.{List, [], _∷_, _++_, append-assoc, append-nil, List·Memᴰ, Memᴰ·append-left, Memᴰ·append-right}
 use Prim.Native.Nat.{ℕ, _+_, _-_, _^_, _≤_, _<_}
 use native.Mathlib.Omega.{arith}
 use lib.ListN.{length, take, drop, length-append, length-take}
-use lib.Seq.{drop-append-le, drop-at, take-nil}
+use lib.Seq.{drop-append-le, drop-at}
 use Rattle.text.specs.Format.{LF, Message, line, lines}
 use Rattle.text.specs.Line.{readLine}
-use Rattle.text.specs.Bytes.{Free, write}
-use Rattle.log.specs.Opening.{Rising, Read, takeIn, readLines, nothingRead, readFile, opened, opening, image}
-use Rattle.log.specs.Log.{Wal, Did}
-use Rattle.log.specs.Opened.{sized, openOf}
-use Rattle.log.specs.Recovery.{Call, didCall, Sent, appending, replacing, flushing, sent, Status, settled, waits, lost, Disk, Cut, confirm, firmMoment, World, effect, issue, issued, called, storedOrder, failedOrder, Event, call, stored, failed, step, run, begin, Possible, walOf, Recovers, Recoverable}
-use Rattle.log.specs.declared.Order.{Order}
+use Rattle.text.specs.Bytes.{Free}
 use Rattle.log.specs.declared.Answer.{Answer}
 use Rattle.log.specs.declared.Answer.the-variants.{Ordered, Nothing, Refused}
-use Rattle.log.proofs.OpeningLaws.{joined, FreeAll, read-joined, joined-snoc, FreeAll-snoc, readLines-append, lefts, lefts-snoc, Accepted, Accepted-snoc, take-lines, Small, judge-good, judge-opened, texts, image-joined, texts-free, read-texts-left, read-texts-next}
-use Rattle.log.proofs.Stands.{Stands}
-use Rattle.log.proofs.CallLaws.{held, Takes, Kind, appends, replaces, flushes, Orders, ActsBy, Acts, acts}
+use Rattle.log.specs.Stands.{Small, Stands, Standing}
+use Rattle.log.specs.Opening.{Rising, Read, takeIn, readLines, nothingRead, readFile, opened, opening, image}
+use Rattle.log.specs.Log.{Wal}
+use Rattle.log.specs.Recovery.{Call, didCall, Sent, appending, replacing, flushing, sent, settled, waits, lost, Disk, Cut, confirm, firmMoment, World, effect, issue, issued, called, storedOrder, failedOrder, Event, call, stored, failed, step, run, Possible}
+use Rattle.log.proofs.Steps.{live-small}
+use Rattle.log.proofs.OpeningLaws.{joined, FreeAll, read-joined, joined-snoc, FreeAll-snoc, readLines-append, lefts, lefts-snoc, Accepted, Accepted-snoc, take-lines, judge-good, texts, image-joined, texts-free, read-texts-left, read-texts-next}
+use Rattle.log.proofs.CallLaws.{held, Takes, Kind, appends, replaces, flushes, ActsBy, acts}
 
 -- what is held can be written and read again
 pub record Fit (h : Read) : Type 0 where
@@ -155,7 +153,7 @@ module _ (long : ℕ) where
   pub data Sound (w : World) : Type 0 where
     steady : Steady w → Sound w
     waiting : (s : Sent) → w .disk .status ≡ waits s → Steady (storedOrder w s) → ReadsBack long (failedOrder w s) → Sound w
-    ended : (s : Sent) → w .disk .status ≡ lost s → ReadsBack long w → Sound w
+    ended : (s : Sent) → w .disk .status ≡ lost s → Stands (w .wal) (w .now) → length (w .wal .bytes) ≡ long → ReadsBack long w → Sound w
 
   module _ (w : World) (st : Steady w) (after : Wal) (now : List Message) (stands : Stands after now) (same : length (after .bytes) ≡ length (w .wal .bytes)) where
     abbrev pub recent : List (List Message)
@@ -237,17 +235,17 @@ module _ (long : ℕ) where
   step-settled compactAt w failed st = steady st
 
   step-waits : (compactAt : ℕ) (w : World) (s : Sent) (e : Event) → w .disk .status ≡ waits s → Steady (storedOrder w s) → ReadsBack long (failedOrder w s) → Sound (step compactAt (waits s) w e)
-  unfolding step failedOrder
+  unfolding step failedOrder storedOrder
   step-waits compactAt w s (call c) q y n = waiting s q y n
   step-waits compactAt w s stored q y n = steady y
-  step-waits compactAt w s failed q y n = ended s refl n
+  step-waits compactAt w s failed q y n = ended s refl (y .stands) (y .bytes) n
 
   -- `rw` would rewrite the world itself, a record of its fields: so the family is written
   pub step-sound : (compactAt : ℕ) (w : World) (e : Event) → Sound w → Sound (step compactAt (w .disk .status) w e)
   unfolding step
   step-sound compactAt w e (steady st) = subst (λ q. Sound (step compactAt q w e)) (sym (st .onDisk .settles)) (step-settled compactAt w e st)
   step-sound compactAt w e (waiting s q y n) = subst (λ q. Sound (step compactAt q w e)) (sym q) (step-waits compactAt w s e q y n)
-  step-sound compactAt w e (ended s q n) = subst (λ q. Sound (step compactAt q w e)) (sym q) (ended s q n)
+  step-sound compactAt w e (ended s q g b n) = subst (λ q. Sound (step compactAt q w e)) (sym q) (ended s q g b n)
 
   pub run-sound : (compactAt : ℕ) (es : List Event) (w : World) → Sound w → Sound (run compactAt w es)
   unfolding run
@@ -259,4 +257,10 @@ module _ (long : ℕ) where
   sound-reads w (steady st) file p =
       stored-cut (w .disk) (drop (w .firm) (w .moments)) (held (w .wal) (w .now)) (w .wal .counters .size) (omega (arith, st .stands .room, st .bytes)) (st .onDisk) file (rw (st .onDisk .settles) at p)
   sound-reads w (waiting s e y n) file p = n file (rw e at p)
-  sound-reads w (ended s e n) file p = n file p
+  sound-reads w (ended s e g b n) file p = n file p
+
+  pub sound-stands : (w : World) → Sound w → Standing long w
+  unfolding storedOrder
+  sound-stands w (steady st) = record { stands = st .stands; bytes = st .bytes; live = live-small (w .wal) (w .now) (st .stands) }
+  sound-stands w (waiting s e y n) = record { stands = y .stands; bytes = y .bytes; live = live-small (w .wal) (w .now) (y .stands) }
+  sound-stands w (ended s e g b n) = record { stands = g; bytes = b; live = live-small (w .wal) (w .now) g }

@@ -11,8 +11,8 @@ use lib.Dec.{eqb, leb, ltb}
 use lib.ListN.{length, length-append}
 use Rattle.text.specs.Format.{TAB, LF, PLUS, DIGIT0, BACKSLASH, escapeByte, escape, escaped, unescape, unescape-next, digits, printId, decimal, below64, readDigits, readId, Message, recordText, recordLine, line, joinHead, split, allButLast, lines, fields}
 use Rattle.text.specs.Bytes.{Free}
-use Rattle.text.proofs.FormatLaws.{split-some}
 use Rattle.text.specs.Line.{Line, put, done, other, putOf, doneOf, readFields, readLine}
+use Rattle.text.proofs.FormatLaws.{split-some}
 use Rattle.log.specs.Opening.{insert, remove, Read, takeIn, readLines, nothingRead, readFile, image}
 
 -- escaped bytes

@@ -1,23 +1,22 @@
 -- Laws of rows in rising id order: the place of an id, a row put in, a row taken out.
 use mathlib.Core.Path.{_≡_, refl, ap, sym, _∙_, subst}
 use mathlib.Core.Bool.{Bool, true, false, _&&_}
-use mathlib.Core.Option.{Option, none, some}
-use mathlib.Core.List.{List, [], _∷_, _++_, append-assoc, append-nil}
+use mathlib.Core.Option.{none, some}
+use mathlib.Core.List.{List, [], _∷_, _++_, append-assoc}
 use Prim.Native.Nat.{ℕ, zero, suc, _+_, _-_, _^_, _≤_, _<_}
 use native.Mathlib.Omega.{arith}
-use native.Mathlib.Numerals.{add-one}
 use borrow.Author.Tests.{lt-ltb, le-ltb, ltb-true, ltb-false, eq-eqb, ne-eqb, eqb-true, eqb-false}
 use lib.Dec.{eqb, ltb}
 use lib.ListN.{length, take, drop, getD, set, length-append, drop-of-length-le}
-use lib.Seq.{take-all, take-suc, take-append-le, drop-append-le, length-take-le, getD-take, take-set-lt, set-split, drop-cons, split-at}
-use Rattle.log.specs.Log.{rowId, findRow}
-use Rattle.log.specs.Scan.{RowsRise, insertRow, removeRow, PlaceOf, holds, TookNext, TookLine, LastId, Passed, Scanned}
-use Rattle.log.specs.Opening.{readFile}
+use lib.Seq.{take-all, take-suc, take-append-le, drop-append-le, length-take-le, getD-take, take-set-lt, set-split, drop-cons}
 use Rattle.text.specs.Line.{Line}
+use Rattle.text.specs.Bytes.{write, part}
 use Rattle.log.specs.declared.opening.Pass.{Pass}
 use Rattle.log.specs.declared.opening.Taken.{Taken}
 use Rattle.log.specs.declared.opening.Taken.the-variants.{Next, Over}
-use Rattle.text.specs.Bytes.{write, part}
+use Rattle.log.specs.Log.{rowId, findRow}
+use Rattle.log.specs.Scan.{RowsRise, insertRow, removeRow, PlaceOf, holds, TookNext, TookLine, LastId, Passed, Scanned}
+use Rattle.log.specs.Opening.{readFile}
 use Rattle.log.proofs.OpeningLaws.{and-left, and-right}
 use Rattle.log.proofs.TableLaws.{taken-out, put-in}
 

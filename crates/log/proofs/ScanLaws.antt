@@ -1,22 +1,19 @@
 -- Laws of reading a file with a window of ids: what has been read is parted by ids, and a line changes one part.
 use mathlib.Core.Path.{_≡_, refl, ap, sym, _∙_, subst}
 use mathlib.Core.Bool.{Bool, true, false}
-use mathlib.Core.List.{List, [], _∷_, _++_, map, append-assoc, append-nil}
-use Prim.Native.Nat.{ℕ, zero, suc, _+_, _-_, _^_, _≤_, _<_, max}
+use mathlib.Core.List.{List, [], _∷_, _++_, append-assoc}
+use Prim.Native.Nat.{ℕ, suc, _+_, _-_, _^_, _≤_, _<_, max}
 use native.Mathlib.Omega.{arith}
 use borrow.Author.Tests.{lt-ltb, le-ltb, ne-eqb}
 use lib.Dec.{eqb, ltb}
-use lib.ListN.{length, take, drop, getD, length-append, length-map}
-use lib.Seq.{length-take-le}
+use lib.ListN.{length, drop}
 use Rattle.text.specs.Format.{Message, lines}
-use Rattle.text.specs.Line.{Line, put, done, other, readLine, firstOf, nameOf, bodyOf, lineAt}
-use Rattle.log.specs.Opening.{insert, remove, Rising, Read, readLines, readFile, takeIn, nothingRead}
-use Rattle.log.specs.Log.{row, rowId, rowAt}
-use Rattle.log.specs.Scan.{messageOf, messagesOf, RowsRise, insertRow, removeRow, Took, beneath, beyond, set-in, evicted, passRows, TookNext, TookLine, LastId, Window, Passed, AllRows}
+use Rattle.text.specs.Line.{Line, put, done, other, readLine, firstOf, lineAt}
 use Rattle.log.specs.declared.opening.Pass.{Pass}
-use Rattle.log.specs.declared.opening.Taken.{Taken}
-use Rattle.log.specs.declared.opening.Taken.the-variants.{Next, Over}
-use Rattle.log.proofs.OpeningLaws.{Rising-low, Rising-high, Rising-le, Rising-insert, Rising-remove, readLines-in-order}
+use Rattle.log.specs.Opening.{insert, remove, Rising, Read, readLines, readFile, takeIn, nothingRead}
+use Rattle.log.specs.Log.{row, rowId}
+use Rattle.log.specs.Scan.{messageOf, messagesOf, RowsRise, insertRow, removeRow, Took, beneath, beyond, set-in, evicted, passRows, TookNext, LastId, Window}
+use Rattle.log.proofs.OpeningLaws.{Rising-low, Rising-le, Rising-insert, Rising-remove}
 
 pub rows-rise : (file : List ℕ) (rs : List (List ℕ)) (low high : ℕ) → Rising low (messagesOf file rs) high → RowsRise low rs high
 rows-rise file [] low high r = r

@@ -8,17 +8,18 @@ use native.Mathlib.Omega.{arith}
 use native.Mathlib.Numerals.{add-one}
 use borrow.Author.Tests.{eqb-true, ne-eqb}
 use lib.Dec.{eqb}
-use lib.ListN.{length, take, drop, getD, set, length-append, length-set, length-drop}
-use lib.Seq.{take-suc-set, length-take-le, take-at, take-take, getD-take, take-append-add, drop-drop, take-all}
+use lib.ListN.{length, take, drop, getD, set, length-append, length-set}
+use lib.Seq.{take-suc-set, length-take-le, getD-take}
 use Rattle.text.specs.Format.{Message, recordLine}
 use Rattle.text.specs.Bytes.{write, part}
-use Rattle.text.proofs.WriteLaws.{length-write, write-write, take-written, part-written, part-take, length-part}
+use Rattle.text.proofs.WriteLaws.{length-write, take-written, part-written, length-part}
+use Rattle.log.specs.Stands.{Stands, Tabled}
 use Rattle.log.specs.Opening.{Rising, remove, fits, image}
-use Rattle.log.specs.Log.{row, rowId, rowAt, rowLen, Wal, openRows, extended, squeezed, settled, compacted, withRecord, logged, findRow, withoutRow}
+use Rattle.log.specs.Log.{row, rowId, rowAt, rowLen, Wal, openRows, extended, settled, compacted, withRecord, logged, findRow, withoutRow}
 use Rattle.log.specs.Opened.{rowsFrom}
 use Rattle.log.proofs.TableLaws.{taken-out}
-use Rattle.log.proofs.OpeningLaws.{Rising-low, Rising-snoc, Rising-remove, Rising-le, Small, Small-remove, Small-snoc, image-snoc}
-use Rattle.log.proofs.Stands.{Tabled, Stands, small-few, tabled-size, tabled-length, tabled-start, tabled-behind, tabled-snoc, tabled-image, rows-from, squeezed-image, settled-rows}
+use Rattle.log.proofs.OpeningLaws.{Rising-low, Rising-snoc, Rising-remove, Rising-le, Small-remove, Small-snoc, image-snoc}
+use Rattle.log.proofs.TabledLaws.{small-few, tabled-size, tabled-start, tabled-behind, tabled-snoc, tabled-image, rows-from, squeezed-image, settled-rows}
 
 -- a text behind the others that says nothing of the open records' places
 pub extended-stands : (w : Wal) (ms : List Message) (text : List ℕ) → Stands w ms → w .counters .size + length text ≤ length (w .bytes) → Stands (extended w text) ms
@@ -56,9 +57,6 @@ logged-stands w ms m s named fit id few room =
 
 -- the rewrite
 module _ (w : Wal) (ms : List Message) (s : Stands w ms) where
-  rows-there : length (openRows w) ≡ length ms
-  rows-there = tabled-length (w .bytes) 0 ms (openRows w) (w .counters .size) (s .tabled)
-
   pub live-small : w .counters .live ≤ w .counters .size
   live-small = omega (arith, s .live, tabled-size (w .bytes) 0 ms (openRows w) (w .counters .size) (s .tabled))
 

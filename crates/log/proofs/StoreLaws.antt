@@ -1,24 +1,24 @@
 -- Laws of the store at opening: messages put into its entries, read back, and written into the log.
-use mathlib.Core.Path.{_≡_, refl, ap, sym, _∙_, subst}
-use mathlib.Core.Bool.{Bool, true, false, _&&_}
-use mathlib.Core.List.{List, [], _∷_, _++_, map, append-assoc, append-nil}
-use Prim.Native.Nat.{ℕ, zero, suc, _+_, _-_, _*_, _^_, _≤_, _<_}
+use mathlib.Core.Path.{_≡_, refl, ap, sym, _∙_}
+use mathlib.Core.Bool.{true, false, _&&_}
+use mathlib.Core.List.{List, [], _∷_, _++_, map}
+use Prim.Native.Nat.{ℕ, suc, _+_, _-_, _*_, _≤_, _<_}
 use native.Mathlib.Numerals.{add-one}
 use native.Mathlib.Omega.{arith}
-use borrow.Author.Tests.{leb-true, le-leb, lt-leb}
+use borrow.Author.Tests.{leb-true}
 use borrow.Rule.Slice.PartMut.{putMid}
 use lib.Dec.{leb}
-use lib.ListN.{length, take, drop, getD, set, length-append, length-take, length-drop, length-set, length-map}
+use lib.ListN.{length, take, drop, getD, set, length-append, length-take, length-drop, length-set}
 use lib.Seq.{length-take-le, drop-at, take-add}
 use Rattle.text.specs.Format.{Message, recordLine}
-use Rattle.text.specs.Line.{nameOf, bodyOf, lineAt}
-use Rattle.text.specs.Bytes.{write, part}
+use Rattle.text.specs.Line.{lineAt}
+use Rattle.text.specs.Bytes.{write}
 use Rattle.text.specs.Answers.{Filled, filled}
 use Rattle.text.specs.declared.escape.Measure.{Measure}
 use Rattle.text.proofs.WriteLaws.{write-none, write-cons, length-write, take-write, take-written, write-write}
 use Rattle.text.proofs.AnswerLaws.{filled-part, filled-answer}
 use Rattle.log.specs.Opening.{fits, allFit, image}
-use Rattle.log.specs.Log.{row, rowId, rowAt}
+use Rattle.log.specs.Log.{row, rowAt}
 use Rattle.log.specs.Opened.{storedAt, stored, leftRow, rowsFrom}
 use Rattle.log.specs.Scan.{messageOf, messagesOf, fitLine, fitLeft, fromStore, Imaged, imaged, lenOf}
 use Rattle.log.proofs.OpeningLaws.{and-left, and-right}

@@ -1,25 +1,24 @@
 -- What the code of a step has made is what its definition says: one law for each way through a step.
-use mathlib.Core.Path.{_≡_, refl, ap, sym, _∙_, subst}
+use mathlib.Core.Path.{_≡_, refl, ap}
 use mathlib.Core.Bool.{Bool, true, false, _&&_}
 use mathlib.Core.Option.{Option, none, some}
-use mathlib.Core.List.{List, [], _∷_, _++_}
-use Prim.Native.Nat.{ℕ, suc, _+_, _-_, _*_, _/_, _^_, _≤_, _<_, max}
+use mathlib.Core.List.{List, []}
+use Prim.Native.Nat.{ℕ, _+_, _-_, _*_, _/_, _^_, _≤_, _<_, max}
 use native.Mathlib.Omega.{arith}
-use borrow.Author.Tests.{le-leb, lt-leb, leb-true, leb-false, lt-ltb, le-ltb, ltb-true, ltb-false}
+use borrow.Author.Tests.{le-leb, lt-leb, leb-true, lt-ltb, le-ltb, ltb-true, ltb-false}
 use lib.Dec.{leb, ltb}
-use lib.ListN.{length, take, getD, set}
+use lib.ListN.{length, take, set}
 use Rattle.text.specs.Format.{Message, recordLine, doneLine}
-use Rattle.text.specs.Bytes.{write, part}
-use Rattle.log.specs.Log.{row, rowLen, Wal, state, openRows, Did, turnedAway, extended, squeezed, settled, compacted, withRecord, logged, newMessage, appendRefusal, appended, appendOf, findRow, withoutRow, keeps, markedDone, markOf, syncOf}
-use Rattle.log.specs.Table.{foundOf}
-use Rattle.log.proofs.OpeningLaws.{and-left}
+use Rattle.text.specs.Bytes.{write}
 use Rattle.log.specs.declared.Counters.{Counters}
 use Rattle.log.specs.declared.Order.the-variants.{Append, Replace, Flush}
 use Rattle.log.specs.declared.Refusal.the-variants.{Full, NoId, NoRoom}
 use Rattle.log.specs.declared.Answer.the-variants.{Ordered, Nothing}
 use Rattle.log.specs.declared.Stepped.{Stepped}
-use Rattle.log.specs.declared.table.Found.{Found}
 use Rattle.log.specs.declared.table.Found.the-variants.{At, Missing}
+use Rattle.log.specs.Log.{row, Wal, state, openRows, Did, turnedAway, extended, squeezed, settled, compacted, withRecord, logged, newMessage, appendRefusal, appended, appendOf, findRow, withoutRow, keeps, markedDone, markOf, syncOf}
+use Rattle.log.specs.Table.{foundOf}
+use Rattle.log.proofs.OpeningLaws.{and-left}
 
 -- whether a done line is appended
 module _ (limit long live to : ℕ) where

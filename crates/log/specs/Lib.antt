@@ -4,3 +4,5 @@ pub mod Opened
 pub mod Table
 pub mod Scan
 pub mod Recovery
+pub mod Stands
+pub mod RowEnds

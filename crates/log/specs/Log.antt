@@ -1,15 +1,14 @@
 -- The log's state, and what each call makes of it (01, "Log"). Every definition is total: on any bytes, any table and any counters.
 use mathlib.Core.Bool.{Bool, true, false, _&&_}
 use mathlib.Core.Option.{Option, none, some}
-use mathlib.Core.List.{List, [], _∷_, _++_}
+use mathlib.Core.List.{List, [], _∷_}
 use mathlib.Core.Path.{_≡_}
 use Prim.Native.Nat.{ℕ, suc, _+_, _-_, _*_, _^_, _≤_, _<_, max}
 use lib.Dec.{eqb, leb, ltb}
-use lib.ListN.{length, take, drop, getD, set}
+use lib.ListN.{length, take, getD, set}
 use Rattle.text.specs.Format.{Message, recordLine, doneLine}
 use Rattle.text.specs.Bytes.{write, part}
 use Rattle.log.specs.declared.Counters.{Counters}
-use Rattle.log.specs.declared.Order.{Order}
 use Rattle.log.specs.declared.Order.the-variants.{Append, Replace, Flush}
 use Rattle.log.specs.declared.Refusal.{Refusal}
 use Rattle.log.specs.declared.Refusal.the-variants.{Sizes, LastId, TooMuch, Full, NoId, NoRoom}

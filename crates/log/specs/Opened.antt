@@ -1,19 +1,19 @@
 -- What the call that opens a log makes of the lent log, body store and tables.
 use mathlib.Core.Bool.{Bool, true, false, _&&_}
-use mathlib.Core.List.{List, [], _∷_, _++_, map}
+use mathlib.Core.List.{List, [], _∷_, map}
 use Prim.Native.Nat.{ℕ, suc, _+_, _*_}
 use lib.Dec.{eqb, leb}
 use lib.ListN.{length, take}
 use Rattle.text.specs.Format.{Message, recordLine}
 use Rattle.text.specs.Bytes.{write}
-use Rattle.log.specs.Opening.{Read, Opening, refused, opened, opening, image}
-use Rattle.log.specs.Log.{row}
 use Rattle.log.specs.declared.Counters.{Counters}
 use Rattle.log.specs.declared.Order.the-variants.{Replace}
 use Rattle.log.specs.declared.Refusal.{Refusal}
 use Rattle.log.specs.declared.Refusal.the-variants.{Sizes}
 use Rattle.log.specs.declared.Answer.the-variants.{Ordered, Refused}
 use Rattle.log.specs.declared.Stepped.{Stepped}
+use Rattle.log.specs.Opening.{Read, Opening, refused, opened, opening, image}
+use Rattle.log.specs.Log.{row}
 
 -- the log, the body store, the table of open records and the table of messages left, after the call; and its answer
 pub record Opened : Type 0 where

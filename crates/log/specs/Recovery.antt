@@ -7,14 +7,14 @@ use Prim.Native.Nat.{ℕ, _-_}
 use lib.ListN.{length, take, drop}
 use Rattle.text.specs.Format.{Message}
 use Rattle.text.specs.Bytes.{part}
-use Rattle.log.specs.Opening.{Read, remove, fits}
-use Rattle.log.specs.Log.{Wal, Did, newMessage, appendOf, markOf, syncOf}
-use Rattle.log.specs.Opened.{Opened, openedBy, openOf}
 use Rattle.log.specs.declared.Order.{Order}
 use Rattle.log.specs.declared.Order.the-variants.{Append, Replace, Flush}
 use Rattle.log.specs.declared.Answer.{Answer}
 use Rattle.log.specs.declared.Answer.the-variants.{Ordered, Nothing, Refused}
 use Rattle.log.specs.declared.Stepped.{Stepped}
+use Rattle.log.specs.Opening.{Read, remove, fits}
+use Rattle.log.specs.Log.{Wal, Did, newMessage, appendOf, markOf, syncOf}
+use Rattle.log.specs.Opened.{Opened, openedBy, openOf}
 
 -- the calls: log a message, mark an id done, sync
 pub data Call : Type 0 where

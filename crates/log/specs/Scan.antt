@@ -9,20 +9,19 @@ use lib.ListN.{length, take, drop, getD}
 use Rattle.text.specs.Format.{Message}
 use Rattle.text.specs.Line.{Line, put, done, other, nameOf, bodyOf, lineAt}
 use Rattle.text.specs.Bytes.{write}
-use Rattle.log.specs.Opening.{Read, readFile, allFit, Rising, Opening, refused, opened, opening, image}
-use Rattle.log.specs.Log.{row, rowId, rowAt}
-use Rattle.log.specs.Opened.{rowsFrom}
+use Rattle.text.specs.declared.escape.Measure.{Measure}
 use Rattle.log.specs.declared.opening.Lengths.{Lengths}
-use Rattle.log.specs.declared.Refusal.{Refusal}
 use Rattle.log.specs.declared.opening.Pass.{Pass}
 use Rattle.log.specs.declared.opening.Taken.{Taken}
 use Rattle.log.specs.declared.opening.Taken.the-variants.{Next, Over}
-use Rattle.text.specs.declared.escape.Measure.{Measure}
-use Rattle.text.specs.declared.escape.Measure.the-variants as measure
 use Rattle.log.specs.declared.opening.LeftRows.{LeftRows}
 use Rattle.log.specs.declared.opening.LeftRows.the-variants.{NoNext, Many, Rows}
 use Rattle.log.specs.declared.opening.Decision.{Decision}
 use Rattle.log.specs.declared.opening.Decision.the-variants.{Refuse, Accept}
+use Rattle.log.specs.Opening.{readFile, allFit, Rising, refused, opened, opening, image}
+use Rattle.log.specs.Log.{row, rowId, rowAt}
+use Rattle.log.specs.Opened.{rowsFrom}
+use Rattle.text.specs.declared.escape.Measure.the-variants as measure
 
 -- the message of a row: its id, with the name and body of the line where it begins
 abbrev pub messageOf : List ℕ → List ℕ → Message

@@ -1,19 +1,19 @@
 -- Laws of the answers: a measured length, and a slice that was to be filled.
-use mathlib.Core.Path.{_≡_, refl, ap, sym, _∙_}
+use mathlib.Core.Path.{_≡_, refl, ap, _∙_}
 use mathlib.Core.Bool.{Bool, true, false}
 use mathlib.Core.List.{List, [], _∷_}
-use Prim.Native.Nat.{ℕ, suc, _+_, _-_, _*_, _≤_, _<_}
+use Prim.Native.Nat.{ℕ, _+_, _-_, _*_, _≤_, _<_}
 use native.Mathlib.Omega.{arith}
 use borrow.Author.Tests.{le-leb, lt-leb, leb-true, leb-false}
+use borrow.Rule.Slice.PartMut.{putMid}
 use lib.Dec.{eqb, leb}
 use lib.ListN.{length, take, drop, length-take, length-drop}
-use borrow.Rule.Slice.PartMut.{putMid}
 use Rattle.text.specs.Format.{BACKSLASH, unescape, unescape-next}
 use Rattle.text.specs.Bytes.{Wrote, write}
-use Rattle.text.proofs.WriteLaws.{part-back}
 use Rattle.text.specs.Answers.{within, Filled, filled}
 use Rattle.text.specs.declared.escape.Measure.{Measure}
 use Rattle.text.specs.declared.escape.Measure.the-variants.{Len, Over}
+use Rattle.text.proofs.WriteLaws.{part-back}
 
 pub within-len : (n most : ℕ) → n ≤ most → within n most ≡ Len n
 unfolding within

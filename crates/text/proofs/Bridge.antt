@@ -1,28 +1,16 @@
 -- The definitions read by places in a slice, as a loop over an index meets them.
-use mathlib.Core.Path.{_≡_, refl, ap, _∙_}
+use mathlib.Core.Path.{_≡_, refl}
 use mathlib.Core.Bool.{Bool, true, false}
-use mathlib.Core.Option.{none, some}
-use mathlib.Core.List.{List, [], _∷_, _++_, append-assoc, append-nil}
-use Prim.Native.Nat.{ℕ, suc, _+_, _-_, _*_, _≤_, _<_}
+use mathlib.Core.Option.{some}
+use mathlib.Core.List.{List, [], _∷_}
+use Prim.Native.Nat.{ℕ, _+_, _-_, _*_, _≤_, _<_}
 use native.Mathlib.Numerals.{add-one}
 use native.Mathlib.Omega.{arith}
 use borrow.Author.Tests.{le-leb, lt-ltb}
 use lib.Dec.{eqb, leb, ltb}
-use lib.ListN.{length, take, drop, getD}
-use lib.Seq.{take-suc, drop-cons, split-at}
-use Rattle.text.specs.Format.{TAB, DIGIT0, BACKSLASH, escapeByte, escape, escaped, unescape, unescape-next, decimal, split, fields}
-use Rattle.text.specs.Bytes.{Free}
-use Rattle.text.proofs.FormatLaws.{split-piece}
-
-escape-append : (x y : List ℕ) → escape (x ++ y) ≡ escape x ++ escape y
-unfolding escape
-escape-append [] y = refl
-escape-append (b ∷ x) y = rw append-assoc (cc (escape-append x y))
-
--- escape: one byte more
-pub escape-next : (s : List ℕ) (i : ℕ) → i < length s → escape (take (i + 1) s) ≡ escape (take i s) ++ escapeByte (getD s i 0)
-unfolding escape
-escape-next s i h = rw (add-one, take-suc s i 0) (escape-append (take i s) (getD s i 0 ∷ []) ∙ ap (λ r. escape (take i s) ++ r) (append-nil (escapeByte (getD s i 0))))
+use lib.ListN.{length, drop, getD}
+use lib.Seq.{drop-cons}
+use Rattle.text.specs.Format.{DIGIT0, BACKSLASH, escaped, unescape, unescape-next, decimal}
 
 -- unescape: from place i on, in plain text and after a backslash
 pub unescape-plain : (s : List ℕ) (i : ℕ) → i < length s → eqb (getD s i 0) BACKSLASH ≡ false → unescape (drop i s) ≡ getD s i 0 ∷ unescape (drop (i + 1) s)
@@ -52,10 +40,3 @@ decimal-grows (b ∷ bs) high n e = at (leb DIGIT0 b) refl (ltb b (DIGIT0 + 10))
     at true p true q ih = omega (arith, ih (cc))
     at true p false q ih = let z : _≡_ {A = ℕ} 0 1 = cc in absurd (omega arith)
     at false p u q ih = let z : _≡_ {A = ℕ} 0 1 = cc in absurd (omega arith)
-
--- a field ends at the first TAB
-pub fields-at : (text : List ℕ) (j : ℕ) → j < length text → getD text j 0 ≡ TAB → Free TAB (take j text) → fields text ≡ take j text ∷ fields (drop (j + 1) text)
-unfolding fields
-fields-at text j h e f =
-    let whole : text ≡ take j text ++ TAB ∷ drop (suc j) text = cc (split-at text j 0 h) in
-    rw add-one (ap (λ t. split TAB t) whole ∙ split-piece TAB (take j text) (drop (suc j) text) f)

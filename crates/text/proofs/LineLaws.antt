@@ -1,27 +1,23 @@
 -- Laws of pieces: a text up to the first separator.
 use mathlib.Core.Path.{_≡_, refl, ap, sym, _∙_, subst}
 use mathlib.Core.List.{List, [], _∷_, _++_, append-assoc}
-use Prim.Native.Nat.{ℕ, zero, suc, _+_, _-_, _≤_, _<_}
+use mathlib.Core.Bool.{false}
+use mathlib.Core.Option.{none, some, Option}
+use Prim.Native.Nat.{ℕ, suc, _+_, _-_, _≤_, _<_}
 use native.Mathlib.Numerals.{add-one}
 use native.Mathlib.Omega.{arith}
 use borrow.Author.Tests.{ne-eqb}
 use lib.Dec.{eqb}
-use mathlib.Core.Bool.{false}
 use lib.ListN.{length, take, drop, getD, length-drop, drop-of-length-le}
-use lib.Seq.{take-suc, take-all}
-use mathlib.Core.Option.{none, some}
-use lib.ListN.{length-take}
-use lib.Seq.{getD-drop, split-at, drop-drop, take-length}
-use mathlib.Core.Option.{Option}
-use Rattle.text.specs.Format.{TAB, LF, unescape, split, lines, line, fields, readId}
-use Rattle.text.specs.Bytes.{All, Free}
-use Rattle.text.proofs.FormatLaws.{All-append, split-piece, split-last, lines-line, lines-torn, split-some}
-use Rattle.text.specs.Line.{Line, put, done, other, readFields, readLine, doneOf, putOf}
-use Rattle.text.specs.Answers.{First, FirstFrom, NextLine, kindOf, idOf, doneKind, putKind, Inside, Said}
-use Rattle.text.specs.Bytes.{part}
+use lib.Seq.{take-suc, take-all, getD-drop, split-at, drop-drop}
+use Rattle.text.specs.Format.{TAB, LF, split, lines, line, fields, readId}
+use Rattle.text.specs.Bytes.{Free, part}
+use Rattle.text.specs.Line.{other, readFields, readLine, doneOf, putOf}
+use Rattle.text.specs.Answers.{First, FirstFrom, kindOf, idOf, doneKind, putKind, Inside, Said}
 use Rattle.text.specs.declared.line.LineKind.{LineKind}
 use Rattle.text.specs.declared.ids.IdRead.{IdRead}
 use Rattle.text.specs.declared.ids.IdRead.the-variants.{Is, Not}
+use Rattle.text.proofs.FormatLaws.{All-append, split-piece, split-last, lines-line, lines-torn, split-some}
 
 pub free-more : (s : List ℕ) (sep i : ℕ) → i < length s → Free sep (take i s) → (getD s i 0 ≡ sep → ⊥) → Free sep (take (i + 1) s)
 free-more s sep i h f n = rw (add-one, take-suc s i 0) (All-append (λ b. eqb b sep ≡ false) (take i s) (getD s i 0 ∷ []) f (ne-eqb (getD s i 0) sep n, tt))

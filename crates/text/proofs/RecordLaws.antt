@@ -1,10 +1,10 @@
 -- Laws of a record's parts, in the order in which they are written.
-use mathlib.Core.Path.{_≡_, refl, ap, sym, _∙_}
+use mathlib.Core.Path.{_≡_, refl}
 use mathlib.Core.List.{List, [], _∷_, _++_, append-assoc}
-use Prim.Native.Nat.{ℕ, suc, _+_, _-_, _*_, _≤_, _<_}
+use Prim.Native.Nat.{ℕ, _+_, _-_, _*_, _≤_}
 use native.Mathlib.Omega.{arith}
 use lib.ListN.{length, length-append}
-use Rattle.text.specs.Format.{printId, escapeByte, escape, Message, recordText, recordLine, doneLine, line}
+use Rattle.text.specs.Format.{printId, escape, Message, recordText, recordLine, doneLine, line}
 use Rattle.text.specs.Bytes.{Wrote}
 use Rattle.text.proofs.WriteLaws.{Writing, begin, further}
 use Rattle.text.proofs.EscapeLaws.{byte-width}

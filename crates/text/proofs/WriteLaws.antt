@@ -1,11 +1,11 @@
 -- Laws of `write` and `part`: elements written one after another, and what a write leaves as it was.
 use mathlib.Core.Path.{_≡_, refl, ap, sym, _∙_}
 use mathlib.Core.List.{List, [], _∷_, _++_, append-assoc, append-nil}
-use Prim.Native.Nat.{ℕ, zero, suc, _+_, _-_, _≤_, _<_}
+use Prim.Native.Nat.{ℕ, suc, _+_, _-_, _≤_, _<_}
 use native.Mathlib.Numerals.{add-one}
 use native.Mathlib.Omega.{arith}
 use borrow.Rule.Slice.PartMut.{putMid}
-use lib.ListN.{length, take, drop, getD, set, length-append, length-take, length-drop, length-set, take-append-drop, drop-of-length-le}
+use lib.ListN.{length, take, drop, getD, set, length-append, length-take, length-drop, take-append-drop, drop-of-length-le}
 use lib.Seq.{set-split, take-at, drop-at, drop-drop, drop-cons, append-snoc, length-take-le, take-take, take-append-le, take-add, take-all, take-nil, drop-set-lt}
 use Rattle.text.specs.Bytes.{write, part, Wrote}
 

@@ -59,7 +59,7 @@ fn put_escaped_byte(out: &mut [u8], at: usize, b: u8) -> usize
 }
 
 // The length of a text, escaped, where it is at most `most`.
-pub fn escaped_len(s: &[u8], most: usize) -> Measure
+pub(crate) fn escaped_len(s: &[u8], most: usize) -> Measure
     ensures { λ r. ⌜ r ≡ within (length (escape (now (s .entry)))) most ⌝ }
 {
     let mut n: usize = 0;

@@ -6,7 +6,7 @@ ghost use Rattle.text.specs.Format.{readDigits, readId, printId};
 ghost use Rattle.text.specs.Bytes.{Wrote};
 ghost use Rattle.text.specs.Answers.{idOf};
 
-pub enum IdRead {
+pub(crate) enum IdRead {
     Is(u64),
     Not,
 }
@@ -42,7 +42,7 @@ fn read_digits(s: &[u8]) -> IdRead
 }
 
 // An id: an optional plus sign, then digits.
-pub fn read_id(s: &[u8]) -> IdRead
+pub(crate) fn read_id(s: &[u8]) -> IdRead
     ensures { λ r. ⌜ r ≡ idOf (readId (now (s .entry))) ⌝ }
 {
     if s.len() == 0 {
@@ -56,7 +56,7 @@ pub fn read_id(s: &[u8]) -> IdRead
 }
 
 // The number of digits of an id.
-pub fn id_len(id: u64) -> usize
+pub(crate) fn id_len(id: u64) -> usize
     ensures { λ r. ⌜ r ≡ length (printId id) ⌝ }
 {
     let mut k: usize = 1;

@@ -1,15 +1,13 @@
 -- What was stored is read back from the store, and its image is no longer than the file.
-use Rattle.log.proofs.DecisionLaws.{fit, ready, opened-is}
--- What was stored is read back from the store, and its image is no longer than the file.
--- What was stored is read back from the store, and its image is no longer than the file.
-use Rattle.log.proofs.OpenLaws.{sized-all}
-use lib.Seq.{length-take-le}
-use lib.ListN.{length, take, length-take}
-use mathlib.Core.Path.{_≡_, refl, sym, ap, _∙_}
+use mathlib.Core.Path.{sym}
 use native.Mathlib.Omega.{arith}
-use Prim.Native.Nat.{_+_, _≤_}
 use borrow.Author.Needs.{needs}
+use lib.Seq.{length-take-le}
+use Rattle.log.proofs.DecisionLaws.{fit, ready, opened-is}
+use Rattle.log.proofs.OpenLaws.{sized-all}
 use Rattle.log.proofs.opening.accept.Statement.{statement}
+-- What was stored is read back from the store, and its image is no longer than the file.
+-- What was stored is read back from the store, and its image is no longer than the file.
 use Rattle.log.proofs.opening.accept.Tie as tie
 
 slice-reshare-prefix-store-rows : tie.Need-slice-reshare-prefix-store-rows

@@ -1,14 +1,8 @@
 -- Each field goes into the part of the store that begins at its place.
 use mathlib.Core.Path.{refl}
-use Rattle.log.proofs.FieldLaws.{field-at, fit-name, fit-body, both-fields}
-use Rattle.log.specs.Scan.{lengthsOf}
-use Rattle.text.specs.Bytes.{write}
-use Rattle.text.specs.Line.{nameOf, bodyOf, lineAt}
-use lib.ListN.{length}
-use mathlib.Core.Path.{_≡_, sym, ap, _∙_}
-use Prim.Native.Nat.{_+_, _≤_}
-use native.Mathlib.Omega.{arith}
 use borrow.Author.Needs.{needs}
+use Rattle.text.specs.Line.{nameOf, bodyOf, lineAt}
+use Rattle.log.proofs.FieldLaws.{field-at, fit-name, fit-body, both-fields}
 use Rattle.log.proofs.opening.copy_row.Statement.{statement}
 use Rattle.log.proofs.opening.copy_row.Tie as tie
 

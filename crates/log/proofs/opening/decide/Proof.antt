@@ -1,11 +1,11 @@
 -- One law for each answer of the reader.
-use Rattle.log.proofs.DecisionLaws.{left-no-next, left-many, all-rows, rows-too-long, rows-accepted}
--- One law for each answer of the reader.
--- One law for each answer of the reader.
 use mathlib.Core.Path.{sym, _∙_}
 use native.Mathlib.Omega.{arith}
 use borrow.Author.Needs.{needs}
+use Rattle.log.proofs.DecisionLaws.{left-no-next, left-many, all-rows, rows-too-long, rows-accepted}
 use Rattle.log.proofs.opening.decide.Statement.{statement}
+-- One law for each answer of the reader.
+-- One law for each answer of the reader.
 use Rattle.log.proofs.opening.decide.Tie as tie
 
 left-rows-requires : tie.Need-left-rows-requires

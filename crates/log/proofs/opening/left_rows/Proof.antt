@@ -1,16 +1,13 @@
 -- Each pass adds the rows of a further window of ids (`Below`); ids below 2^64 run out.
-use Rattle.log.proofs.LeftLaws.{Below, below-begin, left-all, further}
--- Each pass adds the rows of a further window of ids (`Below`); ids below 2^64 run out.
-use Rattle.log.proofs.LeftLaws.{Below, below-begin, below-more, left-many, left-all, rows-behind}
-use Rattle.log.proofs.RowLaws.{scanned-over, scanned-next}
-use Rattle.log.specs.Scan.{passRows}
-use lib.Seq.{length-take-le}
-use lib.ListN.{length, take, drop, length-take, length-drop}
-use mathlib.Core.Path.{_≡_, refl, sym, ap, _∙_, subst}
+use mathlib.Core.Path.{_≡_, refl, _∙_}
+use Prim.Native.Nat.{_-_, _≤_, _<_, _^_}
 use native.Mathlib.Omega.{arith}
-use Prim.Native.Nat.{_+_, _-_, _≤_, _<_, _^_}
 use borrow.Author.Needs.{needs}
+use lib.ListN.{length, take, length-take, length-drop}
+use Rattle.log.proofs.LeftLaws.{Below, below-begin, left-all, further}
+use Rattle.log.proofs.RowLaws.{scanned-over, scanned-next}
 use Rattle.log.proofs.opening.left_rows.Statement.{statement}
+-- Each pass adds the rows of a further window of ids (`Below`); ids below 2^64 run out.
 use Rattle.log.proofs.opening.left_rows.Tie as tie
 
 abbrev Inv-loop : tie.InvT-loop

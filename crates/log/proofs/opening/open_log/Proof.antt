@@ -1,13 +1,13 @@
 -- Nothing is written before the file is accepted.
-use Rattle.log.proofs.DecisionLaws.{decided-no, decided-yes, open-wrong, open-refused, open-yes}
--- Nothing is written before the file is accepted.
-use Rattle.log.proofs.OpenLaws.{sized-all}
-use lib.Seq.{length-take-le}
-use lib.ListN.{length, take}
-use mathlib.Core.Path.{_≡_, refl, sym, ap, _∙_}
+use mathlib.Core.Path.{sym, _∙_}
 use native.Mathlib.Omega.{arith}
 use borrow.Author.Needs.{needs}
+use lib.Seq.{length-take-le}
+use lib.ListN.{take}
+use Rattle.log.proofs.DecisionLaws.{decided-no, decided-yes, open-wrong, open-refused, open-yes}
+use Rattle.log.proofs.OpenLaws.{sized-all}
 use Rattle.log.proofs.opening.open_log.Statement.{statement}
+-- Nothing is written before the file is accepted.
 use Rattle.log.proofs.opening.open_log.Tie as tie
 
 sizes-fit-requires : tie.Need-sizes-fit-requires

@@ -1,16 +1,15 @@
 -- A record, a done line, or nothing to take in.
-use Rattle.log.proofs.RowLaws.{rise-wide, took-line}
--- A record, a done line, or nothing to take in.
-use Rattle.log.specs.declared.opening.Taken.the-variants.{Next, Over}
-use Rattle.log.proofs.RowLaws.{rise-wide}
-use Rattle.log.specs.Scan.{TookLine}
-use Rattle.text.specs.Answers.{kindOf}
-use lib.ListN.{length, take}
-use mathlib.Core.Path.{_≡_, refl, sym, ap, _∙_, subst}
+use mathlib.Core.Path.{refl, sym, ap, _∙_, subst}
+use Prim.Native.Nat.{_-_}
 use native.Mathlib.Omega.{arith}
-use Prim.Native.Nat.{_+_, _-_, _≤_, _<_, _^_, suc}
 use borrow.Author.Needs.{needs}
+use lib.ListN.{take}
+use Rattle.text.specs.Answers.{kindOf}
+use Rattle.log.specs.declared.opening.Taken.the-variants.{Next, Over}
+use Rattle.log.specs.Scan.{TookLine}
+use Rattle.log.proofs.RowLaws.{rise-wide, took-line}
 use Rattle.log.proofs.opening.pass_line.Statement.{statement}
+-- A record, a done line, or nothing to take in.
 use Rattle.log.proofs.opening.pass_line.Tie as tie
 
 line-kind-requires : tie.Need-line-kind-requires

@@ -1,15 +1,15 @@
 -- One way for each case of `Took`.
-use Rattle.log.proofs.RowLaws.{rise-wide, held, placed-same, placed-in, placed-last, placed-full, in-full}
-use Rattle.log.proofs.TableLaws.{put-in}
-use Rattle.log.specs.Scan.{beneath, beyond, set-in, evicted, insertRow}
-use Rattle.log.specs.Log.{row, rowId}
-use lib.Seq.{length-take-le}
-use lib.ListN.{length, take, drop, getD, length-set}
-use mathlib.Core.List.{List, [], _∷_, _++_}
-use mathlib.Core.Path.{_≡_, refl, sym, ap, _∙_, subst}
+use mathlib.Core.List.{[]}
+use mathlib.Core.Path.{refl, sym, ap, _∙_}
+use Prim.Native.Nat.{_+_, _-_, _≤_}
 use native.Mathlib.Omega.{arith}
-use Prim.Native.Nat.{_+_, _-_, _≤_, _<_, _^_, suc}
 use borrow.Author.Needs.{needs}
+use lib.Seq.{length-take-le}
+use lib.ListN.{take, getD, length-set}
+use Rattle.log.specs.Scan.{beneath, beyond, set-in, evicted}
+use Rattle.log.specs.Log.{row}
+use Rattle.log.proofs.RowLaws.{rise-wide, held, placed-same, placed-in, placed-last, in-full}
+use Rattle.log.proofs.TableLaws.{put-in}
 use Rattle.log.proofs.opening.put_row.Statement.{statement}
 use Rattle.log.proofs.opening.put_row.Tie as tie
 

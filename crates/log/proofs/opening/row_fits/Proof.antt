@@ -1,11 +1,10 @@
 -- The name is looked at first; the body only where the name fits.
-use Rattle.log.proofs.FieldLaws.{field-at, fit-both, fit-not}
-use Rattle.text.specs.Line.{nameOf, bodyOf, lineAt}
+use mathlib.Core.Path.{ap, _∙_}
+use borrow.Author.Needs.{needs}
 use lib.ListN.{length}
 use lib.Dec.{leb}
-use mathlib.Core.Bool.{true, false}
-use mathlib.Core.Path.{_≡_, sym, ap, _∙_}
-use borrow.Author.Needs.{needs}
+use Rattle.text.specs.Line.{nameOf, bodyOf, lineAt}
+use Rattle.log.proofs.FieldLaws.{field-at, fit-both, fit-not}
 use Rattle.log.proofs.opening.row_fits.Statement.{statement}
 use Rattle.log.proofs.opening.row_fits.Tie as tie
 

@@ -1,6 +1,6 @@
 -- Only rows in use are looked at.
-use Rattle.log.proofs.RowLaws.{holds-is, holds-not}
 use borrow.Author.Needs.{needs}
+use Rattle.log.proofs.RowLaws.{holds-is, holds-not}
 use Rattle.log.proofs.opening.row_is.Statement.{statement}
 use Rattle.log.proofs.opening.row_is.Tie as tie
 

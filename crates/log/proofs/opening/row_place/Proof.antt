@@ -1,11 +1,11 @@
 -- The loop keeps that the row at the place, if there is one, is not below.
-use Rattle.log.proofs.RowLaws.{found-place}
-use Rattle.log.specs.Log.{rowId}
-use lib.ListN.{getD}
 use mathlib.Core.List.{[]}
-use native.Mathlib.Omega.{arith}
 use Prim.Native.Nat.{_-_, _≤_, _<_}
+use native.Mathlib.Omega.{arith}
 use borrow.Author.Needs.{needs}
+use lib.ListN.{getD}
+use Rattle.log.specs.Log.{rowId}
+use Rattle.log.proofs.RowLaws.{found-place}
 use Rattle.log.proofs.opening.row_place.Statement.{statement}
 use Rattle.log.proofs.opening.row_place.Tie as tie
 

@@ -1,14 +1,14 @@
 -- The loop keeps that the rows so far fit, so that those left decide.
-use Rattle.log.proofs.StoreLaws.{fit-next, fit-stop, fit-end}
-use Rattle.log.proofs.TableLaws.{next-row, last-row}
+use mathlib.Core.List.{[]}
+use mathlib.Core.Path.{_≡_, refl, sym, _∙_}
+use Prim.Native.Nat.{_-_}
+use native.Mathlib.Omega.{arith}
+use borrow.Author.Needs.{needs}
+use lib.ListN.{take, drop, getD}
 use Rattle.log.specs.Scan.{messagesOf}
 use Rattle.log.specs.Opening.{allFit}
-use lib.ListN.{take, drop, getD}
-use native.Mathlib.Omega.{arith}
-use mathlib.Core.List.{[]}
-use mathlib.Core.Path.{_≡_, refl, sym, ap, _∙_}
-use Prim.Native.Nat.{_-_}
-use borrow.Author.Needs.{needs}
+use Rattle.log.proofs.StoreLaws.{fit-next, fit-stop, fit-end}
+use Rattle.log.proofs.TableLaws.{next-row, last-row}
 use Rattle.log.proofs.opening.rows_fit.Statement.{statement}
 use Rattle.log.proofs.opening.rows_fit.Tie as tie
 

@@ -1,14 +1,14 @@
 -- The loop keeps that what has been read is parted by ids (`Tracked`), and that the next id goes on from here.
-use Rattle.log.proofs.ScanLaws.{rows-rise, Tracked, tracked-begin, tracked-end, tracked-line, nextLines, next-file, next-none, next-line, next-over}
-use Rattle.log.proofs.RowLaws.{took-next, took-over}
+use mathlib.Core.Path.{_≡_, refl, sym, _∙_, subst}
+use Prim.Native.Nat.{_-_, _≤_, _^_}
+use native.Mathlib.Omega.{arith}
+use borrow.Author.Needs.{needs}
+use lib.ListN.{length, drop}
+use Rattle.text.specs.Format.{lines}
 use Rattle.log.specs.Scan.{passRows}
 use Rattle.log.specs.Opening.{readFile}
-use Rattle.text.specs.Format.{lines}
-use lib.ListN.{length, take, drop}
-use mathlib.Core.Path.{_≡_, refl, sym, ap, _∙_, subst}
-use native.Mathlib.Omega.{arith}
-use Prim.Native.Nat.{_+_, _-_, _≤_, _<_, _^_}
-use borrow.Author.Needs.{needs}
+use Rattle.log.proofs.ScanLaws.{rows-rise, Tracked, tracked-begin, tracked-end, tracked-line, nextLines, next-file, next-none, next-line, next-over}
+use Rattle.log.proofs.RowLaws.{took-next, took-over}
 use Rattle.log.proofs.opening.scan.Statement.{statement}
 use Rattle.log.proofs.opening.scan.Tie as tie
 

@@ -1,8 +1,6 @@
 -- One test for each size.
-use Rattle.log.proofs.SizeLaws.{short-log, long-log, long-file, wrong-store, wrong-table, last-size}
-use Rattle.log.specs.Opened.{sized}
 use mathlib.Core.Path.{sym}
-use borrow.Author.Needs.{needs}
+use Rattle.log.proofs.SizeLaws.{short-log, long-log, long-file, wrong-store, wrong-table, last-size}
 use Rattle.log.proofs.opening.sizes_fit.Statement.{statement}
 use Rattle.log.proofs.opening.sizes_fit.Tie as tie
 

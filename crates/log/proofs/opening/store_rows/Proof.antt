@@ -1,14 +1,14 @@
 -- The loop keeps that the rows left, stored from this entry on, give the whole (`Storing`).
-use Rattle.log.proofs.StoreLaws.{Storing, storing-ends, storing-line, storing-more}
-use Rattle.log.proofs.TableLaws.{next-row, last-row}
+use mathlib.Core.List.{[]}
+use mathlib.Core.Path.{refl, ap, _∙_}
+use Prim.Native.Nat.{_-_}
+use native.Mathlib.Omega.{arith}
+use borrow.Author.Needs.{needs}
+use lib.ListN.{getD, set}
 use Rattle.log.specs.Log.{row, rowId}
 use Rattle.log.specs.Opened.{storedAt}
-use lib.ListN.{length, getD, set}
-use mathlib.Core.List.{[]}
-use mathlib.Core.Path.{_≡_, refl, sym, ap, _∙_}
-use native.Mathlib.Omega.{arith}
-use Prim.Native.Nat.{_+_, _-_, _*_, _≤_, _<_}
-use borrow.Author.Needs.{needs}
+use Rattle.log.proofs.StoreLaws.{Storing, storing-ends, storing-line, storing-more}
+use Rattle.log.proofs.TableLaws.{next-row, last-row}
 use Rattle.log.proofs.opening.store_rows.Statement.{statement}
 use Rattle.log.proofs.opening.store_rows.Tie as tie
 

@@ -1,17 +1,12 @@
 -- Ids rise, so that the row found is the only one of its id.
-use Rattle.log.proofs.RowLaws.{remove-missing, remove-found, row-out}
-use Rattle.log.proofs.WalLaws.{found-missing, found-at}
-use Rattle.log.proofs.TableLaws.{taken-out}
-use Rattle.log.specs.Scan.{removeRow}
-use Rattle.log.specs.Log.{findRow}
-use Rattle.text.specs.Bytes.{write, part}
-use lib.Seq.{length-take-le}
-use lib.ListN.{length, take, drop}
-use mathlib.Core.List.{List, [], _∷_, _++_}
-use mathlib.Core.Path.{_≡_, refl, sym, ap, _∙_, subst}
+use mathlib.Core.Path.{refl, sym, ap, _∙_}
+use Prim.Native.Nat.{_-_}
 use native.Mathlib.Omega.{arith}
-use Prim.Native.Nat.{_+_, _-_, _≤_, _<_}
 use borrow.Author.Needs.{needs}
+use lib.ListN.{take}
+use Rattle.log.specs.Log.{findRow}
+use Rattle.log.proofs.RowLaws.{remove-missing, row-out}
+use Rattle.log.proofs.WalLaws.{found-missing, found-at}
 use Rattle.log.proofs.opening.take_row.Statement.{statement}
 use Rattle.log.proofs.opening.take_row.Tie as tie
 

@@ -1,12 +1,12 @@
 -- The loop keeps that the records left, written from here on, give the whole (`Imaging`).
+use mathlib.Core.List.{[]}
+use mathlib.Core.Path.{refl}
+use Prim.Native.Nat.{_-_}
+use native.Mathlib.Omega.{arith}
+use borrow.Author.Needs.{needs}
+use lib.ListN.{getD}
 use Rattle.log.proofs.StoreLaws.{Imaging, imaging-ends, imaging-fits, size-fits, imaging-more}
 use Rattle.log.proofs.TableLaws.{next-row, last-row}
-use lib.ListN.{length, take, drop, getD, length-drop}
-use mathlib.Core.List.{[]}
-use mathlib.Core.Path.{_≡_, refl, sym, ap, _∙_}
-use native.Mathlib.Omega.{arith}
-use Prim.Native.Nat.{_+_, _-_, _*_, _≤_, _<_}
-use borrow.Author.Needs.{needs}
 use Rattle.log.proofs.opening.write_image.Statement.{statement}
 use Rattle.log.proofs.opening.write_image.Tie as tie
 

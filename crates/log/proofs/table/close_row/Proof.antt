@@ -1,16 +1,14 @@
 -- The loop keeps that what is left, moved down from where it has come, gives the whole.
-use lib.ListN.{length, getD, set, length-set}
 use mathlib.Core.Path.{_≡_, refl, sym, _∙_, subst}
--- The loop keeps that what is left, moved down from where it has come, gives the whole.
-use Rattle.text.proofs.WriteLaws.{move-step, move-end, move-past}
-use Rattle.text.specs.Bytes.{write, part}
-use lib.ListN.{length, getD, length-set}
-use mathlib.Core.Path.{_≡_, refl, sym, _∙_}
 use mathlib.Core.List.{[]}
-use native.Mathlib.Omega.{arith}
 use Prim.Native.Nat.{_+_, _-_, _≤_}
+use native.Mathlib.Omega.{arith}
 use borrow.Author.Needs.{needs}
+use lib.ListN.{length, getD, set, length-set}
+use Rattle.text.specs.Bytes.{write, part}
+use Rattle.text.proofs.WriteLaws.{move-step, move-end, move-past}
 use Rattle.log.proofs.table.close_row.Statement.{statement}
+-- The loop keeps that what is left, moved down from where it has come, gives the whole.
 use Rattle.log.proofs.table.close_row.Tie as tie
 
 abbrev Inv-loop : tie.InvT-loop

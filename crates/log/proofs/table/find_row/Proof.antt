@@ -1,12 +1,12 @@
 -- The loop keeps that the search goes on from the place that it has reached.
-use Rattle.log.proofs.TableLaws.{next-row, no-row, last-row, found-none, found-here, found-later}
-use Rattle.log.specs.Table.{foundOf}
-use Rattle.log.specs.Log.{findRow}
-use lib.ListN.{take, drop, getD}
 use mathlib.Core.Path.{_≡_, refl, sym, ap, _∙_}
 use mathlib.Core.List.{[]}
 use Prim.Native.Nat.{_-_}
 use borrow.Author.Needs.{needs}
+use lib.ListN.{take, drop}
+use Rattle.log.specs.Table.{foundOf}
+use Rattle.log.specs.Log.{findRow}
+use Rattle.log.proofs.TableLaws.{next-row, no-row, last-row, found-none, found-here, found-later}
 use Rattle.log.proofs.table.find_row.Statement.{statement}
 use Rattle.log.proofs.table.find_row.Tie as tie
 

@@ -1,15 +1,14 @@
 -- The loop keeps that the row in hand and those left, written from here on, give the whole.
-use mathlib.Core.Path.{subst}
--- The loop keeps that the row in hand and those left, written from here on, give the whole.
-use Rattle.text.proofs.WriteLaws.{shift-step, shift-end}
-use Rattle.text.specs.Bytes.{write, part}
-use lib.ListN.{length, getD, length-set}
-use mathlib.Core.Path.{_≡_, refl, sym, _∙_}
+use mathlib.Core.Path.{subst, _≡_, refl, _∙_}
 use mathlib.Core.List.{[], _∷_}
+use Prim.Native.Nat.{_-_, _≤_, _<_}
 use native.Mathlib.Omega.{arith}
-use Prim.Native.Nat.{_+_, _-_, _≤_, _<_}
 use borrow.Author.Needs.{needs}
+use lib.ListN.{length, length-set}
+use Rattle.text.specs.Bytes.{write, part}
+use Rattle.text.proofs.WriteLaws.{shift-step, shift-end}
 use Rattle.log.proofs.table.open_row.Statement.{statement}
+-- The loop keeps that the row in hand and those left, written from here on, give the whole.
 use Rattle.log.proofs.table.open_row.Tie as tie
 
 abbrev Inv-loop : tie.InvT-loop

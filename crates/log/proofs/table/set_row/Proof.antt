@@ -1,7 +1,7 @@
 -- A store past the end changes nothing.
-use lib.Seq.{set-out}
 use mathlib.Core.Path.{sym}
 use borrow.Author.Needs.{needs}
+use lib.Seq.{set-out}
 use Rattle.log.proofs.table.set_row.Statement.{statement}
 use Rattle.log.proofs.table.set_row.Tie as tie
 

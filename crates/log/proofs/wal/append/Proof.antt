@@ -1,16 +1,15 @@
 -- The tests stand in the order of the refusals; a message that passes them is appended.
-use Prim.Native.Nat.{_+_, _-_, _^_, _≤_, _<_}
--- The tests stand in the order of the refusals; a message that passes them is appended.
-use Rattle.log.proofs.WalLaws.{append-full, append-no-id, append-no-room, append-goes}
-use Rattle.log.specs.Log.{state}
-use Rattle.text.proofs.AnswerLaws.{told, told-over}
-use Rattle.text.specs.Format.{Message, recordLine}
-use lib.ListN.{length}
-use Prim.Native.Nat.{_+_, _-_, _≤_, _<_}
-use native.Mathlib.Omega.{arith}
 use mathlib.Core.Path.{sym, _∙_, ap}
+use Prim.Native.Nat.{_-_, _^_, _<_}
+use native.Mathlib.Omega.{arith}
 use borrow.Author.Needs.{needs}
+use lib.ListN.{length}
+use Rattle.text.specs.Format.{Message, recordLine}
+use Rattle.text.proofs.AnswerLaws.{told, told-over}
+use Rattle.log.specs.Log.{state}
+use Rattle.log.proofs.WalLaws.{append-full, append-no-id, append-no-room, append-goes}
 use Rattle.log.proofs.wal.append.Statement.{statement}
+-- The tests stand in the order of the refusals; a message that passes them is appended.
 use Rattle.log.proofs.wal.append.Tie as tie
 
 turned-away-requires : tie.Need-turned-away-requires

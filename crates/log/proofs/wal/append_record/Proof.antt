@@ -1,14 +1,13 @@
 -- Where the record has room behind the others it goes there; else the log is rewritten first, and the record goes behind the open ones.
-use Rattle.log.proofs.WalLaws.{compacted-is, appended-behind, appended-anew}
-use Rattle.log.specs.Log.{state, logged}
-use Rattle.text.specs.Format.{Message}
-use lib.ListN.{length}
-use Prim.Native.Nat.{_+_, _≤_}
-use borrow.Author.Tests.{leb-true}
-use native.Mathlib.Omega.{arith}
-use mathlib.Core.Bool.{Bool, true, false}
 use mathlib.Core.Path.{sym, _∙_, ap}
+use Prim.Native.Nat.{_+_}
+use native.Mathlib.Omega.{arith}
+use borrow.Author.Tests.{leb-true}
 use borrow.Author.Needs.{needs}
+use lib.ListN.{length}
+use Rattle.text.specs.Format.{Message}
+use Rattle.log.specs.Log.{state, logged}
+use Rattle.log.proofs.WalLaws.{compacted-is, appended-behind, appended-anew}
 use Rattle.log.proofs.wal.append_record.Statement.{statement}
 use Rattle.log.proofs.wal.append_record.Tie as tie
 

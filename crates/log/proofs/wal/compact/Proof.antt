@@ -1,15 +1,14 @@
 -- The loop keeps that the rows left, moved from here on, give the whole (`Squeezing`).
+use mathlib.Core.List.{[]}
+use mathlib.Core.Path.{sym, _∙_}
+use Prim.Native.Nat.{_+_, _-_}
+use native.Mathlib.Omega.{arith}
+use borrow.Author.Tests.{leb-true, leb-false}
+use borrow.Author.Needs.{needs}
+use lib.ListN.{length, getD}
+use Rattle.log.specs.Log.{rowAt, rowLen}
 use Rattle.log.proofs.CompactLaws.{Squeezing, squeezing-begins, squeezing-ends, moved-on, passed-by, movable-low, movable-long}
 use Rattle.log.proofs.TableLaws.{no-row, last-row}
-use Rattle.log.specs.Log.{rowAt, rowLen}
-use borrow.Author.Tests.{leb-true, leb-false}
-use lib.ListN.{length, take, getD, set, length-set}
-use lib.Dec.{leb}
-use mathlib.Core.List.{[]}
-use mathlib.Core.Path.{_≡_, refl, sym, ap, _∙_}
-use native.Mathlib.Omega.{arith}
-use Prim.Native.Nat.{_+_, _-_, _≤_}
-use borrow.Author.Needs.{needs}
 use Rattle.log.proofs.wal.compact.Statement.{statement}
 use Rattle.log.proofs.wal.compact.Tie as tie
 

@@ -1,10 +1,9 @@
 -- The sum is never made: the room behind `size` is compared with n.
-use Rattle.log.proofs.TableLaws.{room-behind}
-use borrow.Author.Tests.{lt-leb}
 use mathlib.Core.Path.{sym}
-use native.Mathlib.Omega.{arith}
 use Prim.Native.Nat.{_+_, _-_}
-use borrow.Author.Needs.{needs}
+use native.Mathlib.Omega.{arith}
+use borrow.Author.Tests.{lt-leb}
+use Rattle.log.proofs.TableLaws.{room-behind}
 use Rattle.log.proofs.wal.fits_behind.Statement.{statement}
 use Rattle.log.proofs.wal.fits_behind.Tie as tie
 

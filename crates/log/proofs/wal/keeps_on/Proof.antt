@@ -1,9 +1,9 @@
 -- The sum is made only where it fits, and is halved where it would be compared with a double.
-use Rattle.log.proofs.WalLaws.{keeps-long, keeps-limit, keeps-live}
 use mathlib.Core.Path.{sym}
-use native.Mathlib.Omega.{arith}
 use Prim.Native.Nat.{_+_}
+use native.Mathlib.Omega.{arith}
 use borrow.Author.Needs.{needs}
+use Rattle.log.proofs.WalLaws.{keeps-long, keeps-limit, keeps-live}
 use Rattle.log.proofs.wal.keeps_on.Statement.{statement}
 use Rattle.log.proofs.wal.keeps_on.Tie as tie
 

@@ -1,9 +1,9 @@
 -- Past the table a row is empty, and an empty row has length 0.
-use Rattle.log.specs.Log.{rowLen}
-use lib.ListN.{List·getD-eq-default}
 use mathlib.Core.List.{[]}
 use mathlib.Core.Path.{sym, ap}
 use borrow.Author.Needs.{needs}
+use lib.ListN.{List·getD-eq-default}
+use Rattle.log.specs.Log.{rowLen}
 use Rattle.log.proofs.wal.len_at.Statement.{statement}
 use Rattle.log.proofs.wal.len_at.Tie as tie
 

@@ -1,8 +1,8 @@
 -- The row found is taken out, and the message is marked done.
-use Rattle.log.proofs.WalLaws.{found-missing, found-at, mark-unknown, mark-known, without-any}
-use Rattle.log.specs.Log.{state, findRow, openRows, markedDone}
 use mathlib.Core.Path.{sym, _∙_, ap}
 use borrow.Author.Needs.{needs}
+use Rattle.log.specs.Log.{state, findRow, openRows, markedDone}
+use Rattle.log.proofs.WalLaws.{found-missing, found-at, mark-unknown, mark-known, without-any}
 use Rattle.log.proofs.wal.mark.Statement.{statement}
 use Rattle.log.proofs.wal.mark.Tie as tie
 

@@ -1,14 +1,13 @@
 -- The done line goes behind the others, or the log is rewritten.
-use Rattle.log.proofs.WalLaws.{keeps-room, compacted-is, marked-behind, marked-anew}
-use Rattle.log.specs.Log.{state}
-use Rattle.text.proofs.AnswerLaws.{filled-part}
-use Rattle.text.specs.Format.{doneLine}
-use lib.ListN.{length}
-use Prim.Native.Nat.{_+_, _≤_}
+use mathlib.Core.Path.{sym, _∙_}
+use Prim.Native.Nat.{_+_}
 use native.Mathlib.Omega.{arith}
-use mathlib.Core.Bool.{Bool, true}
-use mathlib.Core.Path.{sym, _∙_, ap}
 use borrow.Author.Needs.{needs}
+use lib.ListN.{length}
+use Rattle.text.specs.Format.{doneLine}
+use Rattle.text.proofs.AnswerLaws.{filled-part}
+use Rattle.log.specs.Log.{state}
+use Rattle.log.proofs.WalLaws.{keeps-room, compacted-is, marked-behind, marked-anew}
 use Rattle.log.proofs.wal.mark_done.Statement.{statement}
 use Rattle.log.proofs.wal.mark_done.Tie as tie
 

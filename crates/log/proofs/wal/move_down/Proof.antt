@@ -1,11 +1,11 @@
 -- The loop keeps that what is left, moved down from where it has come, gives the whole.
-use Rattle.text.proofs.WriteLaws.{move-step, move-end, move-same}
-use Rattle.text.specs.Bytes.{write, part}
-use lib.ListN.{length, getD, length-set}
 use mathlib.Core.Path.{_≡_, refl, sym, _∙_, subst}
-use native.Mathlib.Omega.{arith}
 use Prim.Native.Nat.{_+_, _-_, _≤_}
+use native.Mathlib.Omega.{arith}
 use borrow.Author.Needs.{needs}
+use lib.ListN.{length, length-set}
+use Rattle.text.specs.Bytes.{write, part}
+use Rattle.text.proofs.WriteLaws.{move-step, move-end, move-same}
 use Rattle.log.proofs.wal.move_down.Statement.{statement}
 use Rattle.log.proofs.wal.move_down.Tie as tie
 

@@ -1,12 +1,11 @@
 -- The encoder fills the part of the log that starts at `size`; the row says where it did.
-use Rattle.log.proofs.WalLaws.{logged-is}
-use Rattle.text.proofs.AnswerLaws.{filled-part}
-use Rattle.text.specs.Format.{Message, recordLine}
-use lib.ListN.{length}
 use Prim.Native.Nat.{_+_, _≤_}
 use native.Mathlib.Omega.{arith}
-use mathlib.Core.Path.{sym, _∙_, ap}
 use borrow.Author.Needs.{needs}
+use lib.ListN.{length}
+use Rattle.text.specs.Format.{Message, recordLine}
+use Rattle.text.proofs.AnswerLaws.{filled-part}
+use Rattle.log.proofs.WalLaws.{logged-is}
 use Rattle.log.proofs.wal.put_record.Statement.{statement}
 use Rattle.log.proofs.wal.put_record.Tie as tie
 

@@ -1,6 +1,5 @@
 -- One law for each of the two ways.
 use Rattle.log.proofs.WalLaws.{sync-dirty, sync-clean}
-use borrow.Author.Needs.{needs}
 use Rattle.log.proofs.wal.sync.Statement.{statement}
 use Rattle.log.proofs.wal.sync.Tie as tie
 

@@ -1,6 +1,6 @@
 -- The row's length is read before the row is taken out.
-use Rattle.log.specs.Log.{withoutRow}
 use borrow.Author.Needs.{needs}
+use Rattle.log.specs.Log.{withoutRow}
 use Rattle.log.proofs.wal.take_record.Statement.{statement}
 use Rattle.log.proofs.wal.take_record.Tie as tie
 

@@ -1,22 +1,19 @@
-use Rattle.text.proofs.EscapeLaws.{plain-end, next-end, plain-backslash, plain-more, next-more}
-use Rattle.text.specs.Format.{escaped, unescape, unescape-next}
-use lib.ListN.{length, take, drop, getD, set}
+use mathlib.Core.Path.{ap}
+use Prim.Native.Nat.{_+_, _-_, ℕ, _<_}
 use native.Mathlib.Omega.{arith}
-use Prim.Native.Nat.{_+_, _-_}
-use mathlib.Core.List.{[], _∷_, _++_}
-use mathlib.Core.Path.{_≡_, refl, ap, sym, _∙_}
 use borrow.Author.Needs.{needs}
-use Prim.Native.Nat.{ℕ, _<_}
 use borrow.Fn.Kinds.{In}
 use borrow.Fn.PlainCycle.{Measures, is, falls, and}
+use lib.ListN.{length}
+use Rattle.text.proofs.EscapeLaws.{plain-end, next-end, plain-backslash, plain-more, next-more}
+use Rattle.text.proofs.escape.+after_len+unescaped_len.{statement}
+use Rattle.text.proofs.escape.+after_len+unescaped_len.Tie.{close}
 use Rattle.text.proofs.escape.after_len.Reads as after-len
 use Rattle.text.proofs.escape.after_len.Kinds as after-len-kinds
 use Rattle.text.proofs.escape.+after_len+unescaped_len.Lts-after_len as after-len-lts
 use Rattle.text.proofs.escape.unescaped_len.Reads as unescaped-len
 use Rattle.text.proofs.escape.unescaped_len.Kinds as unescaped-len-kinds
 use Rattle.text.proofs.escape.+after_len+unescaped_len.Lts-unescaped_len as unescaped-len-lts
-use Rattle.text.proofs.escape.+after_len+unescaped_len.{statement}
-use Rattle.text.proofs.escape.+after_len+unescaped_len.Tie.{close}
 
 abbrev μ-after-len : Measures 1 after-len-kinds.ps ℕ
 μ-after-len κs a = length (a .0 .now) - a .1 .0

@@ -1,15 +1,16 @@
-use Rattle.text.proofs.WriteLaws.{both, is-text, wrote-none}
-use Rattle.text.proofs.EscapeLaws.{plain-end, next-end, plain-backslash, plain-more, next-more}
-use Rattle.text.specs.Format.{escaped, unescape, unescape-next}
-use lib.ListN.{length, take, drop, getD, set}
+use mathlib.Core.List.{_∷_}
+use mathlib.Core.Path.{ap, sym, _∙_}
+use Prim.Native.Nat.{_+_, _-_, ℕ, _<_}
 use native.Mathlib.Omega.{arith}
-use Prim.Native.Nat.{_+_, _-_}
-use mathlib.Core.List.{[], _∷_, _++_}
-use mathlib.Core.Path.{_≡_, refl, ap, sym, _∙_}
 use borrow.Author.Needs.{needs}
-use Prim.Native.Nat.{ℕ, _<_}
 use borrow.Fn.Kinds.{In}
 use borrow.Fn.PlainCycle.{Measures, is, falls, and}
+use lib.ListN.{length, drop}
+use Rattle.text.specs.Format.{unescape}
+use Rattle.text.proofs.WriteLaws.{both, is-text, wrote-none}
+use Rattle.text.proofs.EscapeLaws.{plain-end, next-end, plain-backslash, plain-more, next-more}
+use Rattle.text.proofs.escape.+unescape_after+unescape_plain.{statement}
+use Rattle.text.proofs.escape.+unescape_after+unescape_plain.Tie.{close}
 use Rattle.text.proofs.escape.unescape_after.Reads as unescape-after
 use Rattle.text.proofs.escape.unescape_after.Kinds as unescape-after-kinds
 use Rattle.text.proofs.escape.+unescape_after+unescape_plain.Lts-unescape_after as unescape-after-lts
@@ -18,8 +19,6 @@ use Rattle.text.proofs.escape.unescape_plain.Kinds as unescape-plain-ki
 use Rattle.text.proofs.escape.+unescape_after+unescape_plain.Lts-unescape_plain as unescape-plain-lts
 use Rattle.text.proofs.escape.escaped_byte.Reads as escaped-byte-reads
 use Rattle.text.proofs.escape.put.Reads as put-reads
-use Rattle.text.proofs.escape.+unescape_after+unescape_plain.{statement}
-use Rattle.text.proofs.escape.+unescape_after+unescape_plain.Tie.{close}
 
 abbrev μ-unescape-after : Measures 2 unescape-after-kinds.ps ℕ
 μ-unescape-after κs a = length (a .1 .1 .0 .now) - a .1 .1 .1 .0

@@ -1,12 +1,12 @@
-use Rattle.text.specs.Format.{unescape}
-use lib.ListN.{length}
--- The test says whether the field fits; one that does is unescaped from its first byte on.
-use Rattle.text.proofs.AnswerLaws.{filled-len, filled-over}
 use mathlib.Core.Path.{sym, _∙_}
-use borrow.Author.Tests.{leb-true, leb-false}
 use native.Mathlib.Omega.{arith}
+use borrow.Author.Tests.{leb-true, leb-false}
 use borrow.Author.Needs.{needs}
+use lib.ListN.{length}
+use Rattle.text.specs.Format.{unescape}
+use Rattle.text.proofs.AnswerLaws.{filled-len, filled-over}
 use Rattle.text.proofs.escape.copy_field.Statement.{statement}
+-- The test says whether the field fits; one that does is unescaped from its first byte on.
 use Rattle.text.proofs.escape.copy_field.Tie as tie
 
 field-fits-requires : tie.Need-field-fits-requires

@@ -1,10 +1,6 @@
+use mathlib.Core.Path.{sym}
+use Prim.Native.Nat.{_-_}
 use Rattle.text.proofs.EscapeLaws.{escaped-t, escaped-n, escaped-else}
-use lib.ListN.{length, take, drop, getD, set}
-use native.Mathlib.Omega.{arith}
-use Prim.Native.Nat.{_+_, _-_}
-use mathlib.Core.List.{[], _∷_, _++_}
-use mathlib.Core.Path.{_≡_, refl, ap, sym, _∙_}
-use borrow.Author.Needs.{needs}
 use Rattle.text.proofs.escape.escaped_byte.Statement.{statement}
 use Rattle.text.proofs.escape.escaped_byte.Tie as tie
 

@@ -1,13 +1,13 @@
 -- The loop keeps that what is counted and what is left make the whole. It stops over the limit as soon as one more byte would pass it.
-use Rattle.text.proofs.AnswerLaws.{within-len, within-over}
-use Rattle.text.proofs.EscapeLaws.{escape-end, escape-width}
+use mathlib.Core.Path.{_≡_, sym, ap, _∙_}
+use Prim.Native.Nat.{_+_, _-_, _≤_}
+use native.Mathlib.Omega.{arith}
+use borrow.Author.Needs.{needs}
+use lib.ListN.{length, drop}
 use Rattle.text.specs.declared.escape.Measure.the-variants.{Len}
 use Rattle.text.specs.Format.{escape}
-use mathlib.Core.Path.{_≡_, sym, ap, _∙_}
-use lib.ListN.{length, drop, getD}
-use native.Mathlib.Omega.{arith}
-use Prim.Native.Nat.{_+_, _-_, _≤_}
-use borrow.Author.Needs.{needs}
+use Rattle.text.proofs.AnswerLaws.{within-len, within-over}
+use Rattle.text.proofs.EscapeLaws.{escape-end, escape-width}
 use Rattle.text.proofs.escape.escaped_len.Statement.{statement}
 use Rattle.text.proofs.escape.escaped_len.Tie as tie
 

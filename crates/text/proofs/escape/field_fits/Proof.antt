@@ -1,16 +1,14 @@
-use mathlib.Core.Path.{_≡_}
-use mathlib.Core.Path.{_∙_}
-use Rattle.text.specs.Format.{unescape}
-use lib.ListN.{length}
+use mathlib.Core.Path.{_≡_, sym, ap}
 use Prim.Native.Nat.{_<_}
--- A field of more than twice the limit and one byte unescapes to more than the limit; any other is measured.
-use Rattle.text.proofs.AnswerLaws.{unescape-long}
-use lib.Dec.{leb}
-use mathlib.Core.Path.{sym, ap}
-use borrow.Author.Tests.{lt-leb}
 use native.Mathlib.Omega.{arith}
+use borrow.Author.Tests.{lt-leb}
 use borrow.Author.Needs.{needs}
+use lib.ListN.{length}
+use lib.Dec.{leb}
+use Rattle.text.specs.Format.{unescape}
+use Rattle.text.proofs.AnswerLaws.{unescape-long}
 use Rattle.text.proofs.escape.field_fits.Statement.{statement}
+-- A field of more than twice the limit and one byte unescapes to more than the limit; any other is measured.
 use Rattle.text.proofs.escape.field_fits.Tie as tie
 
 returns : tie.Need-returns

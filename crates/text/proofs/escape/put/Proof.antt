@@ -1,5 +1,5 @@
-use Rattle.text.proofs.WriteLaws.{wrote-one}
 use borrow.Author.Needs.{needs}
+use Rattle.text.proofs.WriteLaws.{wrote-one}
 use Rattle.text.proofs.escape.put.Statement.{statement}
 use Rattle.text.proofs.escape.put.Tie as tie
 

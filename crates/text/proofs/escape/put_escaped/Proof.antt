@@ -1,12 +1,10 @@
+use Prim.Native.Nat.{_-_, _≤_}
+use native.Mathlib.Omega.{arith}
+use borrow.Author.Needs.{needs}
+use lib.ListN.{length, drop}
+use Rattle.text.specs.Format.{escape}
 use Rattle.text.proofs.WriteLaws.{Writing, begin, further, finish}
 use Rattle.text.proofs.EscapeLaws.{escape-end, escape-more, escape-width}
-use Rattle.text.specs.Format.{escape, escapeByte}
-use lib.ListN.{length, take, drop, getD, set}
-use native.Mathlib.Omega.{arith}
-use Prim.Native.Nat.{ℕ, _+_, _-_, _*_, _/_, _%_, _^_, _≤_, _<_}
-use mathlib.Core.List.{[], _∷_, _++_}
-use mathlib.Core.Path.{_≡_, refl, ap, sym, _∙_}
-use borrow.Author.Needs.{needs}
 use Rattle.text.proofs.escape.put_escaped.Statement.{statement}
 use Rattle.text.proofs.escape.put_escaped.Tie as tie
 

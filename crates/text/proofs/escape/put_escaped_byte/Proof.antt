@@ -1,11 +1,9 @@
+use mathlib.Core.Path.{ap, _∙_}
+use Prim.Native.Nat.{_-_}
+use native.Mathlib.Omega.{arith}
+use lib.ListN.{length}
 use Rattle.text.proofs.WriteLaws.{both, is-text}
 use Rattle.text.proofs.EscapeLaws.{byte-backslash, byte-tab, byte-lf, byte-plain}
-use lib.ListN.{length, take, drop, getD, set}
-use native.Mathlib.Omega.{arith}
-use Prim.Native.Nat.{_+_, _-_}
-use mathlib.Core.List.{[], _∷_, _++_}
-use mathlib.Core.Path.{_≡_, refl, ap, sym, _∙_}
-use borrow.Author.Needs.{needs}
 use Rattle.text.proofs.escape.put_escaped_byte.Statement.{statement}
 use Rattle.text.proofs.escape.put_escaped_byte.Tie as tie
 

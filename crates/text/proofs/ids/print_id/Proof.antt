@@ -1,13 +1,12 @@
-use Rattle.text.proofs.WriteLaws.{write-one, write-snoc}
-use Rattle.text.proofs.IdLaws.{length-one, length-more, print-short, print-one, print-more, print-there}
+use mathlib.Core.Path.{_≡_, refl, ap, sym, _∙_}
+use Prim.Native.Nat.{_+_, _-_, _/_, _%_, _^_, _≤_, _<_}
+use native.Mathlib.Omega.{arith}
+use borrow.Author.Needs.{needs}
+use lib.ListN.{length, length-set}
 use Rattle.text.specs.Bytes.{write}
 use Rattle.text.specs.Format.{printId}
-use lib.ListN.{length, take, drop, getD, set, length-set}
-use native.Mathlib.Omega.{arith}
-use Prim.Native.Nat.{ℕ, _+_, _-_, _*_, _/_, _%_, _^_, _≤_, _<_}
-use mathlib.Core.List.{[], _∷_, _++_}
-use mathlib.Core.Path.{_≡_, refl, ap, sym, _∙_}
-use borrow.Author.Needs.{needs}
+use Rattle.text.proofs.WriteLaws.{write-one, write-snoc}
+use Rattle.text.proofs.IdLaws.{length-more, print-one, print-more, print-there}
 use Rattle.text.proofs.ids.print_id.Statement.{statement}
 use Rattle.text.proofs.ids.print_id.Tie as tie
 

@@ -1,12 +1,11 @@
-use Rattle.text.specs.Format.{printId, decimal, below64, readDigits, readId}
+use mathlib.Core.Path.{_≡_, ap, sym, _∙_}
+use Prim.Native.Nat.{_-_, _^_, _≤_, _<_}
+use native.Mathlib.Omega.{arith}
+use borrow.Author.Needs.{needs}
+use lib.ListN.{length, drop}
+use Rattle.text.specs.Format.{decimal, below64, readDigits}
 use Rattle.text.specs.Answers.{idOf}
 use Rattle.text.proofs.IdLaws.{read-start, read-empty, read-low, read-high, read-next, read-large, read-end}
-use mathlib.Core.Path.{_≡_, refl, ap, sym, _∙_}
-use mathlib.Core.Option.{Option, none, some}
-use Prim.Native.Nat.{ℕ, _+_, _-_, _*_, _/_, _%_, _^_, _≤_, _<_}
-use native.Mathlib.Omega.{arith}
-use lib.ListN.{length, take, drop, getD, set}
-use borrow.Author.Needs.{needs}
 use Rattle.text.proofs.ids.read_digits.Statement.{statement}
 use Rattle.text.proofs.ids.read_digits.Tie as tie
 

@@ -1,13 +1,10 @@
-use Rattle.text.proofs.LineLaws.{from}
-use Rattle.text.specs.Format.{readDigits}
-use Rattle.text.proofs.IdLaws.{readId-empty, readId-plus, readId-digits}
-use Rattle.text.specs.Answers.{idOf}
-use lib.ListN.{length, take, drop, getD, set}
-use native.Mathlib.Omega.{arith}
-use Prim.Native.Nat.{ℕ, _+_, _-_, _*_, _/_, _%_, _^_, _≤_, _<_}
-use mathlib.Core.List.{[], _∷_, _++_}
-use mathlib.Core.Path.{_≡_, refl, ap, sym, _∙_}
+use mathlib.Core.Path.{ap, sym, _∙_}
+use Prim.Native.Nat.{_-_}
 use borrow.Author.Needs.{needs}
+use Rattle.text.specs.Format.{readDigits}
+use Rattle.text.specs.Answers.{idOf}
+use Rattle.text.proofs.LineLaws.{from}
+use Rattle.text.proofs.IdLaws.{readId-empty, readId-plus, readId-digits}
 use Rattle.text.proofs.ids.read_id.Statement.{statement}
 use Rattle.text.proofs.ids.read_id.Tie as tie
 

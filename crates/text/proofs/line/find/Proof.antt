@@ -1,11 +1,9 @@
-use Rattle.text.proofs.LineLaws.{free-more}
-use Rattle.text.specs.Bytes.{Free}
-use lib.ListN.{length, take, drop, getD, set}
+use Prim.Native.Nat.{_-_, _≤_, _<_}
 use native.Mathlib.Omega.{arith}
-use Prim.Native.Nat.{ℕ, _+_, _-_, _*_, _/_, _%_, _^_, _≤_, _<_}
-use mathlib.Core.List.{[], _∷_, _++_}
-use mathlib.Core.Path.{_≡_, refl, ap, sym, _∙_}
 use borrow.Author.Needs.{needs}
+use lib.ListN.{length, take}
+use Rattle.text.specs.Bytes.{Free}
+use Rattle.text.proofs.LineLaws.{free-more}
 use Rattle.text.proofs.line.find.Statement.{statement}
 use Rattle.text.proofs.line.find.Tie as tie
 

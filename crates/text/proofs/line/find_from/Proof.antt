@@ -1,11 +1,9 @@
-use Rattle.text.proofs.LineLaws.{from, first-from}
-use Rattle.text.specs.Answers.{First}
-use lib.ListN.{length, take, drop, getD, set, length-drop}
+use mathlib.Core.Path.{ap}
+use Prim.Native.Nat.{_-_}
 use native.Mathlib.Omega.{arith}
-use Prim.Native.Nat.{_+_, _-_}
-use mathlib.Core.List.{[], _∷_, _++_}
-use mathlib.Core.Path.{_≡_, refl, ap, sym, _∙_}
 use borrow.Author.Needs.{needs}
+use lib.ListN.{length, length-drop}
+use Rattle.text.proofs.LineLaws.{from, first-from}
 use Rattle.text.proofs.line.find_from.Statement.{statement}
 use Rattle.text.proofs.line.find_from.Tie as tie
 

@@ -1,8 +1,8 @@
 -- The next whole line is what the reader says; where there is none the answer is empty.
-use Rattle.text.specs.Line.{firstOf}
 use mathlib.Core.Path.{sym, ap}
 use native.Mathlib.Omega.{arith}
 use borrow.Author.Needs.{needs}
+use Rattle.text.specs.Line.{firstOf}
 use Rattle.text.proofs.line.line_at.Statement.{statement}
 use Rattle.text.proofs.line.line_at.Tie as tie
 

@@ -1,10 +1,10 @@
 -- Past the file there is no line; inside it the first LF from the place on ends the line, and where there is none the rest is torn.
 use mathlib.Core.Path.{refl}
-use Rattle.text.proofs.LineLaws.{feed-from, whole-from, torn-from, none-past}
-use lib.ListN.{length}
-use native.Mathlib.Omega.{arith}
 use Prim.Native.Nat.{_<_}
+use native.Mathlib.Omega.{arith}
 use borrow.Author.Needs.{needs}
+use lib.ListN.{length}
+use Rattle.text.proofs.LineLaws.{feed-from, whole-from, torn-from, none-past}
 use Rattle.text.proofs.line.line_end.Statement.{statement}
 use Rattle.text.proofs.line.line_end.Tie as tie
 

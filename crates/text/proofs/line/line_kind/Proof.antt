@@ -1,14 +1,10 @@
-use Rattle.text.proofs.LineLaws.{kind-one, kind-two, kind-more, kind-three, done-says, put-says, done-inside, put-inside, said-done, said-put}
-use Rattle.text.specs.Format.{readId}
-use Rattle.text.specs.Answers.{kindOf, doneKind, putKind, idOf, Inside, Said}
-use Rattle.text.specs.Bytes.{part}
-use lib.Seq.{length-take-le}
-use lib.ListN.{length, take, drop, getD, set}
-use native.Mathlib.Omega.{arith}
+use mathlib.Core.Path.{sym}
 use Prim.Native.Nat.{_+_, _-_}
-use mathlib.Core.List.{[], _∷_, _++_}
-use mathlib.Core.Path.{_≡_, refl, ap, sym, _∙_}
+use native.Mathlib.Omega.{arith}
 use borrow.Author.Needs.{needs}
+use lib.Seq.{length-take-le}
+use lib.ListN.{length, take}
+use Rattle.text.proofs.LineLaws.{kind-one, kind-two, kind-more, kind-three, said-done, said-put}
 use Rattle.text.proofs.line.line_kind.Statement.{statement}
 use Rattle.text.proofs.line.line_kind.Tie as tie
 

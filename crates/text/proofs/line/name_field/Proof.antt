@@ -1,10 +1,10 @@
 -- The line's kind has the places of the name; its meaning is the line's.
-use Rattle.text.specs.Answers.{kindOf, Inside}
-use Rattle.text.specs.Line.{nameOf}
-use Rattle.text.specs.Format.{unescape}
 use mathlib.Core.Path.{sym, ap, _∙_, subst}
 use native.Mathlib.Omega.{arith}
 use borrow.Author.Needs.{needs}
+use Rattle.text.specs.Answers.{kindOf, Inside}
+use Rattle.text.specs.Line.{nameOf}
+use Rattle.text.specs.Format.{unescape}
 use Rattle.text.proofs.line.name_field.Statement.{statement}
 use Rattle.text.proofs.line.name_field.Tie as tie
 

@@ -1,8 +1,8 @@
 -- A done line is the id's digits and LF.
-use Rattle.text.proofs.RecordLaws.{done-length}
-use Rattle.text.proofs.IdLaws.{print-short}
 use native.Mathlib.Omega.{arith}
 use borrow.Author.Needs.{needs}
+use Rattle.text.proofs.RecordLaws.{done-length}
+use Rattle.text.proofs.IdLaws.{print-short}
 use Rattle.text.proofs.record.done_len.Statement.{statement}
 use Rattle.text.proofs.record.done_len.Tie as tie
 

@@ -1,14 +1,13 @@
 -- A done line that fits is the id's digits, then LF.
+use mathlib.Core.Path.{_∙_}
+use Prim.Native.Nat.{_≤_}
+use native.Mathlib.Omega.{arith}
+use borrow.Author.Needs.{needs}
+use lib.ListN.{length}
+use Rattle.text.specs.Format.{doneLine}
 use Rattle.text.proofs.WriteLaws.{both}
 use Rattle.text.proofs.RecordLaws.{done-length, done-parts}
 use Rattle.text.proofs.AnswerLaws.{filled-len, filled-over}
-use Rattle.text.specs.Format.{doneLine}
-use lib.ListN.{length}
-use mathlib.Core.Path.{_∙_}
-use mathlib.Core.List.{[], _∷_}
-use Prim.Native.Nat.{_+_, _<_, _≤_}
-use native.Mathlib.Omega.{arith}
-use borrow.Author.Needs.{needs}
 use Rattle.text.proofs.record.encode_done.Statement.{statement}
 use Rattle.text.proofs.record.encode_done.Tie as tie
 

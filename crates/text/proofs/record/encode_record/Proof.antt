@@ -1,10 +1,7 @@
 -- The record is measured first; one that fits is written, and one that does not changes nothing.
-use Rattle.text.proofs.AnswerLaws.{told, told-over, filled-len, filled-over}
-use Rattle.text.specs.Format.{Message, recordLine}
-use lib.ListN.{length}
-use native.Mathlib.Omega.{arith}
 use mathlib.Core.Path.{sym, _∙_}
 use borrow.Author.Needs.{needs}
+use Rattle.text.proofs.AnswerLaws.{told, told-over, filled-len, filled-over}
 use Rattle.text.proofs.record.encode_record.Statement.{statement}
 use Rattle.text.proofs.record.encode_record.Tie as tie
 

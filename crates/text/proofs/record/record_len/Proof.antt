@@ -1,14 +1,14 @@
 -- The parts are measured one after the other, each within what the limit leaves for it.
+use mathlib.Core.Path.{_≡_, sym, ap, _∙_}
+use Prim.Native.Nat.{_+_, _-_, _<_}
+use native.Mathlib.Omega.{arith}
+use borrow.Author.Needs.{needs}
+use lib.ListN.{length}
+use Rattle.text.specs.declared.escape.Measure.the-variants.{Len}
+use Rattle.text.specs.Format.{Message, recordLine, escape}
 use Rattle.text.proofs.AnswerLaws.{within-len, within-over, told, told-over}
 use Rattle.text.proofs.RecordLaws.{record-length}
 use Rattle.text.proofs.IdLaws.{print-short}
-use Rattle.text.specs.declared.escape.Measure.the-variants.{Len}
-use Rattle.text.specs.Format.{Message, recordLine, escape}
-use lib.ListN.{length}
-use mathlib.Core.Path.{_≡_, sym, ap, _∙_}
-use Prim.Native.Nat.{_+_, _-_, _<_, _≤_}
-use native.Mathlib.Omega.{arith}
-use borrow.Author.Needs.{needs}
 use Rattle.text.proofs.record.record_len.Statement.{statement}
 use Rattle.text.proofs.record.record_len.Tie as tie
 

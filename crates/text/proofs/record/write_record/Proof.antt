@@ -1,13 +1,10 @@
+use mathlib.Core.Path.{_∙_}
+use Prim.Native.Nat.{_-_}
+use native.Mathlib.Omega.{arith}
+use lib.ListN.{length-append}
+use Rattle.text.specs.Format.{Message, escape}
 use Rattle.text.proofs.WriteLaws.{last}
 use Rattle.text.proofs.RecordLaws.{afterName, afterBody, record-length, wrote-id, byte, text}
-use Rattle.text.specs.Format.{Message, escape}
-use lib.ListN.{length-append}
-use lib.ListN.{length, take, drop, getD, set}
-use native.Mathlib.Omega.{arith}
-use Prim.Native.Nat.{_+_, _-_}
-use mathlib.Core.List.{[], _∷_, _++_}
-use mathlib.Core.Path.{_≡_, refl, ap, sym, _∙_}
-use borrow.Author.Needs.{needs}
 use Rattle.text.proofs.record.write_record.Statement.{statement}
 use Rattle.text.proofs.record.write_record.Tie as tie
 

@@ -1,43 +1,20 @@
--- The table is what the bytes say: when the log's state stands for the messages logged and not done, and that every step keeps this.
+-- Laws of `Tabled`: what the bytes written, moved and left alone make of the rows.
 use mathlib.Core.Path.{_≡_, refl, ap, sym, _∙_, subst}
-use mathlib.Core.Bool.{Bool, true, false, _&&_}
-use mathlib.Core.Option.{Option, none, some}
-use mathlib.Core.List.{List, [], _∷_, _++_, append-assoc, append-nil}
-use Prim.Native.Nat.{ℕ, zero, suc, _+_, _-_, _^_, _≤_, _<_}
+use mathlib.Core.Bool.{true, _&&_}
+use mathlib.Core.List.{List, [], _∷_, _++_}
+use Prim.Native.Nat.{ℕ, suc, _+_, _-_, _≤_}
 use native.Mathlib.Omega.{arith}
-use native.Mathlib.Numerals.{add-one}
-use borrow.Author.Tests.{eqb-true, eqb-false, leb-true, le-leb, ne-eqb}
-use lib.Dec.{eqb, leb}
-use lib.ListN.{length, take, drop, getD, set, length-append, length-take, length-set}
-use lib.Seq.{take-suc-set, length-take-le, take-take, take-at, getD-take}
+use borrow.Author.Tests.{leb-true, le-leb}
+use lib.Dec.{leb}
+use lib.ListN.{length, length-append}
 use Rattle.text.specs.Format.{Message, recordLine}
 use Rattle.text.specs.Bytes.{write, part}
-use Rattle.text.proofs.WriteLaws.{write-none, length-write, write-write, take-write, take-written, part-below, part-above, part-written}
-use Rattle.log.specs.Opening.{Rising, remove, fits, image}
-use Rattle.log.specs.Log.{row, rowId, rowAt, rowLen, Wal, openRows, extended, movable, squeezed, settled, compacted, withRecord, logged, findRow, withoutRow}
+use Rattle.text.proofs.WriteLaws.{write-none, length-write, write-write, part-below, part-above, part-written}
+use Rattle.log.specs.Stands.{Small, Tabled}
+use Rattle.log.specs.Opening.{image}
+use Rattle.log.specs.Log.{row, rowId, rowAt, rowLen, movable, squeezed, settled}
 use Rattle.log.specs.Opened.{rowsFrom}
-use Rattle.log.proofs.OpeningLaws.{Rising-low, Rising-snoc, Rising-remove, Rising-le, Small, Small-remove, Small-snoc, image-snoc, and-left}
-
--- the rows say where the messages' records stand, in their order, from `start` on and up to `size`
-abbrev pub Tabled : List ℕ → ℕ → List Message → List (List ℕ) → ℕ → Type 0
-Tabled bytes start [] [] size = start ≤ size
-Tabled bytes start [] (r ∷ rs) size = ⊥
-Tabled bytes start (m ∷ ms) [] size = ⊥
-Tabled bytes start (m ∷ ms) (r ∷ rs) size =
-    (r ≡ row (m .id) (rowAt r) (length (recordLine m))) × (start ≤ rowAt r)
-    × (part bytes (rowAt r) (rowAt r + length (recordLine m)) ≡ recordLine m)
-    × Tabled bytes (rowAt r + length (recordLine m)) ms rs size
-
--- the state stands for these messages
-pub record Stands (w : Wal) (ms : List Message) : Type 0 where
-  pub rising : Rising 0 ms (w .counters .next)
-  pub small : Small ms
-  pub top : w .counters .next < 2 ^ 64
-  pub room : w .counters .size ≤ length (w .bytes)
-  pub live : w .counters .live ≡ length (image ms)
-  pub count : w .counters .count ≡ length ms
-  pub rows : length (w .table) ≡ 256
-  pub tabled : Tabled (w .bytes) 0 ms (openRows w) (w .counters .size)
+use Rattle.log.proofs.OpeningLaws.{and-left}
 
 pub small-few : (ms : List Message) → Small ms → length ms ≤ 256
 small-few ms s = leb-true (length ms) 256 (and-left (leb (length ms) 256) _ s)

@@ -1,0 +1,107 @@
+-- The row ends 1 to 7 that are marked to be proved, as one list; and the examples of the refusals that belong to the log, as another.
+use mathlib.Core.Bool.{Bool, true, false, _&&_}
+use mathlib.Core.List.{List, [], _∷_, _++_}
+use Prim.Native.Nat.{ℕ, zero, suc}
+use lib.Dec.{eqb}
+use lib.ListN.{length, replicate}
+use Rattle.text.specs.Format.{Message, recordLine, unescape}
+use Rattle.log.specs.declared.Answer.{Answer}
+use Rattle.log.specs.declared.Answer.the-variants.{Ordered, Nothing, Refused}
+use Rattle.log.specs.Opening.{Opening, refused, opened, opening, image}
+use Rattle.log.specs.Log.{Wal, numberOf}
+use Rattle.log.specs.Recovery.{Call, append, mark, didCall}
+
+unfoldable pub sameBytes : List ℕ → List ℕ → Bool
+sameBytes [] [] = true
+sameBytes [] (b ∷ bs) = false
+sameBytes (a ∷ more) [] = false
+sameBytes (a ∷ more) (b ∷ bs) = eqb a b && sameBytes more bs
+
+unfoldable pub ids : List Message → List ℕ
+ids [] = []
+ids (m ∷ ms) = m .id ∷ ids ms
+
+-- opening leaves these ids, this next id and this new log
+unfoldable pub leaves : Opening → List ℕ → ℕ → List ℕ → Bool
+leaves (refused r) is next new = false
+leaves (opened r) is next new = sameBytes (ids (r .left)) is && eqb (r .next) next && sameBytes (image (r .left)) new
+
+unfoldable pub refusedBy : Opening → ℕ → Bool
+refusedBy (refused r) n = eqb (numberOf r) n
+refusedBy (opened r) n = false
+
+unfoldable pub answeredBy : Answer → ℕ → Bool
+answeredBy (Ordered o) n = false
+answeredBy Nothing n = false
+answeredBy (Refused r) n = eqb (numberOf r) n
+
+unfoldable pub message : ℕ → List ℕ → List ℕ → Message
+message id name body = record { id = id; name = name; body = body }
+
+-- the name `row`
+unfoldable pub rowName : List ℕ
+rowName = 114 ∷ 111 ∷ 119 ∷ []
+
+-- a log of l bytes with no message, and the log after calls
+unfoldable pub emptyLog : ℕ → ℕ → Wal
+emptyLog l next = record { bytes = replicate l 0; table = replicate 256 []; counters = record { next = next; live = 0; size = 0; dirty = false; count = 0 } }
+
+unfoldable pub after : ℕ → Wal → List Call → Wal
+after compactAt w [] = w
+after compactAt w (c ∷ cs) = after compactAt (didCall compactAt w c .wal) cs
+
+unfoldable pub sizeAfter : ℕ → ℕ → List Call → ℕ
+sizeAfter l compactAt calls = after compactAt (emptyLog l 0) calls .counters .size
+
+-- two records of 8 bytes, ids 0 and 1
+unfoldable pub two : List Call
+two = append rowName (120 ∷ []) ∷ append rowName (121 ∷ []) ∷ []
+
+unfoldable pub records : ℕ → ℕ → List ℕ
+records zero first = []
+records (suc n) first = recordLine (message first [] []) ++ records n (suc first)
+
+-- 3 row x, 1 row y, and 3 done; the same with 12 for 3 and a torn 1 at the end
+unfoldable pub doneThree : List ℕ
+doneThree = 51 ∷ 9 ∷ 114 ∷ 111 ∷ 119 ∷ 9 ∷ 120 ∷ 10 ∷ 49 ∷ 9 ∷ 114 ∷ 111 ∷ 119 ∷ 9 ∷ 121 ∷ 10 ∷ 51 ∷ 10 ∷ []
+
+unfoldable pub tornOne : List ℕ
+tornOne = 49 ∷ 50 ∷ 9 ∷ 114 ∷ 111 ∷ 119 ∷ 9 ∷ 120 ∷ 10 ∷ 49 ∷ 9 ∷ 114 ∷ 111 ∷ 119 ∷ 9 ∷ 121 ∷ 10 ∷ 49 ∷ []
+
+unfoldable pub rowEnds : List Bool
+rowEnds =
+    -- 1
+    sameBytes (recordLine (message 7 rowName (97 ∷ 9 ∷ 98 ∷ []))) (55 ∷ 9 ∷ 114 ∷ 111 ∷ 119 ∷ 9 ∷ 97 ∷ 92 ∷ 116 ∷ 98 ∷ 10 ∷ []) ∷
+    eqb (length (recordLine (message 7 rowName (97 ∷ 9 ∷ 98 ∷ [])))) 11 ∷
+    sameBytes (recordLine (message 0 [] [])) (48 ∷ 9 ∷ 9 ∷ 10 ∷ []) ∷
+    -- 2
+    sameBytes (unescape (97 ∷ 92 ∷ [])) (97 ∷ []) ∷
+    sameBytes (unescape (92 ∷ 113 ∷ [])) (113 ∷ []) ∷
+    sameBytes (unescape (92 ∷ 92 ∷ 116 ∷ [])) (92 ∷ 116 ∷ []) ∷
+    -- 3
+    leaves (opening doneThree) (1 ∷ []) 4 (49 ∷ 9 ∷ 114 ∷ 111 ∷ 119 ∷ 9 ∷ 121 ∷ 10 ∷ []) ∷
+    -- 4
+    leaves (opening tornOne) (1 ∷ 12 ∷ []) 13 (49 ∷ 9 ∷ 114 ∷ 111 ∷ 119 ∷ 9 ∷ 121 ∷ 10 ∷ 49 ∷ 50 ∷ 9 ∷ 114 ∷ 111 ∷ 119 ∷ 9 ∷ 120 ∷ 10 ∷ []) ∷
+    -- 5
+    leaves (opening (43 ∷ 53 ∷ 9 ∷ 114 ∷ 111 ∷ 119 ∷ 9 ∷ 120 ∷ 10 ∷ [])) (5 ∷ []) 6 (53 ∷ 9 ∷ 114 ∷ 111 ∷ 119 ∷ 9 ∷ 120 ∷ 10 ∷ []) ∷
+    leaves (opening (53 ∷ 9 ∷ 114 ∷ 111 ∷ 119 ∷ 10 ∷ [])) [] 0 [] ∷
+    -- 6
+    eqb (sizeAfter 64 20 (two ++ (mark 0 ∷ []))) 18 ∷
+    eqb (sizeAfter 64 20 (two ++ (mark 0 ∷ mark 1 ∷ []))) 0 ∷
+    eqb (sizeAfter 64 21 (two ++ (mark 0 ∷ mark 1 ∷ []))) 20 ∷
+    -- 7
+    eqb (sizeAfter 16 64 (two ++ (mark 0 ∷ []))) 8 ∷
+    []
+
+-- 3: the last id; 4: 257 records; 9: opened on the last id but one; 10: the third record of 8 bytes in 16
+unfoldable pub refusals : List Bool
+refusals =
+    refusedBy (opening (recordLine (message 18446744073709551615 (97 ∷ []) (98 ∷ [])))) 3 ∷
+    refusedBy (opening (records 257 0)) 4 ∷
+    answeredBy (didCall 64 (emptyLog 64 18446744073709551615) (append [] []) .answer) 9 ∷
+    answeredBy (didCall 64 (after 64 (emptyLog 16 0) two) (append rowName (122 ∷ [])) .answer) 10 ∷
+    []
+
+unfoldable pub allTrue : List Bool → Bool
+allTrue [] = true
+allTrue (b ∷ bs) = b && allTrue bs

@@ -1,0 +1,30 @@
+-- What the log reader makes of a log.
+use mathlib.Core.List.{List, [], _∷_}
+use Prim.Native.Nat.{ℕ}
+use lib.ListN.{replicate}
+use Rattle.log.specs.Log.{numberOf}
+use Rattle.log.specs.Opened.{Opened, openOf}
+use Rattle.log.specs.declared.Order.the-variants.{Append, Replace, Flush}
+use Rattle.log.specs.declared.Answer.{Answer}
+use Rattle.reopening.specs.declared.Reopened.{Reopened}
+use Rattle.reopening.specs.declared.Reopened.the-variants.{Log, Refused}
+use Rattle.log.specs.declared.Answer.the-variants as answer
+
+-- the length of the new log, or 01's number of the refusal; opening orders nothing but a replace
+abbrev pub answerOf : Answer → Reopened
+answerOf (answer.Ordered (Append a b)) = Log 0
+answerOf (answer.Ordered (Replace n)) = Log n
+answerOf (answer.Ordered Flush) = Log 0
+answerOf answer.Nothing = Log 0
+answerOf (answer.Refused r) = Refused (numberOf r)
+
+pub record Reopening : Type 0 where
+  pub log : List ℕ
+  pub answer : Reopened
+
+-- opening with a store and tables that hold zeros
+unfoldable pub freshly : List ℕ → ℕ → Opened
+freshly log n = openOf log n (replicate 40960 0) (replicate 256 (0 ∷ 0 ∷ 0 ∷ [])) (replicate 256 (0 ∷ 0 ∷ 0 ∷ []))
+
+abbrev pub reopenOf : List ℕ → ℕ → Reopening
+reopenOf log n = record { log = freshly log n .log; answer = answerOf (freshly log n .step .answer) }

@@ -1,0 +1,71 @@
+// The log reader: opens a log of 65,536 bytes, with a store and tables of its own, and gives the new log or the number of the refusal.
+// `reopen` is that on a slice (specs/Reopened); `reopen_fd` reads the file from a descriptor and prints the outcome.
+ghost use mathlib.Core.Path.{_≡_};
+ghost use Rattle.reopening.specs.Reopened.{reopenOf, answerOf};
+use libc::STDOUT_FILENO;
+use log::Answer;
+use log::Order;
+
+pub enum Reopened {
+    // The new log is the first bytes, so many of them.
+    Log(usize),
+    // The number of the refusal.
+    Refused(u64),
+}
+
+fn answered(a: Answer) -> Reopened
+    ensures { λ r. ⌜ r ≡ answerOf a ⌝ }
+{
+    match a {
+        Answer::Ordered(o) => match o {
+            Order::Append(_, _) => Reopened::Log(0),
+            Order::Replace(n) => Reopened::Log(n),
+            Order::Flush => Reopened::Log(0),
+        },
+        Answer::Nothing => Reopened::Log(0),
+        Answer::Refused(r) => Reopened::Refused(log::number(r)),
+    }
+}
+
+// Opens the log whose file is the first n bytes.
+pub fn reopen(log: &mut [u8], n: usize) -> Reopened
+    ensures { λ r. ⌜ record { log = now (log .exit); answer = r } ≡ reopenOf (now (log .entry)) n ⌝ }
+{
+    let mut store = [0u8; 40960];
+    let mut records = [[0u64; 3]; 256];
+    let mut left = [[0u64; 3]; 256];
+    let opened = log::opening::open_log(log, n, &mut store, &mut records, &mut left);
+    let answer = opened.answer;
+    answered(answer)
+}
+
+// Prints the new log, or `refused=N`.
+fn print(log: &[u8], r: Reopened) {
+    match r {
+        Reopened::Log(size) => {
+            if size <= log.len() {
+                io::write_all(STDOUT_FILENO, &log[..size]);
+            }
+        }
+        Reopened::Refused(number) => {
+            io::write_all(STDOUT_FILENO, b"refused=");
+            io::print_decimal(STDOUT_FILENO, number);
+            io::write_all(STDOUT_FILENO, b"\n");
+        }
+    }
+}
+
+// Reads a file into a space of one byte more than the log has, so that a longer file is seen.
+fn reopen_in(space: &mut [u8], fd: i32) {
+    let n = io::read_full(fd, space);
+    if 65536 < space.len() {
+        let r = reopen(&mut space[..65536], n);
+        print(space, r);
+    }
+}
+
+// Reads a file of at most 65,536 bytes and prints the new log, or `refused=N`; a longer one is refused, since the log cannot hold it.
+pub fn reopen_fd(fd: i32) {
+    let mut space = [0u8; 65537];
+    reopen_in(&mut space, fd);
+}
