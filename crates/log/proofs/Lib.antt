@@ -1,3 +1,4 @@
+-- The laws of the log, and its theorems (Recovery, RowEnds).
 pub mod OpeningLaws
 pub mod Room
 pub mod TabledLaws

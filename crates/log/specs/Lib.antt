@@ -1,3 +1,4 @@
+-- The definitions of the log.
 pub mod Opening
 pub mod Log
 pub mod Opened

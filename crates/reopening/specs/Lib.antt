@@ -1,1 +1,2 @@
+-- The definitions of the log reader.
 pub mod Reopened

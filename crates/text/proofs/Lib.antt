@@ -1,3 +1,4 @@
+-- The laws of the log's text.
 pub mod FormatLaws
 pub mod Bridge
 pub mod WriteLaws

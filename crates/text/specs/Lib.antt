@@ -1,3 +1,4 @@
+-- The definitions of the log's text.
 pub mod Format
 pub mod Line
 pub mod Bytes

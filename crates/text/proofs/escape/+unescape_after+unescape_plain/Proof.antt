@@ -1,3 +1,4 @@
+-- Each byte read is passed over or written, and the bytes left fall with each call.
 use mathlib.Core.List.{_∷_}
 use mathlib.Core.Path.{ap, sym, _∙_}
 use Prim.Native.Nat.{_+_, _-_, ℕ, _<_}

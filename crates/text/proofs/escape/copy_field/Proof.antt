@@ -1,3 +1,4 @@
+-- The test says whether the field fits; one that does is unescaped from its first byte on.
 use mathlib.Core.Path.{sym, _∙_}
 use native.Mathlib.Omega.{arith}
 use borrow.Author.Tests.{leb-true, leb-false}

@@ -1,3 +1,4 @@
+-- One law for each of the three kinds of byte.
 use mathlib.Core.Path.{sym}
 use Prim.Native.Nat.{_-_}
 use Rattle.text.proofs.EscapeLaws.{escaped-t, escaped-n, escaped-else}

@@ -1,3 +1,4 @@
+-- One law for each of the four kinds of byte.
 use mathlib.Core.Path.{ap, sym}
 use Prim.Native.Nat.{_-_}
 use lib.ListN.{length}

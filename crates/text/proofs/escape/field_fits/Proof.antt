@@ -1,3 +1,4 @@
+-- A field of more than twice the limit and one byte unescapes to more than the limit; any other is measured.
 use mathlib.Core.Path.{_≡_, sym, ap}
 use Prim.Native.Nat.{_<_}
 use native.Mathlib.Omega.{arith}

@@ -1,3 +1,4 @@
+-- One byte stored.
 use borrow.Author.Needs.{needs}
 use Rattle.text.proofs.WriteLaws.{wrote-one}
 use Rattle.text.proofs.escape.put.Statement.{statement}

@@ -1,3 +1,4 @@
+-- The loop keeps that what is left of the escaped text, written from here on, gives the whole.
 use Prim.Native.Nat.{_-_, _≤_}
 use native.Mathlib.Omega.{arith}
 use borrow.Author.Needs.{needs}

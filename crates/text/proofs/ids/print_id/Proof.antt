@@ -1,3 +1,4 @@
+-- The digits are written from the last to the first; what is left of them, written at the front, gives the whole.
 use mathlib.Core.Path.{_≡_, refl, ap, sym, _∙_}
 use Prim.Native.Nat.{_+_, _-_, _/_, _%_, _^_, _≤_, _<_}
 use native.Mathlib.Omega.{arith}

@@ -1,3 +1,4 @@
+-- The loop keeps that the digits left, read behind the value so far, give the whole; a value that is too large stays so.
 use mathlib.Core.Path.{_≡_, ap, sym, _∙_}
 use Prim.Native.Nat.{_-_, _^_, _≤_, _<_}
 use native.Mathlib.Omega.{arith}

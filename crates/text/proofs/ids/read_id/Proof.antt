@@ -1,3 +1,4 @@
+-- A plus sign is passed over; the rest are digits.
 use mathlib.Core.Path.{ap, sym, _∙_}
 use Prim.Native.Nat.{_-_}
 use borrow.Author.Needs.{needs}

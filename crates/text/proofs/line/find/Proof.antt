@@ -1,3 +1,4 @@
+-- The loop keeps that no byte so far is the separator.
 use Prim.Native.Nat.{_-_, _≤_, _<_}
 use native.Mathlib.Omega.{arith}
 use borrow.Author.Needs.{needs}

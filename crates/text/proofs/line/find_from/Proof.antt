@@ -1,3 +1,4 @@
+-- The search in the part that begins at the place.
 use mathlib.Core.Path.{ap}
 use Prim.Native.Nat.{_-_}
 use native.Mathlib.Omega.{arith}

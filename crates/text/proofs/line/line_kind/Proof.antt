@@ -1,3 +1,4 @@
+-- The places of the first three TABs part the line into its fields.
 use mathlib.Core.Path.{sym}
 use Prim.Native.Nat.{_+_, _-_}
 use native.Mathlib.Omega.{arith}

@@ -1,3 +1,4 @@
+-- One case for each answer.
 use borrow.Author.Needs.{needs}
 use Rattle.text.proofs.line.put_kind.Statement.{statement}
 use Rattle.text.proofs.line.put_kind.Tie as tie
