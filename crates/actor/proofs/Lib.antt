@@ -1,0 +1,2 @@
+-- Laws of a message's row and of an actor's state.
+pub mod Back

@@ -1,0 +1,138 @@
+-- The state of an actor as cells, the table of actors, and what changes it.
+use mathlib.Core.Bool.{Bool, true, false}
+use mathlib.Core.List.{List, [], _∷_}
+use Prim.Native.Nat.{ℕ}
+use lib.Dec.{eqb}
+use lib.ListN.{getD, set}
+use Rattle.lists.specs.Links.{pick}
+use Rattle.actor.specs.declared.state.Mode.{Mode}
+use Rattle.actor.specs.declared.state.Mode.the-variants as mode
+use Rattle.actor.specs.declared.state.Wake.{Wake}
+use Rattle.actor.specs.declared.state.Wake.the-variants as wake
+use Rattle.actor.specs.declared.state.EvalRun.{EvalRun}
+use Rattle.actor.specs.declared.state.EvalRun.the-variants as run
+use Rattle.actor.specs.declared.state.Actor.{Actor}
+
+-- ---- cells
+
+abbrev pub modeOf : ℕ → Mode
+modeOf n = pick (eqb n 0) mode.Fixed mode.Eval
+
+abbrev pub modeCell : Mode → ℕ
+modeCell mode.Fixed = 0
+modeCell mode.Eval = 1
+
+abbrev pub flagOf : ℕ → Bool
+flagOf n = pick (eqb n 0) false true
+
+abbrev pub flagCell : Bool → ℕ
+flagCell true = 1
+flagCell false = 0
+
+abbrev pub wakeOf : ℕ → ℕ → Wake
+wakeOf tag ns = pick (eqb tag 0) wake.Never (wake.At ns)
+
+abbrev pub wakeTag : Wake → ℕ
+wakeTag (wake.At ns) = 1
+wakeTag wake.Never = 0
+
+abbrev pub wakeNumber : Wake → ℕ
+wakeNumber (wake.At ns) = ns
+wakeNumber wake.Never = 0
+
+abbrev pub runOf : ℕ → ℕ → EvalRun
+runOf tag ns = pick (eqb tag 0) run.Nothing (run.Until ns)
+
+abbrev pub runTag : EvalRun → ℕ
+runTag (run.Until ns) = 1
+runTag run.Nothing = 0
+
+abbrev pub runNumber : EvalRun → ℕ
+runNumber (run.Until ns) = ns
+runNumber run.Nothing = 0
+
+unfoldable pub actorOf : List ℕ → Actor
+actorOf c =
+    record {
+      mode = modeOf (getD c 0 0);
+      started = flagOf (getD c 1 0);
+      ran = flagOf (getD c 2 0);
+      idle = flagOf (getD c 3 0);
+      runnable = flagOf (getD c 4 0);
+      scheduled = flagOf (getD c 5 0);
+      blocked = flagOf (getD c 6 0);
+      consumed = flagOf (getD c 7 0);
+      «wake_at» = wakeOf (getD c 8 0) (getD c 9 0);
+      run = runOf (getD c 10 0) (getD c 11 0);
+    }
+
+unfoldable pub actorCells : Actor → List ℕ
+actorCells a =
+    modeCell (a .mode) ∷ flagCell (a .started) ∷ flagCell (a .ran) ∷ flagCell (a .idle) ∷ flagCell (a .runnable) ∷ flagCell (a .scheduled)
+    ∷ flagCell (a .blocked) ∷ flagCell (a .consumed) ∷ wakeTag (a .«wake_at») ∷ wakeNumber (a .«wake_at») ∷ runTag (a .run) ∷ runNumber (a .run) ∷ []
+
+unfoldable pub actorAt : List (List ℕ) → ℕ → Actor
+actorAt l k = actorOf (getD l k [])
+
+unfoldable pub putActor : List (List ℕ) → ℕ → Actor → List (List ℕ)
+putActor l k a = set l k (actorCells a)
+
+-- ---- changes
+
+abbrev pub newActor : Mode → Actor
+newActor m =
+    record { mode = m; started = false; ran = false; idle = false; runnable = false; scheduled = false; blocked = false; consumed = false; «wake_at» = wake.Never; run = run.Nothing }
+
+-- a message came to its mailbox
+abbrev pub deliveredTo : Actor → Actor
+deliveredTo a =
+    record { mode = a .mode; started = a .started; ran = a .ran; idle = false; runnable = a .runnable; scheduled = a .scheduled; blocked = a .blocked; consumed = a .consumed; «wake_at» = a .«wake_at»; run = a .run }
+
+abbrev pub scheduledAs : Actor → Bool → Actor
+scheduledAs a b =
+    record { mode = a .mode; started = a .started; ran = a .ran; idle = a .idle; runnable = a .runnable; scheduled = b; blocked = a .blocked; consumed = a .consumed; «wake_at» = a .«wake_at»; run = a .run }
+
+-- a step begins
+abbrev pub beganStep : Actor → Actor
+beganStep a =
+    record { mode = a .mode; started = a .started; ran = true; idle = a .idle; runnable = false; scheduled = a .scheduled; blocked = a .blocked; consumed = a .consumed; «wake_at» = a .«wake_at»; run = a .run }
+
+abbrev pub startedAs : Actor → Actor
+startedAs a =
+    record { mode = a .mode; started = true; ran = a .ran; idle = a .idle; runnable = a .runnable; scheduled = a .scheduled; blocked = a .blocked; consumed = a .consumed; «wake_at» = a .«wake_at»; run = a .run }
+
+abbrev pub idledAs : Actor → Actor
+idledAs a =
+    record { mode = a .mode; started = a .started; ran = a .ran; idle = true; runnable = a .runnable; scheduled = a .scheduled; blocked = a .blocked; consumed = a .consumed; «wake_at» = a .«wake_at»; run = a .run }
+
+abbrev pub consumedAs : Actor → Actor
+consumedAs a =
+    record { mode = a .mode; started = a .started; ran = a .ran; idle = a .idle; runnable = a .runnable; scheduled = a .scheduled; blocked = a .blocked; consumed = true; «wake_at» = a .«wake_at»; run = a .run }
+
+abbrev pub yieldedAs : Actor → Actor
+yieldedAs a =
+    record { mode = a .mode; started = a .started; ran = a .ran; idle = a .idle; runnable = true; scheduled = a .scheduled; blocked = a .blocked; consumed = a .consumed; «wake_at» = a .«wake_at»; run = a .run }
+
+abbrev pub runningTo : Actor → EvalRun → Actor
+runningTo a r =
+    record { mode = a .mode; started = a .started; ran = a .ran; idle = a .idle; runnable = a .runnable; scheduled = a .scheduled; blocked = a .blocked; consumed = a .consumed; «wake_at» = a .«wake_at»; run = r }
+
+-- parked on a host call, woken at the latest at w
+abbrev pub blockedTo : Actor → Wake → Actor
+blockedTo a w =
+    record { mode = a .mode; started = a .started; ran = a .ran; idle = a .idle; runnable = a .runnable; scheduled = a .scheduled; blocked = true; consumed = a .consumed; «wake_at» = w; run = a .run }
+
+-- its wait ended
+abbrev pub wokenAs : Actor → Actor
+wokenAs a =
+    record { mode = a .mode; started = a .started; ran = a .ran; idle = a .idle; runnable = true; scheduled = a .scheduled; blocked = false; consumed = a .consumed; «wake_at» = wake.Never; run = a .run }
+
+-- ---- reads
+
+abbrev pub hasRun : EvalRun → Bool
+hasRun (run.Until ns) = true
+hasRun run.Nothing = false
+
+abbrev pub deadlineOf : EvalRun → ℕ
+deadlineOf (run.Until ns) = ns
+deadlineOf run.Nothing = 0

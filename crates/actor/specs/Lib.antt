@@ -1,0 +1,4 @@
+-- Definitions and statements.
+pub mod Messages
+pub mod Questions
+pub mod Actors

@@ -1,0 +1,428 @@
+-- What each operation on a row of keys does to the list that the row stands for. Assumes nothing.
+use mathlib.Core.Path.{_≡_, refl, sym, ap, _∙_}
+use mathlib.Core.Bool.{Bool, true, false, false≢true}
+use mathlib.Core.Logic.{_≢_}
+use mathlib.Core.List.{List, [], _∷_, _++_, append-nil, append-assoc}
+use Prim.Native.Nat.{ℕ, zero, suc, _+_, _-_, _≤_, _<_}
+use native.Mathlib.Numerals.{add-one}
+use native.Mathlib.Nat.{suc-sub-suc, sub-zero}
+use native.Mathlib.Omega.{arith}
+use native.Mathlib.Decide.{ℕ-discrete, decLt}
+use borrow.Author.Tests.{eq-eqb, ne-eqb, lt-ltb, le-ltb}
+use lib.Dec.{eqb, ltb}
+use lib.ListN.{length, getD, set, take, drop, length-set, length-append, length-take, length-drop}
+use lib.Seq.{take-all, take-take, take-append-le, take-suc-set, length-take-le, take-nil}
+use Rattle.lists.specs.declared.keys.Key.{Key}
+use Rattle.lists.specs.declared.keys.Key.the-variants.{At, Nothing}
+use Rattle.lists.specs.Links.{pick}
+use Rattle.lists.specs.Family.{count}
+use Rattle.lists.specs.KeyLists.{blankRow, countOf, keysOf, Held, elem, movedLast, frontOf, holdsOf, popFront, popEnd, appendOf, addAbsent, squeezeOf, pushOf, headKey, withKey, firstsFrom, firsts, pushed}
+use Rattle.lists.proofs.Counts.{count-append, count-split, count-same, count-other}
+
+-- ---- elem and count
+
+pub elem-count : (k : ℕ) (xs : List ℕ) → elem k xs ≡ false → count k xs ≡ 0
+unfolding elem count
+elem-count k [] p = refl
+elem-count k (x ∷ xs) p = go (ℕ-discrete x k) (elem-count k xs)
+  where
+    go : Dec (x ≡ k) → (elem k xs ≡ false → count k xs ≡ 0) → pick (eqb x k) 1 0 + count k xs ≡ 0
+    go (yes e) later = absurd (false≢true (sym p ∙ rw (eq-eqb x k e)))
+    go (no e) later = rw (ne-eqb x k e) (omega (arith, later (rw (ne-eqb x k e) at p)))
+
+pub elem-counted : (k : ℕ) (xs : List ℕ) → elem k xs ≡ true → 0 < count k xs
+unfolding elem count
+elem-counted k [] p = absurd (false≢true p)
+elem-counted k (x ∷ xs) p = go (ℕ-discrete x k) (elem-counted k xs)
+  where
+    go : Dec (x ≡ k) → (elem k xs ≡ true → 0 < count k xs) → 0 < pick (eqb x k) 1 0 + count k xs
+    go (yes e) later = rw (eq-eqb x k e) (omega arith)
+    go (no e) later = rw (ne-eqb x k e) (omega (arith, later (rw (ne-eqb x k e) at p)))
+
+pub elem-last : (k : ℕ) (xs : List ℕ) → elem k (xs ++ (k ∷ [])) ≡ true
+unfolding elem
+elem-last k [] = rw (eq-eqb k k refl)
+elem-last k (x ∷ xs) = rw (elem-last k xs) (go (eqb x k))
+  where
+    go : (b : Bool) → pick b true true ≡ true
+    go true = refl
+    go false = refl
+
+pub elem-more : (k j : ℕ) (xs : List ℕ) → elem k xs ≡ true → elem k (xs ++ (j ∷ [])) ≡ true
+unfolding elem
+elem-more k j [] p = absurd (false≢true p)
+elem-more k j (x ∷ xs) p = go (eqb x k) p (elem-more k j xs)
+  where
+    go : (b : Bool) → pick b true (elem k xs) ≡ true → (elem k xs ≡ true → elem k (xs ++ (j ∷ [])) ≡ true) → pick b true (elem k (xs ++ (j ∷ []))) ≡ true
+    go true q later = refl
+    go false q later = later q
+
+-- ---- rows
+
+-- a row of 65 cells is a count and 64 keys
+pub length-keys : (c : List ℕ) → Held c → length (keysOf c) ≡ countOf c
+length-keys c held = length-take-le (countOf c) (drop 1 c) (rw length-drop (omega (arith, held .sized, held .few)))
+
+pub held-blank : Held blankRow
+held-blank = record { sized = refl; few = omega arith }
+
+-- `front` tells the first key
+pub front-is : (c : List ℕ) → Held c → frontOf c ≡ headKey (keysOf c)
+front-is [] held = absurd (omega (arith, held .sized))
+front-is (n ∷ []) held = absurd (omega (arith, held .sized))
+front-is (zero ∷ k ∷ ks) held = refl
+front-is (suc n ∷ k ∷ ks) held = rw (ne-eqb (suc n) 0 (λ z. omega arith))
+
+-- `pop_front`: the first key is gone
+pub pop-front-is : (c : List ℕ) → Held c → keysOf (popFront c) ≡ drop 1 (keysOf c)
+unfolding popFront movedLast
+pop-front-is [] held = absurd (omega (arith, held .sized))
+pop-front-is (n ∷ []) held = absurd (omega (arith, held .sized))
+pop-front-is (zero ∷ k ∷ ks) held = refl
+pop-front-is (suc n ∷ k ∷ ks) held =
+    rw (ne-eqb (suc n) 0 (λ z. omega arith), suc-sub-suc n 0, sub-zero n)
+    (take-append-le n ks (0 ∷ []) (omega (arith, held .sized, held .few)))
+
+pub pop-front-held : (c : List ℕ) → Held c → Held (popFront c)
+unfolding popFront movedLast
+pop-front-held [] held = absurd (omega (arith, held .sized))
+pop-front-held (n ∷ []) held = absurd (omega (arith, held .sized))
+pop-front-held (zero ∷ k ∷ ks) held = held
+pop-front-held (suc n ∷ k ∷ ks) held =
+    rw (ne-eqb (suc n) 0 (λ z. omega arith))
+    (record { sized = omega (arith, held .sized, length-append ks (0 ∷ [])); few = omega (arith, held .few) })
+
+-- `pop_end`: the last key is gone
+pub pop-end-is : (c : List ℕ) → Held c → keysOf (popEnd c) ≡ take (length (keysOf c) - 1) (keysOf c)
+unfolding popEnd
+pop-end-is [] held = absurd (omega (arith, held .sized))
+pop-end-is (zero ∷ ks) held = refl
+pop-end-is (suc n ∷ ks) held =
+    rw (ne-eqb (suc n) 0 (λ z. omega arith), length-keys (suc n ∷ ks) held)
+    (sym (take-take (suc n - 1) (suc n) ks (omega arith)))
+
+pub pop-end-held : (c : List ℕ) → Held c → Held (popEnd c)
+unfolding popEnd
+pop-end-held [] held = absurd (omega (arith, held .sized))
+pop-end-held (zero ∷ ks) held = held
+pop-end-held (suc n ∷ ks) held =
+    rw (ne-eqb (suc n) 0 (λ z. omega arith)) (record { sized = held .sized; few = omega (arith, held .few) })
+
+-- a key joins a list that is not full
+pub append-is : (c : List ℕ) (k : ℕ) → Held c → countOf c < 64 → keysOf (appendOf c k) ≡ keysOf c ++ (k ∷ [])
+unfolding appendOf
+append-is [] k held room = absurd (omega (arith, held .sized))
+append-is (n ∷ ks) k held room = rw (lt-ltb n 64 room, add-one n) (take-suc-set ks n k (omega (arith, held .sized)))
+
+pub append-held : (c : List ℕ) (k : ℕ) → Held c → Held (appendOf c k)
+unfolding appendOf
+append-held [] k held = absurd (omega (arith, held .sized))
+append-held (n ∷ ks) k held = go (decLt n 64)
+  where
+    go : Dec (n < 64) → Held (appendOf (n ∷ ks) k)
+    go (yes room) = rw (lt-ltb n 64 room, add-one n) (record { sized = omega (arith, held .sized, length-set ks n k); few = omega arith })
+    go (no full) = rw (le-ltb n 64 (omega arith)) held
+
+-- ---- the squeeze
+
+-- a list in which no key stands twice, each below `top`, is no longer than `top`
+without : ℕ → List ℕ → List ℕ
+without e [] = []
+without e (x ∷ xs) = pick (eqb x e) (without e xs) (x ∷ without e xs)
+
+length-without : (e : ℕ) (xs : List ℕ) → length (without e xs) + count e xs ≡ length xs
+unfolding without count
+length-without e [] = refl
+length-without e (x ∷ xs) = go (ℕ-discrete x e) (length-without e xs)
+  where
+    go : Dec (x ≡ e) → length (without e xs) + count e xs ≡ length xs
+        → length (pick (eqb x e) (without e xs) (x ∷ without e xs)) + (pick (eqb x e) 1 0 + count e xs) ≡ suc (length xs)
+    go (yes p) later = rw (eq-eqb x e p) (omega arith)
+    go (no p) later = rw (ne-eqb x e p) (omega arith)
+
+count-without : (e k : ℕ) (xs : List ℕ) → count k (without e xs) ≤ count k xs
+unfolding without count
+count-without e k [] = omega arith
+count-without e k (x ∷ xs) = go (ℕ-discrete x e) (count-without e k xs)
+  where
+    go : Dec (x ≡ e) → count k (without e xs) ≤ count k xs → count k (pick (eqb x e) (without e xs) (x ∷ without e xs)) ≤ pick (eqb x k) 1 0 + count k xs
+    go (yes p) later = rw (eq-eqb x e p) (omega arith)
+    go (no p) later = rw (ne-eqb x e p) (omega arith)
+
+count-gone : (e : ℕ) (xs : List ℕ) → count e (without e xs) ≡ 0
+unfolding without count
+count-gone e [] = refl
+count-gone e (x ∷ xs) = go (ℕ-discrete x e) (count-gone e xs)
+  where
+    go : Dec (x ≡ e) → count e (without e xs) ≡ 0 → count e (pick (eqb x e) (without e xs) (x ∷ without e xs)) ≡ 0
+    go (yes p) later = rw (eq-eqb x e p) later
+    go (no p) later = rw (ne-eqb x e p, ne-eqb x e p) (omega arith)
+
+-- every key of a list is below `top`
+abbrev pub Under : ℕ → List ℕ → Type 0
+Under top xs = (k : ℕ) → 0 < count k xs → k < top
+
+-- no key stands twice
+abbrev pub Once : List ℕ → Type 0
+Once xs = (k : ℕ) → count k xs ≤ 1
+
+none-under : (xs : List ℕ) → Under 0 xs → length xs ≡ 0
+none-under [] under = refl
+none-under (x ∷ xs) under = absurd (omega (arith, under x (omega (arith, count-same x x xs refl))))
+
+pub at-most : (top : ℕ) (xs : List ℕ) → Under top xs → Once xs → length xs ≤ top
+at-most zero xs under once = omega (arith, none-under xs under)
+at-most (suc top) xs under once = omega (arith, length-without top xs, once top, at-most top (without top xs) lower fewer)
+  where
+    lower : Under top (without top xs)
+    lower k some = go (ℕ-discrete k top)
+      where
+        go : Dec (k ≡ top) → k < top
+        go (yes p) = absurd (omega (arith, some, count-gone top xs, ap (λ (e : ℕ). count e (without top xs)) p))
+        go (no p) = omega (arith, under k (omega (arith, some, count-without top k xs)))
+
+    fewer : Once (without top xs)
+    fewer k = omega (arith, once k, count-without top k xs)
+
+-- the keys of a group are below 16
+abbrev pub KEYS : ℕ
+KEYS = 16
+
+-- a key joins unless it is there: no key then stands twice, and all stay below the top
+module _ (ks : List ℕ) (k : ℕ) where
+  by : (P : List ℕ → Type 0) → (elem k ks ≡ true → P ks) → (elem k ks ≡ false → P (ks ++ (k ∷ []))) → P (withKey ks k)
+  unfolding withKey
+  by P there absent = go (elem k ks) refl
+    where
+      go : (b : Bool) → elem k ks ≡ b → P (pick b ks (ks ++ (k ∷ [])))
+      go true e = there e
+      go false e = absent e
+
+  pub count-joined : (j : ℕ) → count j (ks ++ (k ∷ [])) ≡ count j ks + count j (k ∷ [])
+  count-joined j = count-append j ks (k ∷ [])
+
+  pub count-alone : (j : ℕ) → j ≢ k → count j (k ∷ []) ≡ 0
+  unfolding count
+  count-alone j other = rw (ne-eqb k j (λ e. other (sym e)))
+
+  pub count-itself : count k (k ∷ []) ≡ 1
+  unfolding count
+  count-itself = rw (eq-eqb k k refl)
+
+  pub with-once : Once ks → Once (withKey ks k)
+  with-once once = by Once (λ e. once) (λ e j. go e j (ℕ-discrete j k))
+    where
+      go : elem k ks ≡ false → (j : ℕ) → Dec (j ≡ k) → count j (ks ++ (k ∷ [])) ≤ 1
+      go e j (yes p) = rw p (omega (arith, count-joined k, elem-count k ks e, count-itself))
+      go e j (no p) = omega (arith, count-joined j, once j, count-alone j p)
+
+  pub with-under : (top : ℕ) → Under top ks → k < top → Under top (withKey ks k)
+  with-under top under low = by (Under top) (λ e. under) (λ e j some. go j some (ℕ-discrete j k))
+    where
+      go : (j : ℕ) → 0 < count j (ks ++ (k ∷ [])) → Dec (j ≡ k) → j < top
+      go j some (yes p) = omega arith
+      go j some (no p) = under j (omega (arith, some, count-joined j, count-alone j p))
+
+append-under : (top : ℕ) (ks : List ℕ) (k : ℕ) → Under top ks → k < top → Under top (ks ++ (k ∷ []))
+append-under top ks k under low j some = go (ℕ-discrete j k)
+  where
+    go : Dec (j ≡ k) → j < top
+    go (yes p) = omega arith
+    go (no p) = under j (omega (arith, some, count-joined ks k j, count-alone ks k j p))
+
+-- a row whose keys are below 16, and none stands twice
+pub record Single (c : List ℕ) : Type 0 where
+  pub held : Held c
+  pub once : Once (keysOf c)
+  pub under : Under KEYS (keysOf c)
+
+single-few : (c : List ℕ) → Single c → countOf c ≤ KEYS
+single-few c single = omega (arith, length-keys c (single .held), at-most KEYS (keysOf c) (single .under) (single .once))
+
+module _ (c : List ℕ) (k : ℕ) (single : Single c) where
+  add-absent-is : keysOf (addAbsent c k) ≡ withKey (keysOf c) k
+  unfolding addAbsent holdsOf withKey
+  add-absent-is = go (elem k (keysOf c))
+    where
+      go : (b : Bool) → keysOf (pick b c (appendOf c k)) ≡ pick b (keysOf c) (keysOf c ++ (k ∷ []))
+      go true = refl
+      go false = append-is c k (single .held) (omega (arith, single-few c single))
+
+  add-absent-held : Held (addAbsent c k)
+  unfolding addAbsent
+  add-absent-held = go (holdsOf c k)
+    where
+      go : (b : Bool) → Held (pick b c (appendOf c k))
+      go true = single .held
+      go false = append-held c k (single .held)
+
+  pub add-absent-single : k < KEYS → Single (addAbsent c k)
+  add-absent-single low =
+      record {
+        held = add-absent-held;
+        once = rw add-absent-is (with-once (keysOf c) k (single .once));
+        under = rw add-absent-is (with-under (keysOf c) k KEYS (single .under) low);
+      }
+
+under-tail : (top x : ℕ) (xs : List ℕ) → Under top (x ∷ xs) → Under top xs
+unfolding count
+under-tail top x xs under k some = under k (omega arith)
+
+-- squeezing keys into a row is taking each one's first entry
+pub squeeze-is : (c ks : List ℕ) → Single c → Under KEYS ks → (keysOf (squeezeOf c ks) ≡ firstsFrom (keysOf c) ks) × Single (squeezeOf c ks)
+unfolding squeezeOf firstsFrom
+squeeze-is c [] single under = (refl, single)
+squeeze-is c (k ∷ ks) single under =
+    let more = squeeze-is (addAbsent c k) ks (add-absent-single c k single (under k (omega (arith, count-same k k ks refl)))) (under-tail KEYS k ks under) in
+    (rw (← add-absent-is c k single) (more .0), more .1)
+
+-- ---- push
+
+single-blank : Single blankRow
+unfolding count
+single-blank = record { held = held-blank; once = λ k. omega arith; under = λ k some. absurd (omega arith) }
+
+-- a full row's keys are all its cells
+full-keys : (c : List ℕ) → Held c → 64 ≤ countOf c → keysOf c ≡ drop 1 c
+full-keys c held full = take-all (countOf c) (drop 1 c) (rw length-drop (omega (arith, held .sized)))
+
+module _ (c : List ℕ) (k : ℕ) (held : Held c) (under : Under KEYS (keysOf c)) (low : k < KEYS) where
+  squeezed : 64 ≤ countOf c → (keysOf (squeezeOf blankRow (drop 1 c)) ≡ firsts (keysOf c)) × Single (squeezeOf blankRow (drop 1 c))
+  squeezed full = rw (full-keys c held full) (squeeze-is blankRow (drop 1 c) single-blank (rw (full-keys c held full) at under))
+
+  -- `push`: at the end; a full list is squeezed first, and then the key joins if it is absent
+  pub push-is : keysOf (pushOf c k) ≡ pushed (keysOf c) k
+  unfolding pushOf
+  push-is = go (decLt (countOf c) 64)
+    where
+      go : Dec (countOf c < 64) → keysOf (pushOf c k) ≡ pushed (keysOf c) k
+      go (yes room) = rw (length-keys c held, lt-ltb (countOf c) 64 room) (append-is c k held room)
+      go (no p) =
+          let full : 64 ≤ countOf c = omega arith in
+          rw (length-keys c held, le-ltb (countOf c) 64 full)
+          (add-absent-is (squeezeOf blankRow (drop 1 c)) k (squeezed full .1) ∙ ap (λ (ks : List ℕ). withKey ks k) (squeezed full .0))
+
+  pub push-held : Held (pushOf c k)
+  unfolding pushOf
+  push-held = go (decLt (countOf c) 64)
+    where
+      go : Dec (countOf c < 64) → Held (pushOf c k)
+      go (yes room) = rw (lt-ltb (countOf c) 64 room) (append-held c k held)
+      go (no p) =
+          let full : 64 ≤ countOf c = omega arith in
+          rw (le-ltb (countOf c) 64 full) (add-absent-held (squeezeOf blankRow (drop 1 c)) k (squeezed full .1))
+
+  push-under : Under KEYS (keysOf (pushOf c k))
+  unfolding pushOf
+  push-under = go (decLt (countOf c) 64)
+    where
+      go : Dec (countOf c < 64) → Under KEYS (keysOf (pushOf c k))
+      go (yes room) = rw (lt-ltb (countOf c) 64 room, append-is c k held room) (append-under KEYS (keysOf c) k under low)
+      go (no p) =
+          let full : 64 ≤ countOf c = omega arith in
+          rw (le-ltb (countOf c) 64 full) (add-absent-single (squeezeOf blankRow (drop 1 c)) k (squeezed full .1) low .under)
+
+-- ---- no key is lost
+
+with-there : (ks : List ℕ) (k : ℕ) → elem k (withKey ks k) ≡ true
+with-there ks k = by ks k (λ (l : List ℕ). elem k l ≡ true) (λ e. e) (λ e. elem-last k ks)
+
+with-keeps : (ks : List ℕ) (k j : ℕ) → elem j ks ≡ true → elem j (withKey ks k) ≡ true
+with-keeps ks k j there = by ks k (λ (l : List ℕ). elem j l ≡ true) (λ e. there) (λ e. elem-more j k ks there)
+
+firsts-seen : (seen ks : List ℕ) (j : ℕ) → elem j seen ≡ true → elem j (firstsFrom seen ks) ≡ true
+unfolding firstsFrom
+firsts-seen seen [] j there = there
+firsts-seen seen (k ∷ ks) j there = firsts-seen (withKey seen k) ks j (with-keeps seen k j there)
+
+-- a squeeze keeps an entry of each key
+pub firsts-keep : (seen ks : List ℕ) (j : ℕ) → elem j ks ≡ true → elem j (firstsFrom seen ks) ≡ true
+unfolding firstsFrom elem
+firsts-keep seen [] j there = absurd (false≢true there)
+firsts-keep seen (k ∷ ks) j there = go (ℕ-discrete k j) (firsts-keep (withKey seen k) ks j)
+  where
+    go : Dec (k ≡ j) → (elem j ks ≡ true → elem j (firstsFrom (withKey seen k) ks) ≡ true) → elem j (firstsFrom (withKey seen k) ks) ≡ true
+    go (yes same) later = firsts-seen (withKey seen k) ks j (rw (← same) (with-there seen k))
+    go (no other) later = later (rw (ne-eqb k j other) at there)
+
+-- what is pushed stands in the list, and so does what stood there
+pub push-there : (ks : List ℕ) (k : ℕ) → elem k (pushed ks k) ≡ true
+push-there ks k = go (ltb (length ks) 64)
+  where
+    go : (b : Bool) → elem k (pick b (ks ++ (k ∷ [])) (withKey (firsts ks) k)) ≡ true
+    go true = elem-last k ks
+    go false = with-there (firsts ks) k
+
+pub push-keeps : (ks : List ℕ) (k j : ℕ) → elem j ks ≡ true → elem j (pushed ks k) ≡ true
+push-keeps ks k j there = go (ltb (length ks) 64)
+  where
+    go : (b : Bool) → elem j (pick b (ks ++ (k ∷ [])) (withKey (firsts ks) k)) ≡ true
+    go true = elem-more j k ks there
+    go false = with-keeps (firsts ks) k j (firsts-keep [] ks j there)
+
+-- ---- rows of keys below 16, as a pool keeps them
+
+pub record Keyed (c : List ℕ) : Type 0 where
+  pub held : Held c
+  pub under : Under KEYS (keysOf c)
+
+pub keyed-blank : Keyed blankRow
+keyed-blank = record { held = held-blank; under = single-blank .under }
+
+pub keyed-push : (c : List ℕ) (k : ℕ) → Keyed c → k < KEYS → Keyed (pushOf c k)
+keyed-push c k keyed low = record { held = push-held c k (keyed .held) (keyed .under) low; under = push-under c k (keyed .held) (keyed .under) low }
+
+pub keyed-pop-front : (c : List ℕ) → Keyed c → Keyed (popFront c)
+keyed-pop-front c keyed =
+    record {
+      held = pop-front-held c (keyed .held);
+      under = λ k some. keyed .under k (omega (arith, count-split k 1 (keysOf c), ap (count k) (pop-front-is c (keyed .held))));
+    }
+
+pub keyed-pop-end : (c : List ℕ) → Keyed c → Keyed (popEnd c)
+keyed-pop-end c keyed =
+    record {
+      held = pop-end-held c (keyed .held);
+      under = λ k some. keyed .under k (omega (arith, count-split k (length (keysOf c) - 1) (keysOf c), ap (count k) (pop-end-is c (keyed .held))));
+    }
+
+-- ---- waking: the waiting list goes once round
+
+-- the keys of which p holds, in order
+unfoldable pub keep : (ℕ → Bool) → List ℕ → List ℕ
+keep p [] = []
+keep p (k ∷ ks) = pick (p k) (k ∷ keep p ks) (keep p ks)
+
+-- the first key is taken, and put at the end if p holds of it
+unfoldable pub round : (ℕ → Bool) → List ℕ → List ℕ
+round p [] = []
+round p (k ∷ ks) = pick (p k) (ks ++ (k ∷ [])) ks
+
+unfoldable pub rounds : (ℕ → Bool) → ℕ → List ℕ → List ℕ
+rounds p zero ks = ks
+rounds p (suc n) ks = rounds p n (round p ks)
+
+rounds-after : (p : ℕ → Bool) (ks done : List ℕ) → rounds p (length ks) (ks ++ done) ≡ done ++ keep p ks
+unfolding rounds round keep
+rounds-after p [] done = sym (append-nil done)
+rounds-after p (k ∷ ks) done = go (p k) (rounds-after p ks)
+  where
+    go : (b : Bool) → ((more : List ℕ) → rounds p (length ks) (ks ++ more) ≡ more ++ keep p ks)
+        → rounds p (length ks) (pick b ((ks ++ done) ++ (k ∷ [])) (ks ++ done)) ≡ done ++ pick b (k ∷ keep p ks) (keep p ks)
+    go true later = rw (append-assoc ks done (k ∷ [])) (later (done ++ (k ∷ [])) ∙ append-assoc done (k ∷ []) (keep p ks))
+    go false later = later done
+
+-- as many rounds as there are keys leave those of which p holds, in order
+pub rounds-keep : (p : ℕ → Bool) (ks : List ℕ) → rounds p (length ks) ks ≡ keep p ks
+rounds-keep p ks = rw (append-nil ks) at (rounds-after p ks [])
+
+-- in a row a round never squeezes: what was taken makes room
+pub round-row : (c : List ℕ) (k : ℕ) → Held c → 0 < countOf c → keysOf (pushOf (popFront c) k) ≡ drop 1 (keysOf c) ++ (k ∷ [])
+unfolding pushOf
+round-row c k held some =
+    let fewer = few-after c held some in
+    rw (lt-ltb (countOf (popFront c)) 64 fewer)
+    (append-is (popFront c) k (pop-front-held c held) fewer ∙ ap (λ (ks : List ℕ). ks ++ (k ∷ [])) (pop-front-is c held))
+  where
+    few-after : (d : List ℕ) → Held d → 0 < countOf d → countOf (popFront d) < 64
+    few-after d h more = omega (arith, length-keys (popFront d) (pop-front-held d h), ap length (pop-front-is d h), length-drop 1 (keysOf d), length-keys d h, h .few)

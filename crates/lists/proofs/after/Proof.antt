@@ -1,0 +1,14 @@
+use borrow.Author.Needs.{needs}
+use Rattle.lists.proofs.after.Statement.{statement}
+use Rattle.lists.proofs.after.Tie as tie
+
+link-at-requires : tie.Need-link-at-requires
+link-at-requires c κs = search needs
+
+returns : tie.Need-returns
+returns c =
+    let e1 = c .link-at .ensures in
+    simp (e1)
+
+pub after-spec : {M : Type 1} → statement M
+after-spec = tie.close (tie.spec link-at-requires returns)

@@ -1,0 +1,26 @@
+use borrow.Author.Tests.{le-ltb, lt-ltb}
+use Rattle.lists.specs.Links.{handOf}
+use borrow.Author.Needs.{needs}
+use Rattle.lists.proofs.hand.Statement.{statement}
+use Rattle.lists.proofs.hand.Tie as tie
+
+mul-result : tie.Need-mul-result
+mul-result c = search needs
+
+add-result : tie.Need-add-result
+add-result c = search needs
+
+returns : tie.Need-returns
+unfolding handOf
+returns c =
+    let h1 = lt-ltb _ _ (c .if1 .taken) in
+    simp (h1)
+
+returns-2 : tie.Need-returns-2
+unfolding handOf
+returns-2 c =
+    let h1 = le-ltb _ _ (c .if1 .left) in
+    simp (h1)
+
+pub hand-spec : {M : Type 1} → statement M
+hand-spec = tie.close (tie.spec mul-result add-result returns returns-2)

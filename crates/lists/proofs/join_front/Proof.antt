@@ -1,0 +1,60 @@
+use borrow.Author.Tests.{eq-eqb, ne-eqb}
+use Rattle.lists.specs.Links.{joinFront}
+use borrow.Author.Needs.{needs}
+use Rattle.lists.proofs.join_front.Statement.{statement}
+use Rattle.lists.proofs.join_front.Tie as tie
+
+link-at-requires : tie.Need-link-at-requires
+link-at-requires c κs = search needs
+
+sum-requires : tie.Need-sum-requires
+sum-requires c κs = search needs
+
+set-next-requires : tie.Need-set-next-requires
+set-next-requires c κs = search needs
+
+set-ends-requires : tie.Need-set-ends-requires
+set-ends-requires c κs = search needs
+
+set-ends-requires-2 : tie.Need-set-ends-requires-2
+set-ends-requires-2 c κs = search needs
+
+same-length : tie.Need-same-length
+same-length c = search needs
+
+returns : tie.Need-returns
+unfolding joinFront
+returns c =
+    let e1 = c .before .before .before .before .before .before .before .before .link-at .ensures in
+    let e2 = c .before .before .before .before .before .before .before .sum .ensures in
+    let e3 = c .before .before .before .before .before .set-next .ensures in
+    let h1 = simp (e1, e2, e3) at (eq-eqb _ _ (c .before .before .before .if1 .taken)) in
+    let e4 = c .before .set-ends .ensures in
+    simp (e1, e2, e3, e4, h1)
+
+same-length-2 : tie.Need-same-length-2
+same-length-2 c = search needs
+
+returns-2 : tie.Need-returns-2
+unfolding joinFront
+returns-2 c =
+    let e1 = c .before .before .before .before .before .before .before .before .link-at .ensures in
+    let e2 = c .before .before .before .before .before .before .before .sum .ensures in
+    let e3 = c .before .before .before .before .before .set-next .ensures in
+    let h1 = simp (e1, e2, e3) at (ne-eqb _ _ (c .before .before .before .if1 .left)) in
+    let e4 = c .before .set-ends2 .ensures in
+    simp (e1, e2, e3, e4, h1)
+
+pub join-front-spec : {M : Type 1} → statement M
+join-front-spec =
+    tie.close
+    (tie.spec
+    link-at-requires
+    sum-requires
+    set-next-requires
+    set-ends-requires
+    set-ends-requires-2
+    same-length
+    returns
+    same-length-2
+    returns-2)

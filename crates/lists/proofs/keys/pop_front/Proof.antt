@@ -1,0 +1,34 @@
+use borrow.Author.Tests.{eq-eqb, ne-eqb}
+use Rattle.lists.specs.KeyLists.{popFront}
+use borrow.Author.Needs.{needs}
+use Rattle.lists.proofs.keys.pop_front.Statement.{statement}
+use Rattle.lists.proofs.keys.pop_front.Tie as tie
+
+array-read-n : tie.Need-array-read-n
+array-read-n c = search needs
+
+returns : tie.Need-returns
+unfolding popFront
+returns c =
+    let h1 = eq-eqb _ _ (c .if1 .taken) in
+    simp (h1)
+
+shifted-requires : tie.Need-shifted-requires
+shifted-requires c κs = search needs
+
+sub-b : tie.Need-sub-b
+sub-b c = search needs
+
+array-write-b : tie.Need-array-write-b
+array-write-b c = search needs
+
+returns-2 : tie.Need-returns-2
+unfolding popFront
+returns-2 c =
+    let h1 = ne-eqb _ _ (c .before .if1 .left) in
+    let e1 = c .shifted .ensures in
+    simp (e1, h1)
+
+pub pop-front-spec : {M : Type 1} → statement M
+pop-front-spec =
+    tie.close (tie.spec array-read-n returns shifted-requires sub-b array-write-b returns-2)

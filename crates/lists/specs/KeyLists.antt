@@ -1,0 +1,96 @@
+-- Lists of at most 64 keys as rows of cells, and what each operation makes of a row: exact, and of every row.
+-- `keysOf c` is the list that a row stands for.
+use mathlib.Core.Path.{_≡_}
+use mathlib.Core.Bool.{Bool, true, false}
+use mathlib.Core.List.{List, [], _∷_, _++_}
+use Prim.Native.Nat.{ℕ, zero, suc, _+_, _-_, _≤_}
+use lib.Dec.{eqb, ltb, leb}
+use lib.ListN.{length, getD, set, take, drop, replicate}
+use Rattle.lists.specs.declared.keys.Key.{Key}
+use Rattle.lists.specs.declared.keys.Key.the-variants.{At, Nothing}
+use Rattle.lists.specs.Links.{pick}
+
+-- an empty list
+abbrev pub blankRow : List ℕ
+blankRow = replicate 65 0
+
+-- row i of a table of key lists
+abbrev pub keysAt : List (List ℕ) → ℕ → List ℕ
+keysAt t i = getD t i blankRow
+
+abbrev pub countOf : List ℕ → ℕ
+countOf c = getD c 0 0
+
+-- the keys, in order
+abbrev pub keysOf : List ℕ → List ℕ
+keysOf c = take (countOf c) (drop 1 c)
+
+pub record Held (c : List ℕ) : Type 0 where
+  pub sized : length c ≡ 65
+  pub few : countOf c ≤ 64
+
+-- whether k stands in a list
+unfoldable pub elem : ℕ → List ℕ → Bool
+elem k [] = false
+elem k (x ∷ xs) = pick (eqb x k) true (elem k xs)
+
+-- element i taken out, and a put behind the others; past the end nothing changes
+unfoldable pub movedLast : List ℕ → ℕ → ℕ → List ℕ
+movedLast [] i a = []
+movedLast (x ∷ xs) zero a = xs ++ (a ∷ [])
+movedLast (x ∷ xs) (suc i) a = x ∷ movedLast xs i a
+
+-- ---- operations on rows
+
+abbrev pub frontOf : List ℕ → Key
+frontOf c = pick (eqb (countOf c) 0) Nothing (At (getD c 1 0))
+
+abbrev pub lastOf : List ℕ → Key
+lastOf c = pick (eqb (countOf c) 0) Nothing (pick (ltb (countOf c) 65) (At (getD c (countOf c) 0)) Nothing)
+
+unfoldable pub holdsOf : List ℕ → ℕ → Bool
+holdsOf c k = elem k (keysOf c)
+
+unfoldable pub popFront : List ℕ → List ℕ
+popFront c = pick (eqb (countOf c) 0) c (set (movedLast c 1 0) 0 (countOf c - 1))
+
+unfoldable pub popEnd : List ℕ → List ℕ
+popEnd c = pick (eqb (countOf c) 0) c (set c 0 (countOf c - 1))
+
+unfoldable pub appendOf : List ℕ → ℕ → List ℕ
+appendOf c k = pick (ltb (countOf c) 64) (set (set c (countOf c + 1) k) 0 (countOf c + 1)) c
+
+unfoldable pub addAbsent : List ℕ → ℕ → List ℕ
+addAbsent c k = pick (holdsOf c k) c (appendOf c k)
+
+-- each of some keys is added unless it is there
+unfoldable pub squeezeOf : List ℕ → List ℕ → List ℕ
+squeezeOf c [] = c
+squeezeOf c (k ∷ ks) = squeezeOf (addAbsent c k) ks
+
+-- a full list first keeps only each key's first entry; then the key is added if absent
+unfoldable pub pushOf : List ℕ → ℕ → List ℕ
+pushOf c k = pick (ltb (countOf c) 64) (appendOf c k) (addAbsent (squeezeOf blankRow (drop 1 c)) k)
+
+-- ---- the same of lists of keys
+
+-- the first of a list, and its last
+abbrev pub headKey : List ℕ → Key
+headKey [] = Nothing
+headKey (x ∷ xs) = At x
+
+-- a key is added unless it is there
+unfoldable pub withKey : List ℕ → ℕ → List ℕ
+withKey ks k = pick (elem k ks) ks (ks ++ (k ∷ []))
+
+-- each key's first entry, after those seen before
+unfoldable pub firstsFrom : List ℕ → List ℕ → List ℕ
+firstsFrom seen [] = seen
+firstsFrom seen (k ∷ ks) = firstsFrom (withKey seen k) ks
+
+abbrev pub firsts : List ℕ → List ℕ
+firsts ks = firstsFrom [] ks
+
+-- 01's rule for a list of 64: squeezed when full, then added if absent
+abbrev pub pushed : List ℕ → ℕ → List ℕ
+pushed ks k = pick (ltb (length ks) 64) (ks ++ (k ∷ [])) (withKey (firsts ks) k)

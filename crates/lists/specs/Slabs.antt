@@ -1,0 +1,46 @@
+-- The keys of a group's actors as slab 0.4 gives them: the last freed key first, else the next that never was one.
+-- A row of cells: the free keys, last freed last, as a list of keys; in the last cell how many keys were ever given.
+use mathlib.Core.Path.{_≡_}
+use mathlib.Core.Bool.{Bool, true, false}
+use mathlib.Core.List.{List, [], _∷_}
+use Prim.Native.Nat.{ℕ, zero, suc, _+_, _-_, _≤_, _<_}
+use lib.Dec.{eqb, ltb}
+use lib.ListN.{length, getD, set}
+use Rattle.lists.specs.declared.keys.Key.{Key}
+use Rattle.lists.specs.declared.keys.Key.the-variants.{At, Nothing}
+use Rattle.lists.specs.Links.{pick}
+use Rattle.lists.specs.Family.{count}
+use Rattle.lists.specs.KeyLists.{countOf, keysOf, lastOf, holdsOf, popEnd, appendOf}
+
+abbrev pub givenOf : List ℕ → ℕ
+givenOf s = getD s 64 0
+
+-- an actor has key k
+unfoldable pub containsOf : List ℕ → ℕ → Bool
+containsOf s k = pick (ltb k (givenOf s)) (pick (holdsOf s k) false true) false
+
+-- the key of the next actor
+unfoldable pub vacantOf : List ℕ → Key
+vacantOf s = pick (eqb (countOf s) 0) (pick (ltb (givenOf s) 16) (At (givenOf s)) Nothing) (lastOf s)
+
+unfoldable pub insertOf : List ℕ → List ℕ
+insertOf s = pick (eqb (countOf s) 0) (pick (ltb (givenOf s) 16) (set s 64 (givenOf s + 1)) s) (popEnd s)
+
+unfoldable pub removeOf : List ℕ → ℕ → List ℕ
+removeOf s k = pick (containsOf s k) (appendOf s k) s
+
+abbrev pub liveCount : List ℕ → ℕ
+liveCount s = givenOf s - countOf s
+
+-- the first key of an actor among the n from k on
+unfoldable pub nextKey : List ℕ → ℕ → ℕ → Key
+nextKey s zero k = Nothing
+nextKey s (suc n) k = pick (containsOf s k) (At k) (nextKey s n (k + 1))
+
+pub record Sound (s : List ℕ) : Type 0 where
+  pub sized : length s ≡ 65
+  pub few : givenOf s ≤ 16
+  pub fewer : countOf s ≤ givenOf s
+  -- the free keys are different ones of those given
+  pub once : (k : ℕ) → count k (keysOf s) ≤ 1
+  pub given : (k : ℕ) → 0 < count k (keysOf s) → k < givenOf s

@@ -1,0 +1,3 @@
+-- Laws of an actor's steps.
+pub mod Times
+pub mod Kept

@@ -1,0 +1,50 @@
+use Rattle.steps.specs.StepEval.{clockReply}
+use borrow.Author.Needs.{needs}
+use Rattle.steps.proofs.eval.clock_reply.Statement.{statement}
+use Rattle.steps.proofs.eval.clock_reply.Tie as tie
+
+clock-in-requires : tie.Need-clock-in-requires
+clock-in-requires c κs = search needs
+
+enum-known-came : tie.Need-enum-known-came
+enum-known-came c = search needs
+
+eval-clocked-requires : tie.Need-eval-clocked-requires
+eval-clocked-requires c κs = search needs
+
+enum-told : tie.Need-enum-told
+enum-told c = search needs
+
+same-length : tie.Need-same-length
+same-length c = search needs
+
+same-length-2 : tie.Need-same-length-2
+same-length-2 c = search needs
+
+returns : tie.Need-returns
+unfolding clockReply
+returns c =
+    let e1 = c .before .before .before .before .before .before .before .before .clock-in .ensures in
+    let h1 = simp (e1) at (c .before .before .before .before .before .before .came .given .1) in
+    let e2 = c .before .before .eval-clocked .ensures in
+    simp (e1, e2, h1)
+
+returns-2 : tie.Need-returns-2
+unfolding clockReply
+returns-2 c =
+    let e1 = c .before .before .clock-in .ensures in
+    let h1 = simp (e1) at (c .enum-told .given .1) in
+    simp (e1, h1)
+
+pub clock-reply-spec : {M : Type 1} → statement M
+clock-reply-spec =
+    tie.close
+    (tie.spec
+    clock-in-requires
+    enum-known-came
+    eval-clocked-requires
+    enum-told
+    same-length
+    same-length-2
+    returns
+    returns-2)

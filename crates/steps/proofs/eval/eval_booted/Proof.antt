@@ -1,0 +1,30 @@
+use Rattle.steps.specs.StepEval.{evalBooted}
+use borrow.Author.Needs.{needs}
+use Rattle.steps.proofs.eval.eval_booted.Statement.{statement}
+use Rattle.steps.proofs.eval.eval_booted.Tie as tie
+
+eval-tell-requires : tie.Need-eval-tell-requires
+eval-tell-requires c κs = search needs
+
+returns : tie.Need-returns
+unfolding evalBooted
+returns c =
+    let h1 = c .if1 .taken in
+    simp (h1)
+
+same-length : tie.Need-same-length
+same-length c = search needs
+
+same-length-2 : tie.Need-same-length-2
+same-length-2 c = search needs
+
+returns-2 : tie.Need-returns-2
+unfolding evalBooted
+returns-2 c =
+    let h1 = c .before .before .before .before .before .if1 .left in
+    let e1 = c .before .before .eval-tell .ensures in
+    simp (e1, h1)
+
+pub eval-booted-spec : {M : Type 1} → statement M
+eval-booted-spec =
+    tie.close (tie.spec eval-tell-requires returns same-length same-length-2 returns-2)

@@ -1,0 +1,53 @@
+use borrow.Author.Tests.{le-leb, lt-leb}
+use Rattle.steps.specs.StepEval.{evalClocked}
+use borrow.Author.Needs.{needs}
+use Rattle.steps.proofs.eval.eval_clocked.Statement.{statement}
+use Rattle.steps.proofs.eval.eval_clocked.Tie as tie
+
+actor-at-requires : tie.Need-actor-at-requires
+actor-at-requires c κs = search needs
+
+deadline-of-requires : tie.Need-deadline-of-requires
+deadline-of-requires c κs = search needs
+
+eval-finish-requires : tie.Need-eval-finish-requires
+eval-finish-requires c κs = search needs
+
+same-length : tie.Need-same-length
+same-length c = search needs
+
+same-length-2 : tie.Need-same-length-2
+same-length-2 c = search needs
+
+returns : tie.Need-returns
+unfolding evalClocked
+returns c =
+    let e1 = c .before .before .before .before .before .before .before .actor-at .ensures in
+    let e2 = c .before .before .before .before .before .before .deadline-of .ensures in
+    let h1 = simp (e1, e2) at (le-leb _ _ (c .before .before .before .before .before .if1 .taken)) in
+    let e3 = c .before .before .eval-finish .ensures in
+    simp (e1, e2, e3, h1)
+
+same-length-3 : tie.Need-same-length-3
+same-length-3 c = search needs
+
+returns-2 : tie.Need-returns-2
+unfolding evalClocked
+returns-2 c =
+    let e1 = c .before .before .actor-at .ensures in
+    let e2 = c .before .deadline-of .ensures in
+    let h1 = simp (e1, e2) at (lt-leb _ _ (c .if1 .left)) in
+    simp (e1, e2, h1)
+
+pub eval-clocked-spec : {M : Type 1} → statement M
+eval-clocked-spec =
+    tie.close
+    (tie.spec
+    actor-at-requires
+    deadline-of-requires
+    eval-finish-requires
+    same-length
+    same-length-2
+    returns
+    same-length-3
+    returns-2)

@@ -1,0 +1,51 @@
+use borrow.Author.Tests.{le-ltb, lt-ltb}
+use Rattle.steps.specs.StepEval.{evalDispatched}
+use borrow.Author.Needs.{needs}
+use Rattle.steps.proofs.eval.eval_dispatched.Statement.{statement}
+use Rattle.steps.proofs.eval.eval_dispatched.Tie as tie
+
+actor-at-requires : tie.Need-actor-at-requires
+actor-at-requires c κs = search needs
+
+deadline-of-requires : tie.Need-deadline-of-requires
+deadline-of-requires c κs = search needs
+
+same-length : tie.Need-same-length
+same-length c = search needs
+
+returns : tie.Need-returns
+unfolding evalDispatched
+returns c =
+    let h1 = lt-ltb _ _ (c .before .before .before .if1 .taken) in
+    let e1 = c .before .actor-at .ensures in
+    let e2 = c .deadline-of .ensures in
+    simp (e1, e2, h1)
+
+eval-finish-requires : tie.Need-eval-finish-requires
+eval-finish-requires c κs = search needs
+
+same-length-2 : tie.Need-same-length-2
+same-length-2 c = search needs
+
+same-length-3 : tie.Need-same-length-3
+same-length-3 c = search needs
+
+returns-2 : tie.Need-returns-2
+unfolding evalDispatched
+returns-2 c =
+    let h1 = le-ltb _ _ (c .before .before .before .before .before .if1 .left) in
+    let e1 = c .before .before .eval-finish .ensures in
+    simp (e1, h1)
+
+pub eval-dispatched-spec : {M : Type 1} → statement M
+eval-dispatched-spec =
+    tie.close
+    (tie.spec
+    actor-at-requires
+    deadline-of-requires
+    same-length
+    returns
+    eval-finish-requires
+    same-length-2
+    same-length-3
+    returns-2)

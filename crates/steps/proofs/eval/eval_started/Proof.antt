@@ -1,0 +1,53 @@
+use Rattle.steps.specs.StepEval.{evalStarted}
+use borrow.Author.Needs.{needs}
+use Rattle.steps.proofs.eval.eval_started.Statement.{statement}
+use Rattle.steps.proofs.eval.eval_started.Tie as tie
+
+deadline-requires : tie.Need-deadline-requires
+deadline-requires c κs = search needs
+
+actor-at-requires : tie.Need-actor-at-requires
+actor-at-requires c κs = search needs
+
+running-requires : tie.Need-running-requires
+running-requires c κs = search needs
+
+put-actor-requires : tie.Need-put-actor-requires
+put-actor-requires c κs = search needs
+
+hand-requires : tie.Need-hand-requires
+hand-requires c κs = search needs
+
+move-first-requires : tie.Need-move-first-requires
+move-first-requires c κs = search needs
+
+same-length : tie.Need-same-length
+same-length c = search needs
+
+same-length-2 : tie.Need-same-length-2
+same-length-2 c = search needs
+
+returns : tie.Need-returns
+unfolding evalStarted
+returns c =
+    let e1 = c .before .before .before .before .before .before .before .before .before .before .deadline .ensures in
+    let e2 = c .before .before .before .before .before .before .before .before .actor-at .ensures in
+    let e3 = c .before .before .before .before .before .before .before .running .ensures in
+    let e4 = c .before .before .before .before .before .put-actor .ensures in
+    let e5 = c .before .before .before .hand .ensures in
+    let e6 = c .before .move-first .ensures in
+    simp (e1, e2, e3, e4, e5, e6)
+
+pub eval-started-spec : {M : Type 1} → statement M
+eval-started-spec =
+    tie.close
+    (tie.spec
+    deadline-requires
+    actor-at-requires
+    running-requires
+    put-actor-requires
+    hand-requires
+    move-first-requires
+    same-length
+    same-length-2
+    returns)

@@ -1,0 +1,23 @@
+use Rattle.steps.specs.StepFixed.{fixedFailed}
+use borrow.Author.Needs.{needs}
+use Rattle.steps.proofs.fixed.fixed_failed.Statement.{statement}
+use Rattle.steps.proofs.fixed.fixed_failed.Tie as tie
+
+hand-requires : tie.Need-hand-requires
+hand-requires c κs = search needs
+
+move-first-requires : tie.Need-move-first-requires
+move-first-requires c κs = search needs
+
+same-length : tie.Need-same-length
+same-length c = search needs
+
+returns : tie.Need-returns
+unfolding fixedFailed
+returns c =
+    let e1 = c .before .before .before .hand .ensures in
+    let e2 = c .before .move-first .ensures in
+    simp (e1, e2)
+
+pub fixed-failed-spec : {M : Type 1} → statement M
+fixed-failed-spec = tie.close (tie.spec hand-requires move-first-requires same-length returns)

@@ -1,0 +1,5 @@
+-- Definitions and statements.
+pub mod Steps
+pub mod StepFixed
+pub mod StepEval
+pub mod RowEnds

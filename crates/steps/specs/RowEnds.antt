@@ -1,0 +1,77 @@
+-- The starred row ends, as one list. 01's row end 8: tick_ns 300,000,000, timeout 1, clock 100: the deadline is 900,000,100; at it the run ends,
+-- one earlier it is resumed. Each test is a truth value that the definitions compute; proofs/Times.antt has the list's one truth.
+use mathlib.Core.Bool.{Bool, true, false}
+use mathlib.Core.List.{List, [], _∷_, _++_}
+use Prim.Native.Nat.{ℕ}
+use lib.Dec.{eqb}
+use Rattle.log.specs.RowEnds as Log
+use Rattle.lists.specs.Links.{pick, LISTS, Table, moveFirst, startFrom}
+use Rattle.actor.specs.declared.message.Caller.the-variants as caller
+use Rattle.actor.specs.declared.message.Logged.the-variants as logged
+use Rattle.actor.specs.declared.question.Outcome.{Outcome}
+use Rattle.actor.specs.declared.question.Outcome.the-variants as outcome
+use Rattle.actor.specs.declared.question.Reply.the-variants as reply
+use Rattle.actor.specs.declared.state.Mode.the-variants as mode
+use Rattle.steps.specs.declared.eval.EvalAt.{EvalAt}
+use Rattle.steps.specs.declared.eval.EvalAt.the-variants as at
+use Rattle.steps.specs.declared.eval.Limit.{Limit}
+use Rattle.actor.specs.Messages.{messageCells}
+use Rattle.actor.specs.Actors.{actorCells, actorAt, newActor, deadlineOf}
+use Rattle.steps.specs.Steps.{FREE, HAND}
+use Rattle.steps.specs.StepEval.{EvalBoth, stepEval}
+
+-- the caller is told that the run was late
+abbrev pub isLate : Outcome → Bool
+isLate outcome.Ran = false
+isLate outcome.Unbooted = false
+isLate outcome.Broke = false
+isLate outcome.Raised = false
+isLate outcome.Late = true
+isLate outcome.StuckHostCall = false
+isLate outcome.StuckReceive = false
+
+abbrev pub tellsLate : EvalAt → Bool
+tellsLate at.Clock = false
+tellsLate at.Boot = false
+tellsLate at.StartClock = false
+tellsLate (at.Run start) = false
+tellsLate at.Dispatch = false
+tellsLate (at.Tell o) = isLate o
+tellsLate (at.End e) = false
+
+-- the run is resumed
+abbrev pub resumes : EvalAt → Bool
+resumes at.Clock = false
+resumes at.Boot = false
+resumes at.StartClock = false
+resumes (at.Run start) = pick start false true
+resumes at.Dispatch = false
+resumes (at.Tell o) = false
+resumes (at.End e) = false
+
+abbrev limit : Limit
+limit = record { timeout = 1; tick = 300000000 }
+
+-- one message, of caller 7, in the step's hand of an eval actor
+abbrev links : Table
+links = moveFirst (startFrom 0 LISTS) FREE HAND
+
+abbrev rows : Table
+rows = messageCells (record { attempts = 0; name = 0; body = 0; caller = caller.From (record { 0 = 7 }); id = logged.Never }) ∷ []
+
+abbrev actors : Table
+actors = actorCells (newActor mode.Eval) ∷ []
+
+-- its run is started at clock 100, and later the clock is asked again
+unfoldable pub begun : EvalBoth
+begun = stepEval links rows actors 0 limit at.StartClock (reply.Clock 100)
+
+unfoldable pub asked : ℕ → EvalAt
+asked c = stepEval (begun .links) rows (begun .actors) 0 limit at.Clock (reply.Clock c) .at
+
+unfoldable pub deadlines : List Bool
+deadlines = eqb (deadlineOf (actorAt (begun .actors) 0 .run)) 900000100 ∷ tellsLate (asked 900000100) ∷ resumes (asked 900000099) ∷ []
+
+-- all starred row ends: the log's, 1 to 7, and this one
+unfoldable pub starred : List Bool
+starred = Log.rowEnds ++ deadlines

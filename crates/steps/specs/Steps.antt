@@ -1,0 +1,57 @@
+-- What both steps do: mail is taken, a message is over, an actor is idle.
+use mathlib.Core.Bool.{Bool, true, false}
+use mathlib.Core.List.{List}
+use Prim.Native.Nat.{ℕ, _-_}
+use lib.Dec.{eqb}
+use Rattle.lists.specs.declared.Found.{Found}
+use Rattle.lists.specs.declared.Found.the-variants.{Entry, Nothing}
+use Rattle.lists.specs.Links.{pick, Table, lenOf, firstOf, moveFirst, mailboxOf}
+use Rattle.actor.specs.declared.message.Caller.{Caller}
+use Rattle.actor.specs.declared.message.Caller.the-variants.{From, Nobody}
+use Rattle.actor.specs.declared.message.Logged.{Logged}
+use Rattle.actor.specs.declared.message.Logged.the-variants.{As, Never}
+use Rattle.steps.specs.declared.step.Mail.{Mail}
+use Rattle.actor.specs.Messages.{messageAt}
+use Rattle.actor.specs.Actors.{actorAt, putActor, idledAs}
+
+-- the lists of the places that a step knows
+abbrev pub FREE : ℕ
+FREE = 0
+
+abbrev pub OVER : ℕ
+OVER = 4
+
+abbrev pub HAND : ℕ
+HAND = 5
+
+-- a logged message that is over waits for its mark; any other is done, and its entry free
+abbrev pub placeLogged : Logged → ℕ
+placeLogged (As id) = OVER
+placeLogged Never = FREE
+
+unfoldable pub placeOver : Table → Found → ℕ
+placeOver rows (Entry e) = placeLogged (messageAt rows e .id)
+placeOver rows Nothing = FREE
+
+unfoldable pub callerFirst : Table → Found → Caller
+callerFirst rows (Entry e) = messageAt rows e .caller
+callerFirst rows Nothing = Nobody
+
+-- the first message of a list is over
+unfoldable pub overFirst : Table → Table → ℕ → Table
+overFirst t rows from = moveFirst t from (placeOver rows (firstOf t from))
+
+unfoldable pub idledAt : Table → ℕ → Table
+idledAt actors slot = putActor actors slot (idledAs (actorAt actors slot))
+
+pub record MailTaken : Type 0 where
+  pub links : Table
+  pub actors : Table
+  pub mail : Mail
+
+-- the first message of the mailbox goes to the step's hand, and queued is one less; where there is none the actor is idle
+unfoldable pub takeMail : Table → Table → ℕ → ℕ → MailTaken
+takeMail t actors slot queued =
+    pick (eqb (lenOf t (mailboxOf slot)) 0)
+    (record { links = t; actors = idledAt actors slot; mail = record { taken = false; queued = queued } })
+    (record { links = moveFirst t (mailboxOf slot) HAND; actors = actors; mail = record { taken = true; queued = queued - 1 } })
