@@ -1,0 +1,5 @@
+//! Random texts, files and settings.
+
+pub mod files;
+pub mod settings;
+pub mod texts;

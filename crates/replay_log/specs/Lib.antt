@@ -1,0 +1,5 @@
+pub mod Number
+pub mod Script
+pub mod Step
+pub mod Output
+pub mod Replay
