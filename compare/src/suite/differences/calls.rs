@@ -36,6 +36,15 @@ impl Rust {
         self.wal.append(&mut Message::new(name.into(), body.into()));
     }
 
+    /// An append or a mark.
+    fn call(&mut self, event: &Event) {
+        match event {
+            Event::Append { name, body } => self.append(&String::from_utf8_lossy(name), &String::from_utf8_lossy(body)),
+            Event::Mark(id) => self.wal.ack(*id),
+            _ => unreachable!("the Rust's log has no such call"),
+        }
+    }
+
     fn says(&self) -> String {
         let counters = self.wal.counters();
         let file = fs::read(&self.path).unwrap();
@@ -117,33 +126,40 @@ fn left_body_with_final_cr(run: &mut Run) {
     );
 }
 
-fn no_room_for_a_done_line(run: &mut Run) {
-    let calls = [Event::append(b"", b"abcd"), Event::append(b"", b"abcd"), Event::Mark(0)];
+/// Calls of which the last has no room in a lent log of 16 bytes; the Rust's log grows.
+fn no_room(
+    run: &mut Run,
+    what: &str,
+    input: &str,
+    calls: [Event; 3],
+    of_the_rust: &'static str,
+    of_the_port: &'static str,
+) {
     let mut rust = Rust::open(run, 64, b"");
-    rust.append("", "abcd");
-    rust.append("", "abcd");
-    rust.wal.ack(0);
-    differ(
+    calls.iter().for_each(|call| rust.call(call));
+    let port = port_says(port_calls(16, 64, b"", &calls));
+    differ(run, what, input, says(rust.says(), of_the_rust), says(port, of_the_port));
+}
+
+fn no_room_for_a_done_line(run: &mut Run) {
+    no_room(
         run,
         "no room for a done line",
         r#"L 16, compact_at 64; append "" "abcd"; append "" "abcd"; mark 0"#,
-        says(rust.says(), r#"live 8, size 18, file "0\t\tabcd\n1\t\tabcd\n0\n""#),
-        says(port_says(port_calls(16, 64, b"", &calls)), r#"replace by 8; live 8, size 8, log "1\t\tabcd\n""#),
+        [Event::append(b"", b"abcd"), Event::append(b"", b"abcd"), Event::Mark(0)],
+        r#"live 8, size 18, file "0\t\tabcd\n1\t\tabcd\n0\n""#,
+        r#"replace by 8; live 8, size 8, log "1\t\tabcd\n""#,
     );
 }
 
 fn no_room_for_a_record(run: &mut Run) {
-    let calls = [Event::append(b"", b"abcd"), Event::Mark(0), Event::append(b"", b"efgh")];
-    let mut rust = Rust::open(run, 64, b"");
-    rust.append("", "abcd");
-    rust.wal.ack(0);
-    rust.append("", "efgh");
-    differ(
+    no_room(
         run,
         "no room for a record",
         r#"L 16, compact_at 64; append "" "abcd"; mark 0; append "" "efgh""#,
-        says(rust.says(), r#"live 8, size 18, file "0\t\tabcd\n0\n1\t\tefgh\n""#),
-        says(port_says(port_calls(16, 64, b"", &calls)), r#"replace by 8; live 8, size 8, log "1\t\tefgh\n""#),
+        [Event::append(b"", b"abcd"), Event::Mark(0), Event::append(b"", b"efgh")],
+        r#"live 8, size 18, file "0\t\tabcd\n0\n1\t\tefgh\n""#,
+        r#"replace by 8; live 8, size 8, log "1\t\tefgh\n""#,
     );
 }
 
