@@ -1,0 +1,3 @@
+-- Laws of a group.
+pub mod Loops
+pub mod Keyed

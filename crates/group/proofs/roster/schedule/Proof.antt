@@ -1,0 +1,95 @@
+-- `roster::schedule` meets its contract: an actor that is not there, or is queued already, changes nothing. Assumes nothing.
+use mathlib.Core.Path.{ap₂, sym, _∙_}
+use Rattle.group.specs.Roster.{scheduleOf}
+use Rattle.group.proofs.Keyed.{keyed, schedule-new}
+use borrow.Author.Needs.{needs}
+use Rattle.group.proofs.roster.schedule.Statement.{statement}
+use Rattle.group.proofs.roster.schedule.Tie as tie
+
+live-requires : tie.Need-live-requires
+live-requires c κs = search needs
+
+slot-at-requires : tie.Need-slot-at-requires
+slot-at-requires c κs = search needs
+
+actor-at-requires : tie.Need-actor-at-requires
+actor-at-requires c κs = search needs
+
+same-length : tie.Need-same-length
+same-length c = search needs
+
+same-length-2 : tie.Need-same-length-2
+same-length-2 c = search needs
+
+returns : tie.Need-returns
+unfolding scheduleOf
+returns c =
+    let e1 = c .before .before .before .before .before .live .ensures in
+    let h1 = simp (e1) at (c .before .before .before .before .if1 .taken) in
+    let e2 = c .before .before .before .slot-at .ensures in
+    let e3 = c .before .actor-at .ensures in
+    let h2 = simp (e2, e3) at (c .if2 .taken) in
+    simp (h1, h2)
+
+scheduled-requires : tie.Need-scheduled-requires
+scheduled-requires c κs = search needs
+
+put-actor-requires : tie.Need-put-actor-requires
+put-actor-requires c κs = search needs
+
+ready-row-requires : tie.Need-ready-row-requires
+ready-row-requires c κs = search needs
+
+push-key-requires : tie.Need-push-key-requires
+push-key-requires c κs = search needs
+
+same-length-3 : tie.Need-same-length-3
+same-length-3 c = search needs
+
+same-length-4 : tie.Need-same-length-4
+same-length-4 c = search needs
+
+returns-2 : tie.Need-returns-2
+returns-2 c =
+    let e1 = c .before .before .before .before .before .before .before .before .before .before .before .before .before .live .ensures in
+    let h1 = simp (e1) at (c .before .before .before .before .before .before .before .before .before .before .before .before .if1 .taken) in
+    let e2 = c .before .before .before .before .before .before .before .before .before .before .before .slot-at .ensures in
+    let e3 = c .before .before .before .before .before .before .before .before .before .actor-at .ensures in
+    let h2 = simp (e2, e3) at (c .before .before .before .before .before .before .before .before .if2 .left) in
+    let e4 = c .before .before .before .before .before .before .before .scheduled .ensures in
+    let e5 = c .before .before .before .before .before .put-actor .ensures in
+    let e6 = c .before .before .before .ready-row .ensures in
+    let e7 = c .before .push-key .ensures in
+    let keys = simp (e6) at e7 in
+    let actors = simp (e2, e3, e4) at e5 in
+    ap₂ keyed keys actors ∙ sym (schedule-new _ _ _ _ h1 h2)
+
+same-length-5 : tie.Need-same-length-5
+same-length-5 c = search needs
+
+returns-3 : tie.Need-returns-3
+unfolding scheduleOf
+returns-3 c =
+    let e1 = c .before .live .ensures in
+    let h1 = simp (e1) at (c .if1 .left) in
+    simp (h1)
+
+pub schedule-spec : {M : Type 1} → statement M
+schedule-spec =
+    tie.close
+    (tie.spec
+    live-requires
+    slot-at-requires
+    actor-at-requires
+    same-length
+    same-length-2
+    returns
+    scheduled-requires
+    put-actor-requires
+    ready-row-requires
+    push-key-requires
+    same-length-3
+    same-length-4
+    returns-2
+    same-length-5
+    returns-3)

@@ -1,0 +1,70 @@
+-- `roster::spawn` meets its contract: by whether a key is left. Assumes nothing.
+use Rattle.group.specs.Roster.{Keyed, spawnOf}
+use mathlib.Core.Path.{ap}
+use borrow.Author.Needs.{needs}
+use Rattle.group.proofs.roster.spawn.Statement.{statement}
+use Rattle.group.proofs.roster.spawn.Tie as tie
+
+slab-row-requires : tie.Need-slab-row-requires
+slab-row-requires c κs = search needs
+
+keys-at-requires : tie.Need-keys-at-requires
+keys-at-requires c κs = search needs
+
+vacant-requires : tie.Need-vacant-requires
+vacant-requires c κs = search needs
+
+enum-known-key : tie.Need-enum-known-key
+enum-known-key c = search needs
+
+spawn-key-requires : tie.Need-spawn-key-requires
+spawn-key-requires c κs = search needs
+
+enum-told : tie.Need-enum-told
+enum-told c = search needs
+
+same-length : tie.Need-same-length
+same-length c = search needs
+
+same-length-2 : tie.Need-same-length-2
+same-length-2 c = search needs
+
+returns : tie.Need-returns
+unfolding spawnOf
+returns c =
+    let e1 = c .before .before .before .before .before .before .before .before .before .before .before .slab-row .ensures in
+    let e2 = c .before .before .before .before .before .before .before .before .before .keys-at .ensures in
+    let e3 = c .before .before .before .before .before .before .before .before .vacant .ensures in
+    let h1 = simp (e1, e2, e3) at (c .before .before .before .before .before .before .key .given .1) in
+    let e4 = c .before .before .spawn-key .ensures in
+    let e4-keys = ap (λ (s : Keyed). s .keys) e4 in
+    let e4-actors = ap (λ (s : Keyed). s .actors) e4 in
+    simp (e4-keys, e4-actors, h1)
+
+same-length-3 : tie.Need-same-length-3
+same-length-3 c = search needs
+
+returns-2 : tie.Need-returns-2
+unfolding spawnOf
+returns-2 c =
+    let e1 = c .before .before .before .before .before .slab-row .ensures in
+    let e2 = c .before .before .before .keys-at .ensures in
+    let e3 = c .before .before .vacant .ensures in
+    let h1 = simp (e1, e2, e3) at (c .enum-told .given .1) in
+    simp (h1)
+
+pub spawn-spec : {M : Type 1} → statement M
+spawn-spec =
+    tie.close
+    (tie.spec
+    slab-row-requires
+    keys-at-requires
+    vacant-requires
+    enum-known-key
+    spawn-key-requires
+    enum-told
+    same-length
+    same-length-2
+    returns
+    same-length-3
+    returns-2)

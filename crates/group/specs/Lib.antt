@@ -1,0 +1,4 @@
+-- Definitions and statements.
+pub mod At
+pub mod Settings
+pub mod Roster

@@ -1,0 +1,144 @@
+-- The keys of a group's actors: live, scheduled, spawned, idle, least loaded.
+use mathlib.Core.Bool.{Bool, true, false}
+use mathlib.Core.List.{List}
+use Prim.Native.Nat.{ℕ, zero, suc, _+_, _*_}
+use lib.Dec.{eqb, ltb}
+use lib.ListN.{getD, set}
+use Rattle.lists.specs.declared.keys.Key.{Key}
+use Rattle.lists.specs.declared.keys.Key.the-variants as key
+use Rattle.lists.specs.Links.{pick, Table, lenOf, mailboxOf}
+use Rattle.lists.specs.KeyLists.{keysAt, countOf, lastOf, popEnd, pushOf}
+use Rattle.lists.specs.Slabs.{containsOf, vacantOf, insertOf, liveCount}
+use Rattle.actor.specs.declared.state.Mode.{Mode}
+use Rattle.actor.specs.declared.state.Mode.the-variants as mode
+use Rattle.actor.specs.Questions.{slotOf}
+use Rattle.actor.specs.Actors.{actorAt, putActor, newActor, scheduledAs}
+use Rattle.steps.specs.Steps.{overFirst}
+use Rattle.group.specs.declared.roster.Popped.{Popped}
+use Rattle.group.specs.At.{whoOf}
+
+-- ---- the rows of the table of key lists: four for each of 8 groups, and two for the turn
+
+abbrev pub ROWS : ℕ
+ROWS = 34
+
+-- what is left of the waiting list that is being gone through, and the keys that answered Trapped with yes
+abbrev pub REST : ℕ
+REST = 32
+
+abbrev pub DOOMED : ℕ
+DOOMED = 33
+
+abbrev pub slabRow : ℕ → ℕ
+slabRow g = pick (ltb g 8) (4 * g) ROWS
+
+abbrev pub readyRow : ℕ → ℕ
+readyRow g = pick (ltb g 8) (4 * g + 1) ROWS
+
+abbrev pub idleRow : ℕ → ℕ
+idleRow g = pick (ltb g 8) (4 * g + 2) ROWS
+
+abbrev pub waitingRow : ℕ → ℕ
+waitingRow g = pick (ltb g 8) (4 * g + 3) ROWS
+
+abbrev pub slotAt : ℕ → ℕ → ℕ
+slotAt g k = slotOf (whoOf g k)
+
+-- what an operation on keys changes
+pub record Keyed : Type 0 where
+  pub keys : Table
+  pub actors : Table
+
+pub record Spawned : Type 0 where
+  pub keys : Table
+  pub actors : Table
+  pub key : Key
+
+pub record IdlePopped : Type 0 where
+  pub keys : Table
+  pub key : Key
+
+unfoldable pub pushKey : Table → ℕ → ℕ → Table
+pushKey keys row k = set keys row (pushOf (keysAt keys row) k)
+
+-- the group has an actor of this key
+unfoldable pub liveOf : Table → ℕ → ℕ → Bool
+liveOf keys g k = pick (ltb (slotAt g k) 128) (containsOf (keysAt keys (slabRow g)) k) false
+
+unfoldable pub liveLen : Table → ℕ → ℕ
+liveLen keys g = liveCount (keysAt keys (slabRow g))
+
+-- queued to run, unless it is already
+unfoldable pub scheduleOf : Table → Table → ℕ → ℕ → Keyed
+scheduleOf keys actors g k =
+    pick (liveOf keys g k)
+    (pick (actorAt actors (slotAt g k) .scheduled)
+    (record { keys = keys; actors = actors })
+    (record { keys = pushKey keys (readyRow g) k; actors = putActor actors (slotAt g k) (scheduledAs (actorAt actors (slotAt g k)) true) }))
+    (record { keys = keys; actors = actors })
+
+abbrev pub modeFor : Bool → Mode
+modeFor true = mode.Eval
+modeFor false = mode.Fixed
+
+-- a new actor of this key, queued to run
+unfoldable pub spawnKey : Table → Table → ℕ → ℕ → Bool → Keyed
+spawnKey keys actors g k eval =
+    scheduleOf (set keys (slabRow g) (insertOf (keysAt keys (slabRow g)))) (putActor actors (slotAt g k) (newActor (modeFor eval))) g k
+
+abbrev pub spawnedAs : Keyed → ℕ → Spawned
+spawnedAs s k = record { keys = s .keys; actors = s .actors; key = key.At k }
+
+abbrev pub spawnBy : Table → Table → ℕ → Bool → Key → Spawned
+spawnBy keys actors g eval (key.At k) = spawnedAs (spawnKey keys actors g k eval) k
+spawnBy keys actors g eval key.Nothing = record { keys = keys; actors = actors; key = key.Nothing }
+
+-- Keys follow slab 0.4: the last freed key is given first.
+unfoldable pub spawnOf : Table → Table → ℕ → Bool → Spawned
+spawnOf keys actors g eval = spawnBy keys actors g eval (vacantOf (keysAt keys (slabRow g)))
+
+-- ---- an idle actor
+
+unfoldable pub idleKey : Table → Table → ℕ → ℕ → Bool
+idleKey keys actors g k = pick (liveOf keys g k) (actorAt actors (slotAt g k) .idle) false
+
+-- the last of n keys of an idle list whose actor is still there and idle; it and those after it leave the list
+abbrev pub popped : List ℕ → Key → Popped
+popped row k = record { row = row; key = k }
+
+unfoldable pub popIdleRow : Table → Table → ℕ → ℕ → List ℕ → Popped
+popIdleRow keys actors g zero row = popped row key.Nothing
+popIdleRow keys actors g (suc n) row = elim (lastOf row) [
+  | key.At k ↦ pick (idleKey keys actors g k) (popped (popEnd row) (key.At k)) (popIdleRow keys actors g n (popEnd row))
+  | key.Nothing ↦ popIdleRow keys actors g n (popEnd row)
+]
+
+abbrev pub popIdleIn : Table → ℕ → Popped → IdlePopped
+popIdleIn keys g p = record { keys = set keys (idleRow g) (p .row); key = p .key }
+
+unfoldable pub popIdleOf : Table → Table → ℕ → IdlePopped
+popIdleOf keys actors g = popIdleIn keys g (popIdleRow keys actors g (countOf (keysAt keys (idleRow g))) (keysAt keys (idleRow g)))
+
+-- ---- the least loaded, first of the equals
+
+abbrev pub loadOf : Table → ℕ → ℕ → ℕ
+loadOf links g k = lenOf links (mailboxOf (slotAt g k))
+
+unfoldable pub betterOf : Table → ℕ → Key → ℕ → Key
+betterOf links g (key.At b) k = pick (ltb (loadOf links g k) (loadOf links g b)) (key.At k) (key.At b)
+betterOf links g key.Nothing k = key.At k
+
+-- among n keys from k on
+unfoldable pub leastFrom : List ℕ → Table → ℕ → ℕ → ℕ → Key → Key
+leastFrom given links g zero k best = best
+leastFrom given links g (suc n) k best = leastFrom given links g n (k + 1) (pick (containsOf given k) (betterOf links g best k) best)
+
+unfoldable pub leastOf : Table → Table → ℕ → Key
+leastOf keys links g = leastFrom (keysAt keys (slabRow g)) links g 16 0 key.Nothing
+
+-- ---- messages that are over
+
+-- the first n messages of a list are over
+unfoldable pub overAll : Table → Table → ℕ → ℕ → Table
+overAll links rows from zero = links
+overAll links rows from (suc n) = overAll (overFirst links rows from) rows from n

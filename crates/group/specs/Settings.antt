@@ -1,0 +1,39 @@
+-- A group's settings as cells, and the group of a message's name.
+use mathlib.Core.Bool.{Bool, true, false}
+use mathlib.Core.List.{List, []}
+use Prim.Native.Nat.{ℕ, zero, suc, _+_, _*_}
+use lib.Dec.{eqb, ltb, leb}
+use lib.ListN.{getD}
+use Rattle.lists.specs.Links.{pick, Table}
+use Rattle.actor.specs.Actors.{flagOf}
+use Rattle.group.specs.declared.settings.Group.{Group}
+use Rattle.group.specs.declared.settings.Named.{Named}
+use Rattle.group.specs.declared.settings.Named.the-variants as found
+
+abbrev pub groupOf : List ℕ → Group
+groupOf c =
+    record {
+      ceiling = getD c 0 0;
+      eval = flagOf (getD c 1 0);
+      timeout = getD c 2 0;
+      retry = getD c 3 0;
+      name = getD c 4 0;
+    }
+
+unfoldable pub groupAt : Table → ℕ → Group
+groupAt groups g = groupOf (getD groups g [])
+
+-- n bytes of a group's name, from byte i on, are those of the store from `from` + i on
+unfoldable pub agrees : List ℕ → List ℕ → ℕ → ℕ → ℕ → Bool
+agrees row store from i zero = true
+agrees row store from i (suc n) = pick (eqb (getD row (5 + i) 0) (getD store (from + i) 0)) (agrees row store from (suc i) n) false
+
+-- the message of an entry, whose name has len bytes, is for the group of this row: the names are the same
+unfoldable pub named : List ℕ → List ℕ → ℕ → ℕ → Bool
+named row store entry len =
+    pick (leb 256 entry) false (pick (ltb 32 len) false (pick (eqb (getD row 4 0) len) (agrees row store (160 * entry) 0 len) false))
+
+-- Two groups of one name: the later one gets the messages.
+unfoldable pub groupFor : Table → List ℕ → ℕ → ℕ → ℕ → Named
+groupFor groups store entry len zero = found.Nothing
+groupFor groups store entry len (suc g) = pick (named (getD groups g []) store entry len) (found.Group g) (groupFor groups store entry len g)

@@ -1,0 +1,142 @@
+// Where a turn stands: at a question, or between two. What is kept there is in the lists, the actors and the key lists; the rest is here.
+ghost use mathlib.Core.Path.{_≡_};
+ghost use Rattle.group.specs.At.{whoOf, readyAfter, fixedAfter, evalAfter, nextGroup};
+use actor::question::Who;
+use steps::eval::EvalAt;
+use steps::fixed::FixedAt;
+use steps::step::Step;
+
+// The step under way: its actor, the tick's clock, and how many keys its group still has to pop after it.
+pub struct Cursor {
+    pub group: usize,
+    pub key: u8,
+    pub now: u64,
+    pub pops: u64,
+}
+
+pub enum At {
+    // no turn
+    Rest,
+    // the first turn's spawns, from this group on
+    Seed(usize),
+    // Boot of a seed is asked
+    SeedBoot(usize),
+    // the inbox is taken in, at most so many messages more
+    Intake(u64),
+    // the batch is routed, at most so many messages more
+    Route(u64),
+    // Boot is asked, for the first message of the batch
+    RouteBoot(usize, u64),
+    // the tick's clock is asked
+    TickClock,
+    // a group's waiting actors are looked at, with the tick's clock
+    Wake(usize, u64),
+    // at most so many more of them
+    WakeNext(usize, u64, u64),
+    // Poll is asked, of an actor of the group
+    WakePoll(usize, u8, u64, u64),
+    // the group's ready list is popped, so many times
+    Ready(usize, u64, u64),
+    // a step of a fixed actor
+    Fixed(Cursor, FixedAt),
+    // a step of an eval actor
+    Eval(Cursor, EvalAt),
+    // what the step finished gets its marks
+    StepEnd(Cursor, Step),
+    // Sends is asked
+    Sends(Cursor, Step),
+    // the actor is put back into a list, or released
+    Settle(Cursor, Step),
+    // its mail, where it never took a message, gets its marks; then the crashed message is tried again, or dead
+    Crash(Cursor),
+    // a dead message gets its mark
+    AskTrap(Cursor),
+    // Trap is asked
+    Trap(Cursor),
+    // Trapped is asked, of the actor with this key
+    Trapped(Cursor, u8),
+    // those that were trapped are retired, at most so many more
+    Doomed(Cursor, u64),
+}
+
+// An actor by its group and key.
+pub fn who_of(group: usize, key: u8) -> Who
+    ensures { λ r. ⌜ r ≡ whoOf group key ⌝ }
+{
+    Who {
+        group,
+        key: key as usize,
+    }
+}
+
+// The group after a group, of 8.
+pub fn next_group(g: usize) -> usize
+    ensures { λ r. ⌜ r ≡ nextGroup g ⌝ }
+{
+    if g < 8 { g + 1 } else { 8 }
+}
+
+// A step is settled: the group's ready list goes on.
+pub fn ready_after(c: Cursor) -> At
+    ensures { λ r. ⌜ r ≡ readyAfter c ⌝ }
+{
+    At::Ready(c.group, c.now, c.pops)
+}
+
+// A step of a fixed actor is at its next question, or ended.
+pub fn fixed_after(c: Cursor, at: FixedAt) -> At
+    ensures { λ r. ⌜ r ≡ fixedAfter c at ⌝ }
+{
+    match at {
+        FixedAt::Run(start) => {
+            let next = FixedAt::Run(start);
+            At::Fixed(c, next)
+        }
+        FixedAt::Drain => {
+            let next = FixedAt::Drain;
+            At::Fixed(c, next)
+        }
+        FixedAt::Push => {
+            let next = FixedAt::Push;
+            At::Fixed(c, next)
+        }
+        FixedAt::Dispatch => {
+            let next = FixedAt::Dispatch;
+            At::Fixed(c, next)
+        }
+        FixedAt::End(end) => At::StepEnd(c, end),
+    }
+}
+
+// A step of an eval actor is at its next question, or ended.
+pub fn eval_after(c: Cursor, at: EvalAt) -> At
+    ensures { λ r. ⌜ r ≡ evalAfter c at ⌝ }
+{
+    match at {
+        EvalAt::Clock => {
+            let next = EvalAt::Clock;
+            At::Eval(c, next)
+        }
+        EvalAt::Boot => {
+            let next = EvalAt::Boot;
+            At::Eval(c, next)
+        }
+        EvalAt::StartClock => {
+            let next = EvalAt::StartClock;
+            At::Eval(c, next)
+        }
+        EvalAt::Run(start) => {
+            let next = EvalAt::Run(start);
+            At::Eval(c, next)
+        }
+        EvalAt::Dispatch => {
+            let next = EvalAt::Dispatch;
+            At::Eval(c, next)
+        }
+        EvalAt::Tell(outcome) => {
+            let next = EvalAt::Tell(outcome);
+            At::Eval(c, next)
+        }
+        EvalAt::End(end) => At::StepEnd(c, end),
+    }
+}

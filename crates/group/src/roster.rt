@@ -1,0 +1,241 @@
+// The keys of a group's actors: four rows of the table of key lists for each group (slab, ready, idle, waiting), and two rows for a turn:
+// what is left of a waiting list that is being gone through, and the keys of trapped actors.
+ghost use mathlib.Core.Path.{_≡_};
+ghost use Rattle.group.specs.Roster.{slabRow, readyRow, idleRow, waitingRow, slotAt, pushKey, liveOf, scheduleOf, spawnKey, spawnOf, idleKey, popIdleRow, popIdleOf, betterOf, leastFrom, leastOf, modeFor, liveLen};
+ghost use Rattle.lists.specs.KeyLists.{keysAt, countOf};
+use crate::at;
+use actor::question;
+use actor::state;
+use actor::state::Mode;
+use lists::keys;
+use lists::keys::Key;
+use lists::slab;
+
+// The rest of the waiting list that is being gone through.
+pub const REST: usize = 32;
+
+// The keys that answered Trapped with yes.
+pub const DOOMED: usize = 33;
+
+// As many rows as there are: also a number that no row has.
+pub const ROWS: usize = 34;
+
+pub fn slab_row(g: usize) -> usize
+    ensures { λ r. ⌜ r ≡ slabRow g ⌝ }
+{
+    if g < 8 { 4 * g } else { ROWS }
+}
+
+pub fn ready_row(g: usize) -> usize
+    ensures { λ r. ⌜ r ≡ readyRow g ⌝ }
+{
+    if g < 8 { 4 * g + 1 } else { ROWS }
+}
+
+pub fn idle_row(g: usize) -> usize
+    ensures { λ r. ⌜ r ≡ idleRow g ⌝ }
+{
+    if g < 8 { 4 * g + 2 } else { ROWS }
+}
+
+pub fn waiting_row(g: usize) -> usize
+    ensures { λ r. ⌜ r ≡ waitingRow g ⌝ }
+{
+    if g < 8 { 4 * g + 3 } else { ROWS }
+}
+
+// The slot of an actor among the lists.
+pub fn slot_at(g: usize, key: u8) -> usize
+    ensures { λ r. ⌜ r ≡ slotAt g key ⌝ }
+{
+    let who = at::who_of(g, key);
+    question::slot_of(who)
+}
+
+// A key joins a list.
+pub fn push_key(lists: &mut [[u8; 65]], row: usize, key: u8)
+    ensures { λ r. ⌜ now (lists .exit) ≡ pushKey (now (lists .entry)) row key ⌝ }
+{
+    let held = keys::keys_at(lists, row);
+    let more = keys::push(held, key);
+    keys::put_keys(lists, row, more);
+}
+
+// Whether the group has an actor of this key.
+pub fn live(lists: &[[u8; 65]], g: usize, key: u8) -> bool
+    ensures { λ r. ⌜ r ≡ liveOf (now (lists .entry)) g key ⌝ }
+{
+    let slot = slot_at(g, key);
+    if slot < 128 {
+        let row = slab_row(g);
+        let given = keys::keys_at(lists, row);
+        slab::contains(given, key)
+    } else {
+        false
+    }
+}
+
+// How many actors the group has.
+pub fn live_len(lists: &[[u8; 65]], g: usize) -> u8
+    ensures { λ r. ⌜ r ≡ liveLen (now (lists .entry)) g ⌝ }
+{
+    let row = slab_row(g);
+    let given = keys::keys_at(lists, row);
+    slab::len(given)
+}
+
+// An actor is queued to run, once however often it is woken before its turn.
+pub fn schedule(lists: &mut [[u8; 65]], actors: &mut [[u64; 12]], g: usize, key: u8)
+    ensures { λ r. ⌜ record { keys = now (lists .exit); actors = now (actors .exit) } ≡ scheduleOf (now (lists .entry)) (now (actors .entry)) g key ⌝ }
+{
+    let there = live(lists, g, key);
+    if there {
+        let slot = slot_at(g, key);
+        let a = state::actor_at(actors, slot);
+        let before = a.scheduled;
+        if before {
+            return;
+        }
+        let b = state::scheduled(a, true);
+        state::put_actor(actors, slot, b);
+        let row = ready_row(g);
+        push_key(lists, row, key);
+    }
+}
+
+fn mode_for(eval: bool) -> Mode
+    ensures { λ r. ⌜ r ≡ modeFor eval ⌝ }
+{
+    if eval { Mode::Eval } else { Mode::Fixed }
+}
+
+// A new actor of this key, queued to run.
+fn spawn_key(lists: &mut [[u8; 65]], actors: &mut [[u64; 12]], g: usize, key: u8, eval: bool)
+    ensures { λ r. ⌜ record { keys = now (lists .exit); actors = now (actors .exit) } ≡ spawnKey (now (lists .entry)) (now (actors .entry)) g key eval ⌝ }
+{
+    let row = slab_row(g);
+    let given = keys::keys_at(lists, row);
+    let more = slab::insert(given);
+    keys::put_keys(lists, row, more);
+    let mode = mode_for(eval);
+    let a = state::new_actor(mode);
+    let slot = slot_at(g, key);
+    state::put_actor(actors, slot, a);
+    schedule(lists, actors, g, key);
+}
+
+// A new actor, queued to run, and its key.
+pub fn spawn(lists: &mut [[u8; 65]], actors: &mut [[u64; 12]], g: usize, eval: bool) -> Key
+    ensures { λ r. ⌜ record { keys = now (lists .exit); actors = now (actors .exit); key = r } ≡ spawnOf (now (lists .entry)) (now (actors .entry)) g eval ⌝ }
+{
+    let row = slab_row(g);
+    let given = keys::keys_at(lists, row);
+    match slab::vacant(given) {
+        Key::At(key) => {
+            spawn_key(lists, actors, g, key, eval);
+            Key::At(key)
+        }
+        Key::Nothing => Key::Nothing,
+    }
+}
+
+// Whether the group has an actor of this key that is idle.
+fn idle_key(lists: &[[u8; 65]], actors: &[[u64; 12]], g: usize, key: u8) -> bool
+    ensures { λ r. ⌜ r ≡ idleKey (now (lists .entry)) (now (actors .entry)) g key ⌝ }
+{
+    let there = live(lists, g, key);
+    if there {
+        let slot = slot_at(g, key);
+        let a = state::actor_at(actors, slot);
+        a.idle
+    } else {
+        false
+    }
+}
+
+// A list of keys, and the key that was popped from it.
+pub struct Popped {
+    pub row: [u8; 65],
+    pub key: Key,
+}
+
+// The last key of an idle list whose actor is still there and idle; it and those after it leave the list.
+fn pop_idle_row(lists: &[[u8; 65]], actors: &[[u64; 12]], g: usize, held: [u8; 65]) -> Popped
+    ensures { λ r. ⌜ r ≡ popIdleRow (now (lists .entry)) (now (actors .entry)) g (countOf held) held ⌝ }
+{
+    let mut row = held;
+    let mut n = keys::count(held);
+    while 0 < n {
+        let came = keys::last(row);
+        let next = keys::pop_end(row);
+        row = next;
+        n -= 1;
+        match came {
+            Key::At(key) => {
+                let idle = idle_key(lists, actors, g, key);
+                if idle {
+                    return Popped {
+                        row,
+                        key: Key::At(key),
+                    };
+                }
+            }
+            Key::Nothing => {}
+        }
+    }
+    Popped {
+        row,
+        key: Key::Nothing,
+    }
+}
+
+// An idle actor of the group, taken from its idle list.
+pub fn pop_idle(lists: &mut [[u8; 65]], actors: &[[u64; 12]], g: usize) -> Key
+    ensures { λ r. ⌜ record { keys = now (lists .exit); key = r } ≡ popIdleOf (now (lists .entry)) (now (actors .entry)) g ⌝ }
+{
+    let row = idle_row(g);
+    let held = keys::keys_at(lists, row);
+    let popped = pop_idle_row(lists, actors, g, held);
+    let left = popped.row;
+    keys::put_keys(lists, row, left);
+    popped.key
+}
+
+// The less loaded of an actor and the best so far, of equals the best so far.
+fn better(links: &[[u64; 4]], g: usize, best: Key, key: u8) -> Key
+    ensures { λ r. ⌜ r ≡ betterOf (now (links .entry)) g best key ⌝ }
+{
+    match best {
+        Key::At(b) => {
+            let this = lists::mailbox(slot_at(g, key));
+            let that = lists::mailbox(slot_at(g, b));
+            let here = lists::length_of(links, this);
+            let there = lists::length_of(links, that);
+            if here < there {
+                Key::At(key)
+            } else {
+                Key::At(b)
+            }
+        }
+        Key::Nothing => Key::At(key),
+    }
+}
+
+// The actor of the group with the fewest messages in its mailbox, the first of the equals.
+pub fn least_loaded(lists: &[[u8; 65]], links: &[[u64; 4]], g: usize) -> Key
+    ensures { λ r. ⌜ r ≡ leastOf (now (lists .entry)) (now (links .entry)) g ⌝ }
+{
+    let row = slab_row(g);
+    let given = keys::keys_at(lists, row);
+    let mut best = Key::Nothing;
+    let mut key: u8 = 0;
+    while key < 16 {
+        let there = slab::contains(given, key);
+        if there {
+            let next = better(links, g, best, key);
+            best = next;
+        }
+        key += 1;
+    }
+    best
+}

@@ -1,0 +1,143 @@
+// A group's settings: a row of 37 cells, the ceiling, whether it is eval, the timeout, the retries, the length of its name, and the name's 32 bytes.
+ghost use mathlib.Core.Path.{_≡_};
+ghost use mathlib.Core.List.{[]};
+ghost use Prim.Native.Nat.{_+_, _*_, _<_};
+ghost use lib.ListN.{getD};
+ghost use Rattle.actor.specs.Actors.{flagOf};
+ghost use Rattle.group.specs.Settings.{groupOf, groupAt, agrees, named, groupFor};
+
+pub struct Group {
+    // the most actors: the lesser of its replicas and max_actors
+    pub ceiling: u64,
+    pub eval: bool,
+    // seconds
+    pub timeout: u64,
+    pub retry: u64,
+    // the length of its name
+    pub name: u64,
+}
+
+// The group that a message's name stands for.
+pub enum Named {
+    Group(usize),
+    Nothing,
+}
+
+fn flag_of(n: u64) -> bool
+    ensures { λ r. ⌜ r ≡ flagOf n ⌝ }
+{
+    if n == 0 { false } else { true }
+}
+
+fn group_of(c: [u64; 37]) -> Group
+    ensures { λ r. ⌜ r ≡ groupOf c ⌝ }
+{
+    let eval = flag_of(c[1]);
+    Group {
+        ceiling: c[0],
+        eval,
+        timeout: c[2],
+        retry: c[3],
+        name: c[4],
+    }
+}
+
+fn no_group() -> Group
+    ensures { λ r. ⌜ r ≡ groupOf [] ⌝ }
+{
+    Group {
+        ceiling: 0,
+        eval: false,
+        timeout: 0,
+        retry: 0,
+        name: 0,
+    }
+}
+
+// A row of the table, past its end an empty one.
+pub fn group_at(groups: &[[u64; 37]], g: usize) -> Group
+    ensures { λ r. ⌜ r ≡ groupAt (now (groups .entry)) g ⌝ }
+{
+    if g < groups.len() {
+        let c = groups[g];
+        group_of(c)
+    } else {
+        no_group()
+    }
+}
+
+// A byte of the store, past its end 0.
+fn byte_at(store: &[u8], i: usize) -> u8
+    ensures { λ r. ⌜ r ≡ getD (now (store .entry)) i 0 ⌝ }
+{
+    if i < store.len() { store[i] } else { 0 }
+}
+
+// A cell of a row, past its end 0.
+fn cell_of(row: [u64; 37], i: usize) -> u64
+    ensures { λ r. ⌜ r ≡ getD row i 0 ⌝ }
+{
+    if i < 37 { row[i] } else { 0 }
+}
+
+// A cell of a group's row, past the table's end 0.
+fn cell_at(groups: &[[u64; 37]], g: usize, i: usize) -> u64
+    ensures { λ r. ⌜ r ≡ getD (getD (now (groups .entry)) g []) i 0 ⌝ }
+{
+    if g < groups.len() {
+        let c = groups[g];
+        cell_of(c, i)
+    } else {
+        0
+    }
+}
+
+// Whether a group's name has the n bytes of the store from `from` on.
+fn same_name(groups: &[[u64; 37]], g: usize, store: &[u8], from: usize, n: usize) -> bool
+    requires { ⌜ (from < 65536) × (n < 65536) ⌝ }
+    ensures { λ r. ⌜ r ≡ agrees (getD (now (groups .entry)) g []) (now (store .entry)) from 0 n ⌝ }
+{
+    let mut i: usize = 0;
+    while i < n {
+        let a = cell_at(groups, g, 5 + i);
+        let b = byte_at(store, from + i);
+        if a != b as u64 {
+            return false;
+        }
+        i += 1;
+    }
+    true
+}
+
+// Whether the message of an entry, whose name has `len` bytes, is for a group.
+fn is_for(groups: &[[u64; 37]], g: usize, store: &[u8], entry: usize, len: u64) -> bool
+    ensures { λ r. ⌜ r ≡ named (getD (now (groups .entry)) g []) (now (store .entry)) entry len ⌝ }
+{
+    let long = cell_at(groups, g, 4);
+    if 256 <= entry {
+        return false;
+    }
+    if 32 < len {
+        return false;
+    }
+    if long == len {
+        same_name(groups, g, store, 160 * entry, len as usize)
+    } else {
+        false
+    }
+}
+
+// The group of a message's name, of two groups of one name the later one.
+pub fn group_for(groups: &[[u64; 37]], count: usize, store: &[u8], entry: usize, len: u64) -> Named
+    ensures { λ r. ⌜ r ≡ groupFor (now (groups .entry)) (now (store .entry)) entry len count ⌝ }
+{
+    let mut g = count;
+    while 0 < g {
+        g -= 1;
+        let found = is_for(groups, g, store, entry, len);
+        if found {
+            return Named::Group(g);
+        }
+    }
+    Named::Nothing
+}

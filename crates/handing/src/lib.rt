@@ -1,0 +1,1 @@
+// What an opening hands back: definitions and laws, no code.

@@ -1,0 +1,219 @@
+-- A step of an actor keeps every message in its place, or moves it to another one. Assumes nothing.
+use mathlib.Core.Path.{_≡_, refl}
+use mathlib.Core.Bool.{Bool, true, false}
+use Prim.Native.Nat.{ℕ, _-_, _<_}
+use native.Mathlib.Omega.{arith}
+use native.Mathlib.Decide.{ℕ-discrete}
+use borrow.Author.Tests.{eq-eqb, ne-eqb}
+use lib.Dec.{eqb, ltb, leb}
+use Rattle.lists.specs.Links.{pick, Table, lenOf, firstOf, moveFirst, mailboxOf, handOf}
+use Rattle.actor.specs.declared.message.Caller.{Caller}
+use Rattle.actor.specs.declared.message.Caller.the-variants as caller
+use Rattle.actor.specs.declared.question.Status.{Status}
+use Rattle.actor.specs.declared.question.Status.the-variants as status
+use Rattle.actor.specs.declared.question.Outcome.{Outcome}
+use Rattle.actor.specs.declared.question.Outcome.the-variants as outcome
+use Rattle.actor.specs.declared.question.Reply.{Reply}
+use Rattle.actor.specs.declared.question.YesIn.{YesIn}
+use Rattle.actor.specs.declared.question.YesIn.the-variants as yes
+use Rattle.actor.specs.declared.question.ClockIn.{ClockIn}
+use Rattle.actor.specs.declared.question.ClockIn.the-variants as clock
+use Rattle.actor.specs.declared.question.CountIn.{CountIn}
+use Rattle.actor.specs.declared.question.CountIn.the-variants as count
+use Rattle.actor.specs.declared.question.RanIn.{RanIn}
+use Rattle.actor.specs.declared.question.RanIn.the-variants as ran
+use Rattle.actor.specs.Questions.{yesIn, clockIn, countIn, ranIn, isTold}
+use Rattle.actor.specs.Actors.{actorAt, hasRun, deadlineOf}
+use Rattle.steps.specs.declared.fixed.FixedAt.{FixedAt}
+use Rattle.steps.specs.declared.fixed.FixedAt.the-variants as fixed
+use Rattle.steps.specs.declared.eval.EvalAt.{EvalAt}
+use Rattle.steps.specs.declared.eval.EvalAt.the-variants as eval
+use Rattle.steps.specs.declared.eval.Limit.{Limit}
+use Rattle.steps.specs.Steps.{HAND, callerFirst, overFirst, idledAt, MailTaken, takeMail}
+use Rattle.steps.specs.StepFixed.{FixedBoth, stepFixed}
+use Rattle.steps.specs.StepFixed as one
+use Rattle.steps.specs.StepEval.{EvalStarted, EvalBoth, evalStart, stepEval}
+use Rattle.steps.specs.StepEval as two
+use Rattle.places.specs.Places.{Sound, Keeps, HandFull}
+use Rattle.places.proofs.Moves.{desk-hand, desk-held, then-keeps, same-keeps, move-keeps, over-keeps, take-keeps, take-fills, back-keeps}
+
+-- what a transition of a fixed actor keeps
+pub record FixedKeeps (t rows : Table) (s : FixedBoth) : Type 0 where
+  pub keeps : Keeps t rows (s .links) rows (s .step .queued)
+  pub full : HandFull (s .step .at) (s .links)
+
+-- what a transition of an eval actor keeps
+abbrev EvalKeeps : Table → Table → ℕ → EvalBoth → Type 0
+EvalKeeps t rows q s = Keeps t rows (s .links) rows q
+
+-- what holds of both branches holds of the choice
+pub pick-rule : {A : Type 0} (P : A → Type 0) (b : Bool) {x y : A} → (b ≡ true → P x) → (b ≡ false → P y) → P (pick b x y)
+pick-rule P true f g = f refl
+pick-rule P false f g = g refl
+
+-- what holds with mail and without holds of the mail that is taken
+mail-rule : (t l : Table) (slot q : ℕ) (P : MailTaken → Type 0) → P (record { links = t; actors = idledAt l slot; mail = record { taken = false; queued = q } })
+    → (0 < lenOf t (mailboxOf slot) → P (record { links = moveFirst t (mailboxOf slot) HAND; actors = l; mail = record { taken = true; queued = q - 1 } })) → P (takeMail t l slot q)
+unfolding takeMail
+mail-rule t l slot q P none some = go (ℕ-discrete (lenOf t (mailboxOf slot)) 0)
+  where
+    go : Dec (lenOf t (mailboxOf slot) ≡ 0) → P (takeMail t l slot q)
+    go (yes p) = rw (eq-eqb (lenOf t (mailboxOf slot)) 0 p) none
+    go (no p) = rw (ne-eqb (lenOf t (mailboxOf slot)) 0 p) (some (omega arith))
+
+-- the message of the step's hand is over; its caller, where there is one, is told first
+module _ (t rows l : Table) (q slot : ℕ) (sound : Sound t rows q) where
+  over-eval : EvalKeeps t rows q (two.evalOver t rows l slot)
+  unfolding two.evalOver
+  over-eval =
+      let over = over-keeps t rows q sound HAND desk-hand in
+      pick-rule (EvalKeeps t rows q) (eqb (lenOf (overFirst t rows HAND) (mailboxOf slot)) 0) (λ e. over) (λ e. over)
+
+  tell-eval : (o : Outcome) → EvalKeeps t rows q (two.evalTell t rows l slot o)
+  unfolding two.evalTell
+  tell-eval o = go (callerFirst rows (firstOf t HAND))
+    where
+      go : (c : Caller) → EvalKeeps t rows q (two.evalTold t rows l slot o c)
+      go (caller.From id) = same-keeps t rows q sound
+      go caller.Nobody = over-eval
+
+module _ (t rows l : Table) (q slot : ℕ) (sound : Sound t rows q) (slot-is : slot < 128) where
+  same : Keeps t rows t rows q
+  same = same-keeps t rows q sound
+
+  held-to-hand : Keeps t rows (moveFirst t (handOf slot) HAND) rows q
+  held-to-hand = move-keeps t rows q sound (handOf slot) HAND (desk-held slot slot-is) desk-hand
+
+  hand-to-held : Keeps t rows (moveFirst t HAND (handOf slot)) rows q
+  hand-to-held = move-keeps t rows q sound HAND (handOf slot) desk-hand (desk-held slot slot-is)
+
+  held-over : Keeps t rows (overFirst t rows (handOf slot)) rows q
+  held-over = over-keeps t rows q sound (handOf slot) (desk-held slot slot-is)
+
+  -- ---- a fixed actor
+
+  failed-keeps : FixedKeeps t rows (one.keptFixed l q (one.fixedFailed t slot))
+  unfolding one.fixedFailed
+  failed-keeps = record { keeps = held-to-hand; full = omega arith }
+
+  ran-keeps : (s : Status) → FixedKeeps t rows (one.keptFixed l q (one.fixedRan t rows slot s))
+  unfolding one.fixedRan
+  ran-keeps status.Done = record { keeps = held-over; full = omega arith }
+  ran-keeps status.Exit = record { keeps = held-over; full = omega arith }
+  ran-keeps status.Preempted = record { keeps = same; full = omega arith }
+  ran-keeps status.Event = record { keeps = held-over; full = omega arith }
+  ran-keeps status.HostCall = record { keeps = same; full = omega arith }
+  ran-keeps status.Error = failed-keeps
+  ran-keeps status.Broke = failed-keeps
+
+  drained-keeps : (n : ℕ) → FixedKeeps t rows (one.fixedDrained t l slot q n)
+  unfolding one.fixedDrained
+  drained-keeps n =
+      pick-rule (FixedKeeps t rows) (ltb 0 n) (λ e. record { keeps = same; full = omega arith })
+      (λ e. mail-rule t l slot q (λ (m : MailTaken). FixedKeeps t rows (one.fixedMail m)) (record { keeps = same; full = omega arith })
+      (λ some. record { keeps = take-keeps t rows q sound slot slot-is some; full = take-fills t rows q sound slot slot-is some }))
+
+  pushed-keeps : 0 < lenOf t HAND → (b : Bool) → FixedKeeps t rows (one.fixedPushed t l slot q b)
+  unfolding one.fixedPushed
+  pushed-keeps some true = record { keeps = hand-to-held; full = omega arith }
+  pushed-keeps some false = record { keeps = back-keeps t rows q sound slot slot-is some; full = omega arith }
+
+  dispatched-keeps : (n : ℕ) → FixedKeeps t rows (one.keptFixed l q (one.fixedDispatched t slot n))
+  unfolding one.fixedDispatched
+  dispatched-keeps n =
+      pick-rule (λ (f : one.FixedLinks). FixedKeeps t rows (one.keptFixed l q f)) (ltb 0 n) (λ e. record { keeps = same; full = omega arith }) (λ e. failed-keeps)
+
+  by-run : (start : Bool) (r : RanIn) → FixedKeeps t rows (one.keptFixed l q (one.runBy t rows slot start r))
+  by-run start (ran.Of s) = ran-keeps s
+  by-run start ran.Other = record { keeps = same; full = omega arith }
+
+  by-drain : (r : CountIn) → FixedKeeps t rows (one.drainBy t l slot q r)
+  by-drain (count.Of n) = drained-keeps n
+  by-drain count.Other = record { keeps = same; full = omega arith }
+
+  by-push : 0 < lenOf t HAND → (r : YesIn) → FixedKeeps t rows (one.pushBy t l slot q r)
+  by-push some yes.Yes = pushed-keeps some true
+  by-push some yes.No = pushed-keeps some false
+  by-push some yes.Other = record { keeps = same; full = some }
+
+  by-dispatch : (r : CountIn) → FixedKeeps t rows (one.keptFixed l q (one.dispatchBy t slot r))
+  by-dispatch (count.Of n) = dispatched-keeps n
+  by-dispatch count.Other = record { keeps = same; full = omega arith }
+
+  pub fixed-keeps : (a : FixedAt) → HandFull a t → (r : Reply) → FixedKeeps t rows (stepFixed t rows l slot q a r)
+  unfolding one.stepFixed one.runReply one.drainReply one.pushReply one.dispatchReply
+  fixed-keeps (fixed.Run start) full r = by-run start (ranIn r)
+  fixed-keeps fixed.Drain full r = by-drain (countIn r)
+  fixed-keeps fixed.Push full r = by-push full (yesIn r)
+  fixed-keeps fixed.Dispatch full r = by-dispatch (countIn r)
+  fixed-keeps (fixed.End e) full r = record { keeps = same; full = omega arith }
+
+  -- ---- an eval actor: queued changes only where mail is taken, as a step begins
+
+  pub eval-start-keeps : Keeps t rows (evalStart t l slot q .links) rows (evalStart t l slot q .step .queued)
+  unfolding two.evalStart
+  eval-start-keeps =
+      pick-rule (λ (s : EvalStarted). Keeps t rows (s .links) rows (s .step .queued)) (hasRun (actorAt l slot .run)) (λ e. same)
+      (λ e. mail-rule t l slot q (λ (m : MailTaken). Keeps t rows (m .links) rows (m .mail .queued)) same (λ some. take-keeps t rows q sound slot slot-is some))
+
+  finish-eval : (o : Outcome) → EvalKeeps t rows q (two.evalFinish t rows l slot o)
+  unfolding two.evalFinish
+  finish-eval o = then-keeps held-to-hand (tell-eval (moveFirst t (handOf slot) HAND) rows _ q slot (held-to-hand .sound) o)
+
+  clocked-eval : (c : ℕ) → EvalKeeps t rows q (two.evalClocked t rows l slot c)
+  unfolding two.evalClocked
+  clocked-eval c = pick-rule (EvalKeeps t rows q) (leb (deadlineOf (actorAt l slot .run)) c) (λ e. finish-eval outcome.Late) (λ e. same)
+
+  booted-eval : (b : Bool) → EvalKeeps t rows q (two.evalBooted t rows l slot b)
+  unfolding two.evalBooted
+  booted-eval true = same
+  booted-eval false = tell-eval t rows l q slot sound outcome.Unbooted
+
+  started-eval : (limit : Limit) (c : ℕ) → EvalKeeps t rows q (two.evalStarted t l slot limit c)
+  unfolding two.evalStarted
+  started-eval limit c = hand-to-held
+
+  ran-eval : (s : Status) → EvalKeeps t rows q (two.evalRan t rows l slot s)
+  unfolding two.evalRan
+  ran-eval status.Done = finish-eval outcome.Ran
+  ran-eval status.Exit = finish-eval outcome.Ran
+  ran-eval status.Preempted = same
+  ran-eval status.Event = finish-eval outcome.StuckReceive
+  ran-eval status.HostCall = same
+  ran-eval status.Error = finish-eval outcome.Raised
+  ran-eval status.Broke = finish-eval outcome.Broke
+
+  dispatched-eval : (n : ℕ) → EvalKeeps t rows q (two.evalDispatched t rows l slot n)
+  unfolding two.evalDispatched
+  dispatched-eval n = pick-rule (EvalKeeps t rows q) (ltb 0 n) (λ e. same) (λ e. finish-eval outcome.StuckHostCall)
+
+  by-clock : (r : ClockIn) → EvalKeeps t rows q (two.clockBy t rows l slot r)
+  by-clock (clock.Of ns) = clocked-eval ns
+  by-clock clock.Other = same
+
+  by-boot : (r : YesIn) → EvalKeeps t rows q (two.bootBy t rows l slot r)
+  by-boot yes.Yes = booted-eval true
+  by-boot yes.No = booted-eval false
+  by-boot yes.Other = same
+
+  by-start : (limit : Limit) (r : ClockIn) → EvalKeeps t rows q (two.startBy t l slot limit r)
+  by-start limit (clock.Of ns) = started-eval limit ns
+  by-start limit clock.Other = same
+
+  by-run-eval : (start : Bool) (r : RanIn) → EvalKeeps t rows q (two.runBy t rows l slot start r)
+  by-run-eval start (ran.Of s) = ran-eval s
+  by-run-eval start ran.Other = same
+
+  by-dispatch-eval : (r : CountIn) → EvalKeeps t rows q (two.dispatchBy t rows l slot r)
+  by-dispatch-eval (count.Of n) = dispatched-eval n
+  by-dispatch-eval count.Other = same
+
+  pub eval-keeps : (limit : Limit) (a : EvalAt) (r : Reply) → Keeps t rows (stepEval t rows l slot limit a r .links) rows q
+  unfolding two.stepEval two.clockReply two.bootReply two.startReply two.runReply two.dispatchReply two.tellReply
+  eval-keeps limit eval.Clock r = by-clock (clockIn r)
+  eval-keeps limit eval.Boot r = by-boot (yesIn r)
+  eval-keeps limit eval.StartClock r = by-start limit (clockIn r)
+  eval-keeps limit (eval.Run start) r = by-run-eval start (ranIn r)
+  eval-keeps limit eval.Dispatch r = by-dispatch-eval (countIn r)
+  eval-keeps limit (eval.Tell o) r = pick-rule (EvalKeeps t rows q) (isTold r) (λ e. over-eval t rows l q slot sound) (λ e. same)
+  eval-keeps limit (eval.End e) r = same

@@ -1,0 +1,54 @@
+-- `route::deliver_first` meets its contract: the message moves to the mailbox, and its actor is woken. Assumes nothing.
+use Rattle.group.specs.Roster.{Keyed}
+use Rattle.routing.specs.Route.{Mailed, deliver}
+use mathlib.Core.Path.{ap}
+use borrow.Author.Needs.{needs}
+use Rattle.routing.proofs.route.deliver_first.Statement.{statement}
+use Rattle.routing.proofs.route.deliver_first.Tie as tie
+
+slot-at-requires : tie.Need-slot-at-requires
+slot-at-requires c κs = search needs
+
+deliver-to-requires : tie.Need-deliver-to-requires
+deliver-to-requires c κs = search needs
+
+wake-at-requires : tie.Need-wake-at-requires
+wake-at-requires c κs = search needs
+
+less-requires : tie.Need-less-requires
+less-requires c κs = search needs
+
+same-length : tie.Need-same-length
+same-length c = search needs
+
+same-length-2 : tie.Need-same-length-2
+same-length-2 c = search needs
+
+same-length-3 : tie.Need-same-length-3
+same-length-3 c = search needs
+
+returns : tie.Need-returns
+unfolding deliver
+returns c =
+    let e1 = c .before .before .before .before .before .before .before .before .before .slot-at .ensures in
+    let e2 = c .before .before .before .before .before .before .before .deliver-to .ensures in
+    let e2-links = ap (λ (s : Mailed). s .links) e2 in
+    let e2-queued = ap (λ (s : Mailed). s .queued) e2 in
+    let e3 = c .before .before .before .wake-at .ensures in
+    let e3-keys = ap (λ (s : Keyed). s .keys) e3 in
+    let e3-actors = ap (λ (s : Keyed). s .actors) e3 in
+    let e4 = c .less .ensures in
+    simp (e1, e2-links, e2-queued, e3-keys, e3-actors, e4)
+
+pub deliver-first-spec : {M : Type 1} → statement M
+deliver-first-spec =
+    tie.close
+    (tie.spec
+    slot-at-requires
+    deliver-to-requires
+    wake-at-requires
+    less-requires
+    same-length
+    same-length-2
+    same-length-3
+    returns)

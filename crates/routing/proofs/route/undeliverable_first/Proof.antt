@@ -1,0 +1,25 @@
+-- `route::undeliverable_first` meets its contract: the batch's first message is over, and one less is left. Assumes nothing.
+use Rattle.routing.specs.Route.{undeliverable}
+use borrow.Author.Needs.{needs}
+use Rattle.routing.proofs.route.undeliverable_first.Statement.{statement}
+use Rattle.routing.proofs.route.undeliverable_first.Tie as tie
+
+over-first-requires : tie.Need-over-first-requires
+over-first-requires c κs = search needs
+
+less-requires : tie.Need-less-requires
+less-requires c κs = search needs
+
+same-length : tie.Need-same-length
+same-length c = search needs
+
+returns : tie.Need-returns
+unfolding undeliverable
+returns c =
+    let e1 = c .before .before .over-first .ensures in
+    let e2 = c .less .ensures in
+    simp (e1, e2)
+
+pub undeliverable-first-spec : {M : Type 1} → statement M
+undeliverable-first-spec =
+    tie.close (tie.spec over-first-requires less-requires same-length returns)

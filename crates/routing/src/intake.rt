@@ -1,0 +1,42 @@
+// Inbox to pending while pending and queued are below the backlog, one message a step; then all of pending is the batch.
+ghost use mathlib.Core.Path.{_≡_};
+ghost use Rattle.routing.specs.Intake.{batchSize, batchOf, intakeOf};
+use group::at::At;
+
+// At most all entries.
+fn batch_size(n: u64) -> u64
+    ensures { λ r. ⌜ r ≡ batchSize n ⌝ }
+{
+    if n < 256 { n } else { 256 }
+}
+
+// All of pending is to be routed.
+fn batch(links: &mut [[u64; 4]]) -> At
+    ensures { λ r. ⌜ record { links = now (links .exit); at = r } ≡ batchOf (now (links .entry)) ⌝ }
+{
+    lists::move_all(links, lists::PENDING, lists::BATCH);
+    let n = lists::length_of(links, lists::BATCH);
+    let left = batch_size(n);
+    At::Route(left)
+}
+
+// One message more of the inbox is taken in, or the batch begins.
+pub fn intake(links: &mut [[u64; 4]], queued: u64, backlog: u64, left: u64) -> At
+    ensures { λ r. ⌜ record { links = now (links .exit); at = r } ≡ intakeOf (now (links .entry)) queued backlog left ⌝ }
+{
+    if left == 0 {
+        return batch(links);
+    }
+    let pending = lists::length_of(links, lists::PENDING);
+    let held = lists::sum(pending, queued);
+    if backlog <= held {
+        return batch(links);
+    }
+    let waiting = lists::length_of(links, lists::INBOX);
+    if waiting == 0 {
+        return batch(links);
+    }
+    lists::move_first(links, lists::INBOX, lists::PENDING);
+    let fewer = lists::less(left, 1);
+    At::Intake(fewer)
+}

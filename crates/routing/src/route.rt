@@ -1,0 +1,288 @@
+// `route_pending` of the Rust: the batch's messages go to actors of their groups. An actor is picked: an idle one, else a spawn under the ceiling,
+// else the least loaded. A message that nobody can get is over.
+ghost use mathlib.Core.Path.{_≡_};
+ghost use Rattle.routing.specs.Route.{wakeAt, undeliverable, deliverTo, deliver, deliverKey, routeSpawned, routeLeast, routeNew, routeTo, routeOne, routeOf, routeBooted, routeReply};
+use actor::message;
+use actor::question;
+use actor::question::Reply;
+use actor::question::YesIn;
+use actor::state;
+use group::at::At;
+use group::roster;
+use group::settings;
+use group::settings::Named;
+use lists::Found;
+use lists::keys::Key;
+use steps::step;
+
+// Where the turn stands then, and how many messages are in mailboxes.
+pub struct Routed {
+    pub at: At,
+    pub queued: u64,
+}
+
+// The batch's first message is over.
+fn undeliverable_first(links: &mut [[u64; 4]], rows: &[[u64; 7]], left: u64) -> At
+    ensures { λ r. ⌜ record { links = now (links .exit); at = r } ≡ undeliverable (now (links .entry)) (now (rows .entry)) left ⌝ }
+{
+    step::over_first(links, rows, lists::BATCH);
+    let fewer = lists::less(left, 1);
+    At::Route(fewer)
+}
+
+// A message came to an actor's mailbox: it is idle no more, and queued to run.
+fn wake_at(lists: &mut [[u8; 65]], actors: &mut [[u64; 12]], g: usize, key: u8)
+    ensures { λ r. ⌜ record { keys = now (lists .exit); actors = now (actors .exit) } ≡ wakeAt (now (lists .entry)) (now (actors .entry)) g key ⌝ }
+{
+    let slot = roster::slot_at(g, key);
+    let a = state::actor_at(actors, slot);
+    let b = state::delivered(a);
+    state::put_actor(actors, slot, b);
+    roster::schedule(lists, actors, g, key);
+}
+
+// The batch's first message goes to the end of a mailbox; queued changes as the mailbox does.
+fn deliver_to(links: &mut [[u64; 4]], slot: usize, queued: u64) -> u64
+    ensures { λ r. ⌜ record { links = now (links .exit); queued = r } ≡ deliverTo (now (links .entry)) slot queued ⌝ }
+{
+    let mailbox = lists::mailbox(slot);
+    let before = lists::length_of(links, mailbox);
+    lists::move_first(links, lists::BATCH, mailbox);
+    let after = lists::length_of(links, mailbox);
+    let more = lists::sum(queued, after);
+    lists::less(more, before)
+}
+
+// The batch's first message is delivered to an actor.
+fn deliver_first(
+    links: &mut [[u64; 4]],
+    lists: &mut [[u8; 65]],
+    actors: &mut [[u64; 12]],
+    g: usize,
+    key: u8,
+    queued: u64,
+    left: u64,
+) -> Routed
+    ensures { λ r. ⌜ record { links = now (links .exit); keys = now (lists .exit); actors = now (actors .exit); routed = r } ≡ deliver (now (links .entry)) (now (lists .entry)) (now (actors .entry)) g key queued left ⌝ }
+{
+    let slot = roster::slot_at(g, key);
+    let more = deliver_to(links, slot, queued);
+    wake_at(lists, actors, g, key);
+    let fewer = lists::less(left, 1);
+    Routed {
+        at: At::Route(fewer),
+        queued: more,
+    }
+}
+
+// The batch's first message is delivered to an actor, or, where there is none, over.
+fn deliver_key(
+    links: &mut [[u64; 4]],
+    rows: &[[u64; 7]],
+    lists: &mut [[u8; 65]],
+    actors: &mut [[u64; 12]],
+    g: usize,
+    key: Key,
+    queued: u64,
+    left: u64,
+) -> Routed
+    ensures { λ r. ⌜ record { links = now (links .exit); keys = now (lists .exit); actors = now (actors .exit); routed = r } ≡ deliverKey (now (links .entry)) (now (rows .entry)) (now (lists .entry)) (now (actors .entry)) g key queued left ⌝ }
+{
+    match key {
+        Key::At(k) => deliver_first(links, lists, actors, g, k, queued, left),
+        Key::Nothing => {
+            let at = undeliverable_first(links, rows, left);
+            Routed { at, queued }
+        }
+    }
+}
+
+// A spawn, and the batch's first message to it.
+fn route_spawned(
+    links: &mut [[u64; 4]],
+    rows: &[[u64; 7]],
+    lists: &mut [[u8; 65]],
+    actors: &mut [[u64; 12]],
+    g: usize,
+    eval: bool,
+    queued: u64,
+    left: u64,
+) -> Routed
+    ensures { λ r. ⌜ record { links = now (links .exit); keys = now (lists .exit); actors = now (actors .exit); routed = r } ≡ routeSpawned (now (links .entry)) (now (rows .entry)) (now (lists .entry)) (now (actors .entry)) g eval queued left ⌝ }
+{
+    let key = roster::spawn(lists, actors, g, eval);
+    deliver_key(links, rows, lists, actors, g, key, queued, left)
+}
+
+// The batch's first message to the least loaded actor.
+fn route_least(
+    links: &mut [[u64; 4]],
+    rows: &[[u64; 7]],
+    lists: &mut [[u8; 65]],
+    actors: &mut [[u64; 12]],
+    g: usize,
+    queued: u64,
+    left: u64,
+) -> Routed
+    ensures { λ r. ⌜ record { links = now (links .exit); keys = now (lists .exit); actors = now (actors .exit); routed = r } ≡ routeLeast (now (links .entry)) (now (rows .entry)) (now (lists .entry)) (now (actors .entry)) g queued left ⌝ }
+{
+    let key = roster::least_loaded(lists, links, g);
+    deliver_key(links, rows, lists, actors, g, key, queued, left)
+}
+
+// No actor is idle: a spawn under the ceiling, else the least loaded.
+fn route_new(
+    groups: &[[u64; 37]],
+    links: &mut [[u64; 4]],
+    rows: &[[u64; 7]],
+    lists: &mut [[u8; 65]],
+    actors: &mut [[u64; 12]],
+    g: usize,
+    queued: u64,
+    left: u64,
+) -> Routed
+    ensures { λ r. ⌜ record { links = now (links .exit); keys = now (lists .exit); actors = now (actors .exit); routed = r } ≡ routeNew (now (groups .entry)) (now (links .entry)) (now (rows .entry)) (now (lists .entry)) (now (actors .entry)) g queued left ⌝ }
+{
+    let s = settings::group_at(groups, g);
+    let ceiling = s.ceiling;
+    let eval = s.eval;
+    let there = roster::live_len(lists, g) as u64;
+    if there < ceiling {
+        if eval {
+            return route_spawned(links, rows, lists, actors, g, true, queued, left);
+        }
+        return Routed {
+            at: At::RouteBoot(g, left),
+            queued,
+        };
+    }
+    route_least(links, rows, lists, actors, g, queued, left)
+}
+
+// The batch's first message, for this group.
+fn route_to(
+    groups: &[[u64; 37]],
+    links: &mut [[u64; 4]],
+    rows: &[[u64; 7]],
+    lists: &mut [[u8; 65]],
+    actors: &mut [[u64; 12]],
+    g: usize,
+    queued: u64,
+    left: u64,
+) -> Routed
+    ensures { λ r. ⌜ record { links = now (links .exit); keys = now (lists .exit); actors = now (actors .exit); routed = r } ≡ routeTo (now (groups .entry)) (now (links .entry)) (now (rows .entry)) (now (lists .entry)) (now (actors .entry)) g queued left ⌝ }
+{
+    match roster::pop_idle(lists, actors, g) {
+        Key::At(k) => deliver_first(links, lists, actors, g, k, queued, left),
+        Key::Nothing => route_new(groups, links, rows, lists, actors, g, queued, left),
+    }
+}
+
+// The batch's first message, of this entry; with no such group it is over.
+fn route_one(
+    groups: &[[u64; 37]],
+    count: usize,
+    store: &[u8],
+    links: &mut [[u64; 4]],
+    rows: &[[u64; 7]],
+    lists: &mut [[u8; 65]],
+    actors: &mut [[u64; 12]],
+    entry: usize,
+    queued: u64,
+    left: u64,
+) -> Routed
+    ensures { λ r. ⌜ record { links = now (links .exit); keys = now (lists .exit); actors = now (actors .exit); routed = r } ≡ routeOne (now (groups .entry)) count (now (store .entry)) (now (links .entry)) (now (rows .entry)) (now (lists .entry)) (now (actors .entry)) entry queued left ⌝ }
+{
+    let m = message::message_at(rows, entry);
+    let long = m.name;
+    match settings::group_for(groups, count, store, entry, long) {
+        Named::Group(g) => route_to(groups, links, rows, lists, actors, g, queued, left),
+        Named::Nothing => {
+            let at = undeliverable_first(links, rows, left);
+            Routed { at, queued }
+        }
+    }
+}
+
+// The batch's first message, or the tick where none is left.
+pub fn route(
+    groups: &[[u64; 37]],
+    count: usize,
+    store: &[u8],
+    links: &mut [[u64; 4]],
+    rows: &[[u64; 7]],
+    lists: &mut [[u8; 65]],
+    actors: &mut [[u64; 12]],
+    queued: u64,
+    left: u64,
+) -> Routed
+    ensures { λ r. ⌜ record { links = now (links .exit); keys = now (lists .exit); actors = now (actors .exit); routed = r } ≡ routeOf (now (groups .entry)) count (now (store .entry)) (now (links .entry)) (now (rows .entry)) (now (lists .entry)) (now (actors .entry)) queued left ⌝ }
+{
+    if left == 0 {
+        return Routed {
+            at: At::TickClock,
+            queued,
+        };
+    }
+    match lists::first(links, lists::BATCH) {
+        Found::Entry(e) => route_one(
+            groups,
+            count,
+            store,
+            links,
+            rows,
+            lists,
+            actors,
+            e,
+            queued,
+            left,
+        ),
+        Found::Nothing => Routed {
+            at: At::TickClock,
+            queued,
+        },
+    }
+}
+
+// Boot was answered: yes spawns the actor that gets the message; no leaves the least loaded.
+fn route_booted(
+    links: &mut [[u64; 4]],
+    rows: &[[u64; 7]],
+    lists: &mut [[u8; 65]],
+    actors: &mut [[u64; 12]],
+    g: usize,
+    queued: u64,
+    left: u64,
+    booted: bool,
+) -> Routed
+    ensures { λ r. ⌜ record { links = now (links .exit); keys = now (lists .exit); actors = now (actors .exit); routed = r } ≡ routeBooted (now (links .entry)) (now (rows .entry)) (now (lists .entry)) (now (actors .entry)) g queued left booted ⌝ }
+{
+    if booted {
+        return route_spawned(links, rows, lists, actors, g, false, queued, left);
+    }
+    route_least(links, rows, lists, actors, g, queued, left)
+}
+
+// The reply to Boot; one that does not fit changes nothing.
+pub fn route_reply(
+    links: &mut [[u64; 4]],
+    rows: &[[u64; 7]],
+    lists: &mut [[u8; 65]],
+    actors: &mut [[u64; 12]],
+    g: usize,
+    queued: u64,
+    left: u64,
+    reply: Reply,
+) -> Routed
+    ensures { λ r. ⌜ record { links = now (links .exit); keys = now (lists .exit); actors = now (actors .exit); routed = r } ≡ routeReply (now (links .entry)) (now (rows .entry)) (now (lists .entry)) (now (actors .entry)) g queued left reply ⌝ }
+{
+    let came = question::yes_in(reply);
+    match came {
+        YesIn::Yes => route_booted(links, rows, lists, actors, g, queued, left, true),
+        YesIn::No => route_booted(links, rows, lists, actors, g, queued, left, false),
+        YesIn::Other => Routed {
+            at: At::RouteBoot(g, left),
+            queued,
+        },
+    }
+}

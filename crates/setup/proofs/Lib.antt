@@ -1,0 +1,2 @@
+-- Laws of the setup.
+pub mod Loops

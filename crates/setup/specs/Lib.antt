@@ -1,0 +1,4 @@
+-- Definitions and statements.
+pub mod Entry
+pub mod Settings
+pub mod Tables

@@ -1,0 +1,87 @@
+// A message put into a free entry of the body store: 160 bytes each, the name in the first 32, the body in the 128 after it.
+ghost use mathlib.Core.Path.{_≡_};
+ghost use Rattle.setup.specs.Entry.{putBytes, storeEntry, newRow, keepAt, keepOf};
+use actor::message;
+use actor::message::Caller;
+use actor::message::Logged;
+use actor::message::Message;
+use lists::Found;
+
+// Bytes written over a part of the store; where they do not fit nothing is.
+fn put_bytes(store: &mut [u8], at: usize, bytes: &[u8])
+    ensures { λ r. ⌜ now (store .exit) ≡ putBytes (now (store .entry)) at (now (bytes .entry)) ⌝ }
+{
+    if store.len() < at {
+        return;
+    }
+    if store.len() - at < bytes.len() {
+        return;
+    }
+    let mut i: usize = 0;
+    while i < bytes.len() {
+        store[at + i] = bytes[i];
+        i += 1;
+    }
+}
+
+// The name and body of an entry.
+fn store_entry(store: &mut [u8], entry: usize, name: &[u8], body: &[u8])
+    ensures { λ r. ⌜ now (store .exit) ≡ storeEntry (now (store .entry)) entry (now (name .entry)) (now (body .entry)) ⌝ }
+{
+    if entry < 256 {
+        put_bytes(store, 160 * entry, name);
+        put_bytes(store, 160 * entry + 32, body);
+    }
+}
+
+// The row of a message that was never tried.
+fn new_row(name: u64, body: u64, caller: Caller, id: Logged) -> Message
+    ensures { λ r. ⌜ r ≡ newRow name body caller id ⌝ }
+{
+    Message {
+        attempts: 0,
+        name,
+        body,
+        caller,
+        id,
+    }
+}
+
+// A message in this entry, the first of the free ones, which goes to the end of a list.
+fn keep_at(
+    store: &mut [u8],
+    links: &mut [[u64; 4]],
+    rows: &mut [[u64; 7]],
+    entry: usize,
+    name: &[u8],
+    body: &[u8],
+    caller: Caller,
+    id: Logged,
+    to: usize,
+)
+    ensures { λ r. ⌜ record { store = now (store .exit); links = now (links .exit); rows = now (rows .exit) } ≡ keepAt (now (store .entry)) (now (links .entry)) (now (rows .entry)) entry (now (name .entry)) (now (body .entry)) caller id to ⌝ }
+{
+    store_entry(store, entry, name, body);
+    let m = new_row(name.len() as u64, body.len() as u64, caller, id);
+    message::put_message(rows, entry, m);
+    lists::move_first(links, lists::FREE, to);
+}
+
+// A message in the first free entry, which goes to the end of a list; with none free nothing changes.
+pub fn keep(
+    store: &mut [u8],
+    links: &mut [[u64; 4]],
+    rows: &mut [[u64; 7]],
+    name: &[u8],
+    body: &[u8],
+    caller: Caller,
+    id: Logged,
+    to: usize,
+)
+    ensures { λ r. ⌜ record { store = now (store .exit); links = now (links .exit); rows = now (rows .exit) } ≡ keepOf (now (store .entry)) (now (links .entry)) (now (rows .entry)) (now (name .entry)) (now (body .entry)) caller id to ⌝ }
+{
+    match lists::first(links, lists::FREE) {
+        Found::Entry(e) => keep_at(store, links, rows, e, name, body, caller, id, to),
+        Found::Nothing => {}
+    }
+}
