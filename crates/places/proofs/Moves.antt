@@ -169,7 +169,7 @@ module _ (t rows : Table) (q : ℕ) (sound : Sound t rows q) where
           arith,
           sound .mail,
           mail-desk t (moveFirst t FREE to) 128 (sound .good) (came .good)
-          (λ s s-is other. came .others (6 + 2 * s) (λ z. omega arith) (λ z. g .no-mail s s-is (sym z))) (omega arith),
+              (λ s s-is other. came .others (6 + 2 * s) (λ z. omega arith) (λ z. g .no-mail s s-is (sym z))) (omega arith),
         )
 
     came-more : (x : ℕ) (rows′ : Table) → stands x (moveFirst t FREE to) rows′ ≡ stands x t rows′ + idCount x rows′ (take 1 (view t FREE))
@@ -222,7 +222,7 @@ module _ (t rows : Table) (q : ℕ) (sound : Sound t rows q) where
             arith,
             sound .mail,
             mail-desk t (moveFirst t OVER FREE) 128 (sound .good) (gone .good)
-            (λ s s-is other. gone .others (6 + 2 * s) (λ z. omega arith) (λ z. omega arith)) (omega arith),
+                (λ s s-is other. gone .others (6 + 2 * s) (λ z. omega arith) (λ z. omega arith)) (omega arith),
           )
 
       less : (x : ℕ) → stands x (moveFirst t OVER FREE) rows + pick (isId x (messageAt rows (headOf t OVER) .id)) 1 0 ≡ stands x t rows

@@ -1,0 +1,2 @@
+-- Definitions and statements.
+pub mod State

@@ -1,0 +1,2 @@
+// The pool's own state, with its answers, its refusals and their numbers, and what a call shows. Every function equals a definition of specs/.
+pub mod state;

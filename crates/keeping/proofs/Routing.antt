@@ -1,0 +1,185 @@
+-- Seeding, taking in and routing keep every message in a place, and lead to no step of an actor. Assumes nothing.
+use mathlib.Core.Bool.{Bool, true, false}
+use mathlib.Core.List.{List}
+use Prim.Native.Nat.{ℕ, _+_, _-_}
+use native.Mathlib.Omega.{arith}
+use lib.Dec.{eqb, ltb, leb}
+use Rattle.lists.specs.declared.Found.{Found}
+use Rattle.lists.specs.declared.Found.the-variants as found
+use Rattle.lists.specs.declared.keys.Key.{Key}
+use Rattle.lists.specs.declared.keys.Key.the-variants as key
+use Rattle.lists.specs.Links.{Table, lenOf, capped, firstOf, moveFirst}
+use Rattle.actor.specs.declared.question.Reply.{Reply}
+use Rattle.actor.specs.declared.question.YesIn.{YesIn}
+use Rattle.actor.specs.declared.question.YesIn.the-variants as yes
+use Rattle.actor.specs.Questions.{yesIn}
+use Rattle.actor.specs.Messages.{messageAt}
+use Rattle.group.specs.declared.at.At.the-variants as at
+use Rattle.group.specs.declared.settings.Named.{Named}
+use Rattle.group.specs.declared.settings.Named.the-variants as named
+use Rattle.group.specs.Settings.{groupAt, groupFor}
+use Rattle.group.specs.Roster.{slotAt, liveLen, spawnOf, popIdleOf, leastOf}
+use Rattle.routing.specs.Seed.{Seeded, seedOf, seedBooted, seedBy, seedReply}
+use Rattle.routing.specs.Intake.{INBOX, PENDING, BATCH, Linked, batchOf, intakeOf}
+use Rattle.routing.specs.Route as to
+use Rattle.routing.specs.Route.{Sent, routeOf, routeReply}
+use Rattle.places.specs.Places.{Sound, Keeps}
+use Rattle.places.proofs.Moves.{desk-inbox, desk-pending, desk-batch, same-keeps, move-keeps, move-all-keeps, over-keeps, to-mailbox}
+use Rattle.places.proofs.Steps.{pick-rule}
+use Rattle.keeping.specs.Keeping.{Calm}
+
+-- ---- the first turn's spawns
+
+abbrev SeededCalm : Seeded → Type 0
+SeededCalm s = Calm (s .at)
+
+pub seed-calm : (groups : Table) (count : ℕ) (keys actors : Table) (g : ℕ) → Calm (seedOf groups count keys actors g .at)
+unfolding seedOf
+seed-calm groups count keys actors g =
+    pick-rule SeededCalm (leb count g) (λ e. omega arith)
+    (λ e. pick-rule SeededCalm (leb 8 g) (λ e. omega arith)
+    (λ e. pick-rule SeededCalm (eqb (groupAt groups g .ceiling) 0) (λ e. omega arith)
+    (λ e. pick-rule SeededCalm (groupAt groups g .eval) (λ e. omega arith) (λ e. omega arith))))
+
+booted-calm : (keys actors : Table) (g : ℕ) (b : Bool) → Calm (seedBooted keys actors g b .at)
+unfolding seedBooted
+booted-calm keys actors g true = omega arith
+booted-calm keys actors g false = omega arith
+
+seed-by-calm : (keys actors : Table) (g : ℕ) (y : YesIn) → Calm (seedBy keys actors g y .at)
+seed-by-calm keys actors g yes.Yes = booted-calm keys actors g true
+seed-by-calm keys actors g yes.No = booted-calm keys actors g false
+seed-by-calm keys actors g yes.Other = omega arith
+
+pub seed-reply-calm : (keys actors : Table) (g : ℕ) (r : Reply) → Calm (seedReply keys actors g r .at)
+unfolding seedReply
+seed-reply-calm keys actors g r = seed-by-calm keys actors g (yesIn r)
+
+-- ---- the inbox is taken in
+
+-- what holds of the batch and of one message more holds of the intake
+intake-rule : (t : Table) (q backlog left : ℕ) (P : Linked → Type 0) → P (batchOf t)
+    → P (record { links = moveFirst t INBOX PENDING; at = at.Intake (left - 1) }) → P (intakeOf t q backlog left)
+unfolding intakeOf
+intake-rule t q backlog left P batch more =
+    pick-rule P (eqb left 0) (λ e. batch)
+    (λ e. pick-rule P (leb backlog (capped (lenOf t PENDING + q))) (λ e. batch) (λ e. pick-rule P (eqb (lenOf t INBOX) 0) (λ e. batch) (λ e. more)))
+
+batch-keeps : (t rows : Table) (q : ℕ) → Sound t rows q → Keeps t rows (batchOf t .links) rows q
+unfolding batchOf
+batch-keeps t rows q sound = move-all-keeps t rows q sound PENDING BATCH desk-pending desk-batch
+
+batch-calm : (t : Table) → Calm (batchOf t .at)
+unfolding batchOf
+batch-calm t = omega arith
+
+pub intake-keeps : (t rows : Table) (q backlog left : ℕ) → Sound t rows q → Keeps t rows (intakeOf t q backlog left .links) rows q
+intake-keeps t rows q backlog left sound =
+    intake-rule t q backlog left (λ (s : Linked). Keeps t rows (s .links) rows q) (batch-keeps t rows q sound)
+    (move-keeps t rows q sound INBOX PENDING desk-inbox desk-pending)
+
+pub intake-calm : (t : Table) (q backlog left : ℕ) → Calm (intakeOf t q backlog left .at)
+intake-calm t q backlog left = intake-rule t q backlog left (λ (s : Linked). Calm (s .at)) (batch-calm t) (omega arith)
+
+-- ---- the batch is routed
+
+-- a message is over, or delivered, or Boot is asked for it, or none is left
+record Routes (t rows : Table) (q left : ℕ) (P : Sent → Type 0) : Type 0 where
+  over : (keys actors : Table) → P (to.lostTo (to.undeliverable t rows left) keys actors q)
+  sent : (keys actors : Table) (g k : ℕ) → P (to.deliver t keys actors g k q left)
+  asks : (keys actors : Table) (g : ℕ) → P (record { links = t; keys = keys; actors = actors; routed = to.routedTo (at.RouteBoot g left) q })
+  done : (keys actors : Table) → P (to.clockNext t keys actors q)
+
+-- what holds of these four holds of every way through routing
+module _ (t rows : Table) (q left : ℕ) (P : Sent → Type 0) (ways : Routes t rows q left P) where
+  by-key : (keys actors : Table) (g : ℕ) (k : Key) → P (to.deliverKey t rows keys actors g k q left)
+  unfolding to.deliverKey
+  by-key keys actors g (key.At k) = ways .sent keys actors g k
+  by-key keys actors g key.Nothing = ways .over keys actors
+
+  by-spawn : (keys actors : Table) (g : ℕ) (eval : Bool) → P (to.routeSpawned t rows keys actors g eval q left)
+  unfolding to.routeSpawned
+  by-spawn keys actors g eval = by-key (spawnOf keys actors g eval .keys) (spawnOf keys actors g eval .actors) g (spawnOf keys actors g eval .key)
+
+  by-least : (keys actors : Table) (g : ℕ) → P (to.routeLeast t rows keys actors g q left)
+  unfolding to.routeLeast
+  by-least keys actors g = by-key keys actors g (leastOf keys t g)
+
+  by-new : (groups keys actors : Table) (g : ℕ) → P (to.routeNew groups t rows keys actors g q left)
+  unfolding to.routeNew
+  by-new groups keys actors g =
+      pick-rule P (ltb (liveLen keys g) (groupAt groups g .ceiling))
+      (λ e. pick-rule P (groupAt groups g .eval) (λ e. by-spawn keys actors g true) (λ e. ways .asks keys actors g))
+      (λ e. by-least keys actors g)
+
+  by-idle : (groups keys actors : Table) (g : ℕ) (k : Key) → P (to.routeIdle groups t rows actors g q left keys k)
+  by-idle groups keys actors g (key.At k) = ways .sent keys actors g k
+  by-idle groups keys actors g key.Nothing = by-new groups keys actors g
+
+  by-group : (groups keys actors : Table) (g : ℕ) → P (to.routeTo groups t rows keys actors g q left)
+  unfolding to.routeTo
+  by-group groups keys actors g = by-idle groups (popIdleOf keys actors g .keys) actors g (popIdleOf keys actors g .key)
+
+  by-named : (groups keys actors : Table) (n : Named) → P (to.routeNamed groups t rows keys actors q left n)
+  by-named groups keys actors (named.Group g) = by-group groups keys actors g
+  by-named groups keys actors named.Nothing = ways .over keys actors
+
+  by-first : (groups : Table) (count : ℕ) (store : List ℕ) (keys actors : Table) (f : Found) → P (to.routeFirst groups count store t rows keys actors q left f)
+  unfolding to.routeOne
+  by-first groups count store keys actors (found.Entry e) = by-named groups keys actors (groupFor groups store e (messageAt rows e .name) count)
+  by-first groups count store keys actors found.Nothing = ways .done keys actors
+
+  route-rule : (groups : Table) (count : ℕ) (store : List ℕ) (keys actors : Table) → P (routeOf groups count store t rows keys actors q left)
+  unfolding to.routeOf
+  route-rule groups count store keys actors =
+      pick-rule P (eqb left 0) (λ e. ways .done keys actors) (λ e. by-first groups count store keys actors (firstOf t BATCH))
+
+  by-boot : (keys actors : Table) (g : ℕ) (b : Bool) → P (to.routeBooted t rows keys actors g q left b)
+  unfolding to.routeBooted
+  by-boot keys actors g true = by-spawn keys actors g false
+  by-boot keys actors g false = by-least keys actors g
+
+  by-reply : (keys actors : Table) (g : ℕ) (y : YesIn) → P (to.routeBy t rows keys actors g q left y)
+  by-reply keys actors g yes.Yes = by-boot keys actors g true
+  by-reply keys actors g yes.No = by-boot keys actors g false
+  by-reply keys actors g yes.Other = ways .asks keys actors g
+
+  reply-rule : (keys actors : Table) (g : ℕ) (r : Reply) → P (routeReply t rows keys actors g q left r)
+  unfolding to.routeReply
+  reply-rule keys actors g r = by-reply keys actors g (yesIn r)
+
+abbrev SentKeeps : Table → Table → Sent → Type 0
+SentKeeps t rows s = Keeps t rows (s .links) rows (s .routed .queued)
+
+abbrev SentCalm : Sent → Type 0
+SentCalm s = Calm (s .routed .at)
+
+ways-keep : (t rows : Table) (q left : ℕ) → Sound t rows q → Routes t rows q left (SentKeeps t rows)
+unfolding to.undeliverable to.deliver to.deliverTo
+ways-keep t rows q left sound =
+    record {
+      over = λ keys actors. over-keeps t rows q sound BATCH desk-batch;
+      sent = λ keys actors g k. to-mailbox t rows q sound BATCH (slotAt g k) desk-batch;
+      asks = λ keys actors g. same-keeps t rows q sound;
+      done = λ keys actors. same-keeps t rows q sound;
+    }
+
+ways-calm : (t rows : Table) (q left : ℕ) → Routes t rows q left SentCalm
+unfolding to.undeliverable to.deliver
+ways-calm t rows q left =
+    record { over = λ keys actors. omega arith; sent = λ keys actors g k. omega arith; asks = λ keys actors g. omega arith; done = λ keys actors. omega arith }
+
+pub route-keeps : (groups : Table) (count : ℕ) (store : List ℕ) (t rows keys actors : Table) (q left : ℕ) → Sound t rows q
+    → Keeps t rows (routeOf groups count store t rows keys actors q left .links) rows (routeOf groups count store t rows keys actors q left .routed .queued)
+route-keeps groups count store t rows keys actors q left sound = route-rule t rows q left (SentKeeps t rows) (ways-keep t rows q left sound) groups count store keys actors
+
+pub route-calm : (groups : Table) (count : ℕ) (store : List ℕ) (t rows keys actors : Table) (q left : ℕ) → Calm (routeOf groups count store t rows keys actors q left .routed .at)
+route-calm groups count store t rows keys actors q left =
+    route-rule t rows q left SentCalm (ways-calm t rows q left) groups count store keys actors
+
+pub route-reply-keeps : (t rows keys actors : Table) (g q left : ℕ) (r : Reply) → Sound t rows q
+    → Keeps t rows (routeReply t rows keys actors g q left r .links) rows (routeReply t rows keys actors g q left r .routed .queued)
+route-reply-keeps t rows keys actors g q left r sound = reply-rule t rows q left (SentKeeps t rows) (ways-keep t rows q left sound) keys actors g r
+
+pub route-reply-calm : (t rows keys actors : Table) (g q left : ℕ) (r : Reply) → Calm (routeReply t rows keys actors g q left r .routed .at)
+route-reply-calm t rows keys actors g q left r = reply-rule t rows q left SentCalm (ways-calm t rows q left) keys actors g r

@@ -1,0 +1,345 @@
+-- Waking, stepping, settling and crashing keep every message in a place, and where the turn stands then. Assumes nothing.
+use mathlib.Core.Path.{_≡_, refl}
+use mathlib.Core.Bool.{Bool, true, false}
+use Prim.Native.Nat.{ℕ, _-_, _≤_, _<_}
+use native.Mathlib.Omega.{arith}
+use native.Mathlib.Decide.{decLt}
+use borrow.Author.Tests.{eq-eqb, ltb-true, le-ltb}
+use lib.Dec.{eqb, ltb, leb}
+use lib.ListN.{set}
+use Rattle.lists.specs.declared.Found.{Found}
+use Rattle.lists.specs.declared.Found.the-variants as found
+use Rattle.lists.specs.declared.keys.Key.{Key}
+use Rattle.lists.specs.declared.keys.Key.the-variants as key
+use Rattle.lists.specs.Links.{pick, LISTS, Table, lenOf, firstOf, moveFirst, mailboxOf, handOf}
+use Rattle.lists.specs.KeyLists.{blankRow, keysAt, frontOf, popFront}
+use Rattle.lists.specs.Slabs.{nextKey, containsOf}
+use Rattle.lists.proofs.Family.{len-past}
+use Rattle.actor.specs.declared.question.Reply.{Reply}
+use Rattle.actor.specs.declared.question.YesIn.{YesIn}
+use Rattle.actor.specs.declared.question.YesIn.the-variants as yes
+use Rattle.actor.specs.declared.question.CountIn.{CountIn}
+use Rattle.actor.specs.declared.question.CountIn.the-variants as count
+use Rattle.actor.specs.declared.state.Mode.{Mode}
+use Rattle.actor.specs.declared.state.Mode.the-variants as mode
+use Rattle.actor.specs.Questions.{yesIn, countIn}
+use Rattle.actor.specs.Messages.{messageAt, triedOf}
+use Rattle.actor.specs.Actors.{actorAt, putActor, beganStep}
+use Rattle.steps.specs.declared.step.Step.{Step}
+use Rattle.steps.specs.declared.step.Step.the-variants as end
+use Rattle.steps.specs.declared.fixed.FixedAt.{FixedAt}
+use Rattle.steps.specs.declared.eval.EvalAt.{EvalAt}
+use Rattle.steps.specs.declared.eval.EvalAt.the-variants as eval
+use Rattle.steps.specs.Steps.{HAND}
+use Rattle.steps.specs.StepFixed.{fixedStart}
+use Rattle.steps.specs.StepEval.{evalStart}
+use Rattle.group.specs.declared.at.At.{At}
+use Rattle.group.specs.declared.at.At.the-variants as at
+use Rattle.group.specs.declared.at.Cursor.{Cursor}
+use Rattle.group.specs.At.{readyAfter, fixedAfter, evalAfter}
+use Rattle.group.specs.Settings.{groupAt}
+use Rattle.group.specs.Roster.{REST, DOOMED, slabRow, readyRow, slotAt, pushKey, liveOf}
+use Rattle.ticking.specs.declared.crash.Losses.{Losses}
+use Rattle.ticking.specs.declared.ready.Begun.{Begun}
+use Rattle.ticking.specs.Waking as waking
+use Rattle.ticking.specs.Waking.{Listed, Waked, wakeOf, wakeNext, pollReply}
+use Rattle.ticking.specs.Ready as readying
+use Rattle.ticking.specs.Ready.{Stepping, Readied, readyOf}
+use Rattle.ticking.specs.Settle as settling
+use Rattle.ticking.specs.Settle.{PENDING, slotOn, stepEnd, settleOf}
+use Rattle.ticking.specs.Crash as crashing
+use Rattle.ticking.specs.Crash.{Dying, Crashing, crashOf, trapReply, trappedReply, doomedOf}
+use Rattle.places.specs.Places.{Sound, Keeps, Desk}
+use Rattle.places.proofs.Moves.{desk-pending, desk-hand, desk-held, then-keeps, same-keeps, move-keeps, over-keeps, empty-mailbox, over-mailbox, row-keeps}
+use Rattle.places.proofs.Steps.{pick-rule, eval-start-keeps}
+use Rattle.keeping.specs.Keeping.{Calm, AtOk}
+
+-- a point that is no step of an actor asks nothing of the places
+pub calm-ok : (a : At) (t : Table) → Calm a → AtOk a t
+calm-ok at.Rest t calm = calm
+calm-ok (at.Seed g) t calm = calm
+calm-ok (at.SeedBoot g) t calm = calm
+calm-ok (at.Intake left) t calm = calm
+calm-ok (at.Route left) t calm = calm
+calm-ok (at.RouteBoot g left) t calm = calm
+calm-ok at.TickClock t calm = calm
+calm-ok (at.Wake g clock) t calm = calm
+calm-ok (at.WakeNext g clock left) t calm = calm
+calm-ok (at.WakePoll g k clock left) t calm = calm
+calm-ok (at.Ready g clock pops) t calm = calm
+calm-ok (at.Fixed c a) t calm = absurd calm
+calm-ok (at.Eval c a) t calm = absurd calm
+calm-ok (at.StepEnd c s) t calm = calm
+calm-ok (at.Sends c s) t calm = calm
+calm-ok (at.Settle c s) t calm = calm
+calm-ok (at.Crash c) t calm = calm
+calm-ok (at.AskTrap c) t calm = calm
+calm-ok (at.Trap c) t calm = calm
+calm-ok (at.Trapped c k) t calm = calm
+calm-ok (at.Doomed c left) t calm = calm
+
+-- ---- waking
+
+abbrev ListedCalm : Listed → Type 0
+ListedCalm s = Calm (s .at)
+
+abbrev WakedCalm : Waked → Type 0
+WakedCalm s = Calm (s .at)
+
+pub wake-calm : (keys : Table) (n g clock : ℕ) → Calm (wakeOf keys n g clock .at)
+unfolding wakeOf
+wake-calm keys n g clock =
+    pick-rule ListedCalm (leb n g) (λ e. omega arith) (λ e. pick-rule ListedCalm (leb 8 g) (λ e. omega arith) (λ e. omega arith))
+
+one-calm : (keys actors : Table) (g k clock left : ℕ) → Calm (waking.wakeOne keys actors g k clock left .at)
+unfolding waking.wakeOne
+one-calm keys actors g k clock left =
+    pick-rule WakedCalm (liveOf keys g k)
+    (λ e. pick-rule WakedCalm (waking.lateAt (actorAt actors (slotAt g k) .«wake_at») clock) (λ e. omega arith)
+    (λ e. pick-rule WakedCalm (waking.pollsOf (actorAt actors (slotAt g k))) (λ e. omega arith) (λ e. omega arith)))
+    (λ e. omega arith)
+
+first-calm : (keys actors : Table) (g clock left : ℕ) (k : Key) → Calm (waking.wakeFirst keys actors g clock left k .at)
+first-calm keys actors g clock left (key.At k) = one-calm (set keys REST (popFront (keysAt keys REST))) actors g k clock (left - 1)
+first-calm keys actors g clock left key.Nothing = omega arith
+
+pub wake-next-calm : (keys actors : Table) (g clock left : ℕ) → Calm (wakeNext keys actors g clock left .at)
+unfolding wakeNext
+wake-next-calm keys actors g clock left =
+    pick-rule WakedCalm (eqb left 0) (λ e. omega arith) (λ e. first-calm keys actors g clock left (frontOf (keysAt keys REST)))
+
+poll-calm : (keys actors : Table) (g k clock left : ℕ) (n : CountIn) → Calm (waking.pollBy keys actors g k clock left n .at)
+poll-calm keys actors g k clock left (count.Of n) = pick-rule WakedCalm (ltb 0 n) (λ e. omega arith) (λ e. omega arith)
+poll-calm keys actors g k clock left count.Other = omega arith
+
+pub poll-reply-calm : (keys actors : Table) (g k clock left : ℕ) (r : Reply) → Calm (pollReply keys actors g k clock left r .at)
+unfolding pollReply
+poll-reply-calm keys actors g k clock left r = poll-calm keys actors g k clock left (countIn r)
+
+-- ---- a step begins
+
+-- the first of two tests
+test-first : (a b : Bool) → pick a b false ≡ true → a ≡ true
+test-first true b both = refl
+test-first false b both = both
+
+live-slot : (keys : Table) (g k : ℕ) → liveOf keys g k ≡ true → slotAt g k < 128
+unfolding liveOf
+live-slot keys g k live = ltb-true (slotAt g k) 128 (test-first (ltb (slotAt g k) 128) (containsOf (keysAt keys (slabRow g)) k) live)
+
+-- what holds where no step begins, and of a step that begins, holds of the ready list
+module _ (t : Table) (q : ℕ) (P : Table → Begun → Type 0)
+    (none : (a : At) (stepped : Bool) → Calm a → P t (readying.begunAt a q stepped))
+    (begins : (actors : Table) (c : Cursor) → slotOn c < 128 → P (readying.beginStep t actors c (slotOn c) q .links) (readying.beginStep t actors c (slotOn c) q .begun)) where
+  abbrev Holds : Stepping → Type 0
+  Holds s = P (s .links) (s .begun)
+
+  key-rule : (keys actors : Table) (c : Cursor) (stepped : Bool) → Holds (readying.readyKey t keys actors c q stepped)
+  unfolding readying.readyKey
+  key-rule keys actors c stepped =
+      pick-rule Holds (liveOf keys (c .group) (c .key))
+      (λ live. pick-rule Holds (readying.restsOf (actorAt actors (slotOn c)) (lenOf t (mailboxOf (slotOn c))))
+      (λ e. none (readyAfter c) stepped (omega arith))
+      (λ e. begins (readying.unscheduled actors (slotOn c)) c (live-slot keys (c .group) (c .key) live)))
+      (λ e. none (readyAfter c) stepped (omega arith))
+
+  front-rule : (keys actors : Table) (stepped : Bool) (g clock pops : ℕ) (k : Key)
+      → P (readying.readyFront t keys actors q stepped g clock pops k .links) (readying.readyFront t keys actors q stepped g clock pops k .begun)
+  front-rule keys actors stepped g clock pops (key.At k) = key-rule (readying.popReady keys g) actors (readying.cursorAt g k clock (pops - 1)) stepped
+  front-rule keys actors stepped g clock pops key.Nothing = none _ stepped (omega arith)
+
+  ready-rule : (keys actors : Table) (stepped : Bool) (g clock pops : ℕ)
+      → P (readyOf t keys actors q stepped g clock pops .links) (readyOf t keys actors q stepped g clock pops .begun)
+  unfolding readyOf
+  ready-rule keys actors stepped g clock pops =
+      pick-rule (λ (s : Readied). P (s .links) (s .begun)) (eqb pops 0) (λ e. none _ stepped (omega arith))
+      (λ e. front-rule keys actors stepped g clock pops (frontOf (keysAt keys (readyRow g))))
+
+begin-by-keeps : (t rows actors : Table) (c : Cursor) (slot q : ℕ) → Sound t rows q → slot < 128 → (m : Mode)
+    → Keeps t rows (readying.beginBy t actors c slot q m .links) rows (readying.beginBy t actors c slot q m .begun .queued)
+unfolding readying.beginEval
+begin-by-keeps t rows actors c slot q sound slot-is mode.Fixed = same-keeps t rows q sound
+begin-by-keeps t rows actors c slot q sound slot-is mode.Eval = eval-start-keeps t rows actors q slot sound slot-is
+
+begin-keeps : (t rows actors : Table) (c : Cursor) (slot q : ℕ) → Sound t rows q → slot < 128
+    → Keeps t rows (readying.beginStep t actors c slot q .links) rows (readying.beginStep t actors c slot q .begun .queued)
+unfolding readying.beginStep
+begin-keeps t rows actors c slot q sound slot-is =
+    begin-by-keeps t rows (putActor actors slot (beganStep (actorAt actors slot))) c slot q sound slot-is (actorAt actors slot .mode)
+
+pub ready-keeps : (t rows keys actors : Table) (q : ℕ) (b : Bool) (g clock pops : ℕ) → Sound t rows q
+    → Keeps t rows (readyOf t keys actors q b g clock pops .links) rows (readyOf t keys actors q b g clock pops .begun .queued)
+ready-keeps t rows keys actors q b g clock pops sound =
+    ready-rule t q (λ (r : Table) (s : Begun). Keeps t rows r rows (s .queued)) (λ a stepped calm. same-keeps t rows q sound)
+    (λ l c slot-is. begin-keeps t rows l c (slotOn c) q sound slot-is) keys actors b g clock pops
+
+module _ (t : Table) (c : Cursor) (slot-is : slotOn c < 128) where
+  -- a step of a fixed actor begins at Run
+  fixed-ok : (actors : Table) (slot : ℕ) → AtOk (readying.beginFixed actors c slot .at) t
+  unfolding readying.beginFixed fixedStart
+  fixed-ok actors slot = pick-rule (λ (a : FixedAt). AtOk (fixedAfter c a) t) (actorAt actors slot .started) (λ e. (slot-is, omega arith)) (λ e. (slot-is, omega arith))
+
+  eval-ok : (a : EvalAt) → AtOk (evalAfter c a) t
+  eval-ok eval.Clock = slot-is
+  eval-ok eval.Boot = slot-is
+  eval-ok eval.StartClock = slot-is
+  eval-ok (eval.Run start) = slot-is
+  eval-ok eval.Dispatch = slot-is
+  eval-ok (eval.Tell o) = slot-is
+  eval-ok (eval.End e) = omega arith
+
+begin-by-ok : (t actors : Table) (c : Cursor) (slot q : ℕ) → slotOn c < 128 → (m : Mode)
+    → AtOk (readying.beginBy t actors c slot q m .begun .at) (readying.beginBy t actors c slot q m .links)
+unfolding readying.beginEval
+begin-by-ok t actors c slot q slot-is mode.Fixed = fixed-ok t c slot-is actors slot
+begin-by-ok t actors c slot q slot-is mode.Eval = eval-ok (evalStart t actors slot q .links) c slot-is (evalStart t actors slot q .step .at)
+
+begin-ok : (t actors : Table) (c : Cursor) (slot q : ℕ) → slotOn c < 128 → AtOk (readying.beginStep t actors c slot q .begun .at) (readying.beginStep t actors c slot q .links)
+unfolding readying.beginStep
+begin-ok t actors c slot q slot-is = begin-by-ok t (putActor actors slot (beganStep (actorAt actors slot))) c slot q slot-is (actorAt actors slot .mode)
+
+pub ready-ok : (t keys actors : Table) (q : ℕ) (b : Bool) (g clock pops : ℕ)
+    → AtOk (readyOf t keys actors q b g clock pops .begun .at) (readyOf t keys actors q b g clock pops .links)
+ready-ok t keys actors q b g clock pops =
+    ready-rule t q (λ (r : Table) (s : Begun). AtOk (s .at) r) (λ a stepped calm. calm-ok a t calm) (λ l c slot-is. begin-ok t l c (slotOn c) q slot-is)
+    keys actors b g clock pops
+
+-- ---- a step ends
+
+end-calm : (c : Cursor) (s : Step) (m : Mode) → Calm (settling.endBy c s m)
+end-calm c s mode.Fixed = omega arith
+end-calm c s mode.Eval = omega arith
+
+pub step-end-calm : (actors : Table) (c : Cursor) (s : Step) → Calm (stepEnd actors c s)
+unfolding stepEnd
+step-end-calm actors c s = end-calm c s (actorAt actors (slotOn c) .mode)
+
+let-go-keeps : (t rows : Table) (slot : ℕ) (consumed : Bool) (q : ℕ) → Sound t rows q
+    → Keeps t rows (settling.letGo t rows slot consumed q .links) rows (settling.letGo t rows slot consumed q .queued)
+unfolding settling.letGo
+let-go-keeps t rows slot true q sound = empty-mailbox t rows q sound slot PENDING desk-pending
+let-go-keeps t rows slot false q sound = over-mailbox t rows q sound slot (lenOf t (mailboxOf slot))
+
+release-keeps : (t rows keys actors : Table) (c : Cursor) (q : ℕ) → Sound t rows q
+    → Keeps t rows (settling.releaseOf t rows keys actors c q .links) rows (settling.releaseOf t rows keys actors c q .queued)
+unfolding settling.releaseOf
+release-keeps t rows keys actors c q sound = let-go-keeps t rows (slotOn c) (actorAt actors (slotOn c) .consumed) q sound
+
+pub settle-keeps : (t rows keys actors : Table) (c : Cursor) (s : Step) (q : ℕ) → Sound t rows q
+    → Keeps t rows (settleOf t rows keys actors c s q .links) rows (settleOf t rows keys actors c s q .settled .queued)
+unfolding settleOf
+settle-keeps t rows keys actors c end.Done q sound = release-keeps t rows keys actors c q sound
+settle-keeps t rows keys actors c end.Waiting q sound = same-keeps t rows q sound
+settle-keeps t rows keys actors c (end.Blocked until) q sound = same-keeps t rows q sound
+settle-keeps t rows keys actors c end.Yield q sound = same-keeps t rows q sound
+settle-keeps t rows keys actors c end.Failed q sound = release-keeps t rows keys actors c q sound
+
+pub settle-calm : (t rows keys actors : Table) (c : Cursor) (s : Step) (q : ℕ) → Calm (settleOf t rows keys actors c s q .settled .at)
+unfolding settleOf
+settle-calm t rows keys actors c end.Done q = omega arith
+settle-calm t rows keys actors c end.Waiting q = omega arith
+settle-calm t rows keys actors c (end.Blocked until) q = omega arith
+settle-calm t rows keys actors c end.Yield q = omega arith
+settle-calm t rows keys actors c end.Failed q = omega arith
+
+-- ---- a message crashed
+
+-- past the last slot there is no hand
+no-hand : (slot : ℕ) → (slot < 128 → ⊥) → LISTS ≤ handOf slot
+unfolding handOf
+no-hand slot none = rw (le-ltb slot 128 (omega arith)) (omega arith)
+
+abbrev DyingKeeps : Table → Table → ℕ → Dying → Type 0
+DyingKeeps t rows q d = Keeps t rows (d .links) (d .rows) q
+
+module _ (groups t rows : Table) (g q : ℕ) (sound : Sound t rows q) where
+  entry-keeps : (from e dead : ℕ) → Desk from → DyingKeeps t rows q (crashing.crashedEntry groups t rows g from e dead)
+  unfolding crashing.crashedEntry
+  entry-keeps from e dead desk =
+      let again = move-keeps t rows q sound from PENDING desk desk-pending in
+      pick-rule (DyingKeeps t rows q) (ltb (messageAt rows e .attempts) (groupAt groups g .retry))
+      (λ b. then-keeps again (row-keeps (moveFirst t from PENDING) rows q (again .sound) e (triedOf (messageAt rows e)) refl))
+      (λ b. over-keeps t rows q sound from desk)
+
+  found-keeps : (from dead : ℕ) → Desk from → (f : Found) → DyingKeeps t rows q (crashing.crashedFound groups t rows g from dead f)
+  found-keeps from dead desk (found.Entry e) = entry-keeps from e dead desk
+  found-keeps from dead desk found.Nothing = same-keeps t rows q sound
+
+  first-keeps : (from dead : ℕ) → Desk from → DyingKeeps t rows q (crashing.crashedFirst groups t rows g from dead)
+  unfolding crashing.crashedFirst
+  first-keeps from dead desk = found-keeps from dead desk (firstOf t from)
+
+  -- where there is no such list nothing crashed
+  past-keeps : (from dead : ℕ) → LISTS ≤ from → DyingKeeps t rows q (crashing.crashedFirst groups t rows g from dead)
+  unfolding crashing.crashedFirst
+  past-keeps from dead past = rw (eq-eqb (lenOf t from) 0 (len-past t from (omega (arith, sound .good .sized)))) (same-keeps t rows q sound)
+
+  held-keeps : (slot dead : ℕ) → DyingKeeps t rows q (crashing.crashedFirst groups t rows g (handOf slot) dead)
+  held-keeps slot dead = go (decLt slot 128)
+    where
+      go : Dec (slot < 128) → DyingKeeps t rows q (crashing.crashedFirst groups t rows g (handOf slot) dead)
+      go (yes p) = first-keeps (handOf slot) dead (desk-held slot p)
+      go (no p) = past-keeps (handOf slot) dead (no-hand slot p)
+
+pub crash-keeps : (groups t rows : Table) (c : Cursor) (l : Losses) (q : ℕ) → Sound t rows q → Keeps t rows (crashOf groups t rows c l .links) (crashOf groups t rows c l .rows) q
+unfolding crashOf
+crash-keeps groups t rows c l q sound = first-keeps groups t rows (c .group) q sound HAND (l .dead) desk-hand
+
+-- ---- Trap, and Trapped of each actor
+
+trapped-at-calm : (c : Cursor) (k : Key) → Calm (crashing.trappedAt c k)
+trapped-at-calm c (key.At k) = omega arith
+trapped-at-calm c key.Nothing = omega arith
+
+trapped-next-calm : (keys : Table) (c : Cursor) (from : ℕ) → Calm (crashing.trappedNext keys c from)
+unfolding crashing.trappedNext
+trapped-next-calm keys c from = trapped-at-calm c (nextKey (keysAt keys (slabRow (c .group))) (16 - from) from)
+
+trap-calm : (keys : Table) (c : Cursor) (y : YesIn) → Calm (crashing.trapBy keys c y .at)
+trap-calm keys c yes.Yes = trapped-next-calm (set keys DOOMED blankRow) c 0
+trap-calm keys c yes.No = omega arith
+trap-calm keys c yes.Other = omega arith
+
+pub trap-reply-calm : (keys : Table) (c : Cursor) (r : Reply) → Calm (trapReply keys c r .at)
+unfolding trapReply
+trap-reply-calm keys c r = trap-calm keys c (yesIn r)
+
+trapped-calm : (keys : Table) (c : Cursor) (k : ℕ) (y : YesIn) → Calm (crashing.trappedBy keys c k y .at)
+trapped-calm keys c k yes.Yes = trapped-next-calm (pushKey keys DOOMED k) c (crashing.nextAsked k)
+trapped-calm keys c k yes.No = trapped-next-calm keys c (crashing.nextAsked k)
+trapped-calm keys c k yes.Other = omega arith
+
+pub trapped-reply-calm : (keys : Table) (c : Cursor) (k : ℕ) (r : Reply) → Calm (trappedReply keys c k r .at)
+unfolding trappedReply
+trapped-reply-calm keys c k r = trapped-calm keys c k (yesIn r)
+
+-- ---- those that were trapped are retired
+
+abbrev CrashingKeeps : Table → Table → Crashing → Type 0
+CrashingKeeps t rows s = Keeps t rows (s .links) (s .rows) (s .crashed .queued)
+
+module _ (groups t rows keys : Table) (c : Cursor) (left q : ℕ) (l : Losses) where
+  doomed-key-keeps : (names : Table) (k n : ℕ) → Sound t rows q → CrashingKeeps t rows (crashing.doomedKey groups t rows names c k n q l)
+  unfolding crashing.doomedKey
+  doomed-key-keeps names k n sound =
+      let back = empty-mailbox t rows q sound (slotAt (c .group) k) PENDING desk-pending in
+      then-keeps back (held-keeps groups (crashing.mailBack t (slotAt (c .group) k)) rows (c .group) _ (back .sound) (slotAt (c .group) k) (l .dead))
+
+  doomed-front-keeps : Sound t rows q → (k : Key) → CrashingKeeps t rows (crashing.doomedFront groups t rows keys c left q l k)
+  doomed-front-keeps sound (key.At k) = doomed-key-keeps (set keys DOOMED (popFront (keysAt keys DOOMED))) k (left - 1) sound
+  doomed-front-keeps sound key.Nothing = same-keeps t rows q sound
+
+  pub doomed-keeps : Sound t rows q
+      → Keeps t rows (doomedOf groups t rows keys c left q l .links) (doomedOf groups t rows keys c left q l .rows) (doomedOf groups t rows keys c left q l .crashed .queued)
+  unfolding doomedOf
+  doomed-keeps sound =
+      pick-rule (CrashingKeeps t rows) (eqb left 0) (λ e. same-keeps t rows q sound) (λ e. doomed-front-keeps sound (frontOf (keysAt keys DOOMED)))
+
+  doomed-front-calm : (k : Key) → Calm (crashing.doomedFront groups t rows keys c left q l k .crashed .at)
+  unfolding crashing.doomedKey
+  doomed-front-calm (key.At k) = omega arith
+  doomed-front-calm key.Nothing = omega arith
+
+  pub doomed-calm : Calm (doomedOf groups t rows keys c left q l .crashed .at)
+  unfolding doomedOf
+  doomed-calm = pick-rule (λ (s : Crashing). Calm (s .crashed .at)) (eqb left 0) (λ e. omega arith) (λ e. doomed-front-calm (frontOf (keysAt keys DOOMED)))

@@ -1,0 +1,1 @@
+// Every part of a turn keeps every message in exactly one of its places: definitions and laws, no code.

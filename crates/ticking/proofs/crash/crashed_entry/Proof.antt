@@ -1,0 +1,78 @@
+-- `crash::crashed_entry` meets its contract: by whether the message has been tried as often as its group allows. Assumes nothing.
+use Rattle.ticking.specs.Crash.{crashedEntry}
+use borrow.Author.Tests.{le-ltb, lt-ltb}
+use borrow.Author.Needs.{needs}
+use Rattle.ticking.proofs.crash.crashed_entry.Statement.{statement}
+use Rattle.ticking.proofs.crash.crashed_entry.Tie as tie
+
+group-at-requires : tie.Need-group-at-requires
+group-at-requires c κs = search needs
+
+message-at-requires : tie.Need-message-at-requires
+message-at-requires c κs = search needs
+
+tried-requires : tie.Need-tried-requires
+tried-requires c κs = search needs
+
+put-message-requires : tie.Need-put-message-requires
+put-message-requires c κs = search needs
+
+move-first-requires : tie.Need-move-first-requires
+move-first-requires c κs = search needs
+
+same-length : tie.Need-same-length
+same-length c = search needs
+
+same-length-2 : tie.Need-same-length-2
+same-length-2 c = search needs
+
+returns : tie.Need-returns
+unfolding crashedEntry
+returns c =
+    let e1 = c .before .before .before .before .before .before .before .before .before .before .group-at .ensures in
+    let e2 = c .before .before .before .before .before .before .before .before .message-at .ensures in
+    let h1 = simp (e1, e2) at (lt-ltb _ _ (c .before .before .before .before .before .before .before .if1 .taken)) in
+    let e3 = c .before .before .before .before .before .before .tried .ensures in
+    let e4 = c .before .before .before .before .put-message .ensures in
+    let e5 = c .before .move-first .ensures in
+    simp (e2, e3, e4, e5, h1)
+
+over-first-requires : tie.Need-over-first-requires
+over-first-requires c κs = search needs
+
+sum-requires : tie.Need-sum-requires
+sum-requires c κs = search needs
+
+same-length-3 : tie.Need-same-length-3
+same-length-3 c = search needs
+
+same-length-4 : tie.Need-same-length-4
+same-length-4 c = search needs
+
+returns-2 : tie.Need-returns-2
+unfolding crashedEntry
+returns-2 c =
+    let e1 = c .before .before .before .before .before .before .before .before .group-at .ensures in
+    let e2 = c .before .before .before .before .before .before .message-at .ensures in
+    let h1 = simp (e1, e2) at (le-ltb _ _ (c .before .before .before .before .before .if1 .left)) in
+    let e3 = c .before .before .over-first .ensures in
+    let e4 = c .sum .ensures in
+    simp (e3, e4, h1)
+
+pub crashed-entry-spec : {M : Type 1} → statement M
+crashed-entry-spec =
+    tie.close
+    (tie.spec
+    group-at-requires
+    message-at-requires
+    tried-requires
+    put-message-requires
+    move-first-requires
+    same-length
+    same-length-2
+    returns
+    over-first-requires
+    sum-requires
+    same-length-3
+    same-length-4
+    returns-2)

@@ -1,0 +1,77 @@
+-- `waking::wake` meets its contract: by whether there is a group left; its waiting list is kept aside and then stored empty. Assumes nothing.
+use Rattle.ticking.specs.Waking.{wakeOf}
+use borrow.Author.Tests.{le-leb, lt-leb}
+use borrow.Author.Needs.{needs}
+use Rattle.ticking.proofs.waking.wake.Statement.{statement}
+use Rattle.ticking.proofs.waking.wake.Tie as tie
+
+returns : tie.Need-returns
+unfolding wakeOf
+returns c =
+    let h1 = le-leb _ _ (c .if1 .taken) in
+    simp (h1)
+
+returns-2 : tie.Need-returns-2
+unfolding wakeOf
+returns-2 c =
+    let h1 = lt-leb _ _ (c .before .if1 .left) in
+    let h2 = le-leb _ _ (c .if2 .taken) in
+    simp (h1, h2)
+
+waiting-row-requires : tie.Need-waiting-row-requires
+waiting-row-requires c κs = search needs
+
+keys-at-requires : tie.Need-keys-at-requires
+keys-at-requires c κs = search needs
+
+count-requires : tie.Need-count-requires
+count-requires c κs = search needs
+
+cast-n : tie.Need-cast-n
+cast-n c = search needs
+
+put-keys-requires : tie.Need-put-keys-requires
+put-keys-requires c κs = search needs
+
+empty-requires : tie.Need-empty-requires
+empty-requires c κs = search needs
+
+put-keys-requires-2 : tie.Need-put-keys-requires-2
+put-keys-requires-2 c κs = search needs
+
+at-most-64-requires : tie.Need-at-most-64-requires
+at-most-64-requires c κs = search needs
+
+same-length : tie.Need-same-length
+same-length c = search needs
+
+returns-3 : tie.Need-returns-3
+unfolding wakeOf
+returns-3 c =
+    let h1 = lt-leb _ _ (c .before .before .before .before .before .before .before .before .before .before .before .before .before .if1 .left) in
+    let h2 = lt-leb _ _ (c .before .before .before .before .before .before .before .before .before .before .before .before .if2 .left) in
+    let e1 = c .before .before .before .before .before .before .before .before .before .before .before .waiting-row .ensures in
+    let e2 = c .before .before .before .before .before .before .before .before .before .keys-at .ensures in
+    let e3 = c .before .before .before .before .before .before .before .before .count .ensures in
+    let e4 = c .before .before .before .before .before .before .put-keys .ensures in
+    let e5 = c .before .before .before .before .empty .ensures in
+    let e6 = c .before .before .put-keys2 .ensures in
+    let e7 = c .at-most-64 .ensures in
+    simp (e1, e2, e3, e4, e5, e6, e7, h1, h2)
+
+pub wake-spec : {M : Type 1} → statement M
+wake-spec =
+    tie.close
+    (tie.spec
+    returns
+    returns-2
+    waiting-row-requires
+    keys-at-requires
+    count-requires
+    cast-n
+    put-keys-requires
+    empty-requires
+    put-keys-requires-2
+    at-most-64-requires
+    same-length
+    returns-3)

@@ -1,0 +1,122 @@
+-- `waking::wake_one` meets its contract: by whether the actor is there, past its deadline, or to be polled. Assumes nothing.
+use Rattle.group.specs.Roster.{Keyed}
+use Rattle.ticking.specs.Waking.{wakeOne}
+use mathlib.Core.Path.{ap}
+use borrow.Author.Needs.{needs}
+use Rattle.ticking.proofs.waking.wake_one.Statement.{statement}
+use Rattle.ticking.proofs.waking.wake_one.Tie as tie
+
+live-requires : tie.Need-live-requires
+live-requires c κs = search needs
+
+slot-at-requires : tie.Need-slot-at-requires
+slot-at-requires c κs = search needs
+
+actor-at-requires : tie.Need-actor-at-requires
+actor-at-requires c κs = search needs
+
+late-requires : tie.Need-late-requires
+late-requires c κs = search needs
+
+polls-requires : tie.Need-polls-requires
+polls-requires c κs = search needs
+
+woken-to-requires : tie.Need-woken-to-requires
+woken-to-requires c κs = search needs
+
+same-length : tie.Need-same-length
+same-length c = search needs
+
+same-length-2 : tie.Need-same-length-2
+same-length-2 c = search needs
+
+returns : tie.Need-returns
+unfolding wakeOne
+returns c =
+    let e1 = c .before .before .before .before .before .before .before .before .before .before .before .before .live .ensures in
+    let h1 = simp (e1) at (c .before .before .before .before .before .before .before .before .before .before .before .if1 .taken) in
+    let e2 = c .before .before .before .before .before .before .before .before .before .before .slot-at .ensures in
+    let e3 = c .before .before .before .before .before .before .before .before .actor-at .ensures in
+    let e4 = c .before .before .before .before .before .before .before .late .ensures in
+    let h2 = simp (e2, e3, e4) at (c .before .before .before .before .before .if2 .taken) in
+    let e5 = c .before .before .woken-to .ensures in
+    let e5-keys = ap (λ (s : Keyed). s .keys) e5 in
+    let e5-actors = ap (λ (s : Keyed). s .actors) e5 in
+    simp (e5-keys, e5-actors, h1, h2)
+
+same-length-3 : tie.Need-same-length-3
+same-length-3 c = search needs
+
+same-length-4 : tie.Need-same-length-4
+same-length-4 c = search needs
+
+returns-2 : tie.Need-returns-2
+unfolding wakeOne
+returns-2 c =
+    let e1 = c .before .before .before .before .before .before .before .before .live .ensures in
+    let h1 = simp (e1) at (c .before .before .before .before .before .before .before .if1 .taken) in
+    let e2 = c .before .before .before .before .before .before .slot-at .ensures in
+    let e3 = c .before .before .before .before .actor-at .ensures in
+    let e4 = c .before .before .before .late .ensures in
+    let e5 = c .before .before .polls .ensures in
+    let h2 = simp (e2, e3, e4) at (c .before .if2 .left) in
+    let h3 = simp (e2, e3, e5) at (c .if3 .taken) in
+    simp (h1, h2, h3)
+
+woken-to-requires-2 : tie.Need-woken-to-requires-2
+woken-to-requires-2 c κs = search needs
+
+same-length-5 : tie.Need-same-length-5
+same-length-5 c = search needs
+
+same-length-6 : tie.Need-same-length-6
+same-length-6 c = search needs
+
+returns-3 : tie.Need-returns-3
+unfolding wakeOne
+returns-3 c =
+    let e1 = c .before .before .before .before .before .before .before .before .before .before .before .before .before .live .ensures in
+    let h1 = simp (e1) at (c .before .before .before .before .before .before .before .before .before .before .before .before .if1 .taken) in
+    let e2 = c .before .before .before .before .before .before .before .before .before .before .before .slot-at .ensures in
+    let e3 = c .before .before .before .before .before .before .before .before .before .actor-at .ensures in
+    let e4 = c .before .before .before .before .before .before .before .before .late .ensures in
+    let e5 = c .before .before .before .before .before .before .before .polls .ensures in
+    let h2 = simp (e2, e3, e4) at (c .before .before .before .before .before .before .if2 .left) in
+    let h3 = simp (e2, e3, e5) at (c .before .before .before .before .before .if3 .left) in
+    let e6 = c .before .before .woken-to2 .ensures in
+    let e6-keys = ap (λ (s : Keyed). s .keys) e6 in
+    let e6-actors = ap (λ (s : Keyed). s .actors) e6 in
+    simp (e6-keys, e6-actors, h1, h2, h3)
+
+same-length-7 : tie.Need-same-length-7
+same-length-7 c = search needs
+
+returns-4 : tie.Need-returns-4
+unfolding wakeOne
+returns-4 c =
+    let e1 = c .before .live .ensures in
+    let h1 = simp (e1) at (c .if1 .left) in
+    simp (h1)
+
+pub wake-one-spec : {M : Type 1} → statement M
+wake-one-spec =
+    tie.close
+    (tie.spec
+    live-requires
+    slot-at-requires
+    actor-at-requires
+    late-requires
+    polls-requires
+    woken-to-requires
+    same-length
+    same-length-2
+    returns
+    same-length-3
+    same-length-4
+    returns-2
+    woken-to-requires-2
+    same-length-5
+    same-length-6
+    returns-3
+    same-length-7
+    returns-4)

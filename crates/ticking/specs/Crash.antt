@@ -1,0 +1,129 @@
+-- Crashed messages are tried again up to the group's retries, else dead; dead and crash counts are held at their largest. After a failure in a fixed group
+-- Trap is asked, and after yes Trapped of each actor left; those that answer yes are retired in key order: their mailboxes go back to pending, and what
+-- they had in their hands crashed.
+use Prim.Native.Nat.{ℕ, _+_, _-_}
+use lib.Dec.{eqb, ltb}
+use lib.ListN.{set}
+use Rattle.lists.specs.declared.Found.{Found}
+use Rattle.lists.specs.declared.Found.the-variants as found
+use Rattle.lists.specs.declared.keys.Key.{Key}
+use Rattle.lists.specs.declared.keys.Key.the-variants as key
+use Rattle.lists.specs.Links.{pick, Table, lenOf, capped, firstOf, moveFirst, moveAll, mailboxOf, handOf}
+use Rattle.lists.specs.KeyLists.{blankRow, keysAt, frontOf, popFront}
+use Rattle.lists.specs.Slabs.{nextKey}
+use Rattle.actor.specs.declared.question.Reply.{Reply}
+use Rattle.actor.specs.declared.question.YesIn.{YesIn}
+use Rattle.actor.specs.declared.question.YesIn.the-variants as yes
+use Rattle.actor.specs.Questions.{yesIn}
+use Rattle.actor.specs.Messages.{messageAt, putMessage, triedOf}
+use Rattle.steps.specs.Steps.{HAND, overFirst}
+use Rattle.group.specs.declared.at.At.{At}
+use Rattle.group.specs.declared.at.At.the-variants as at
+use Rattle.group.specs.declared.at.Cursor.{Cursor}
+use Rattle.group.specs.At.{readyAfter}
+use Rattle.group.specs.Settings.{groupAt}
+use Rattle.group.specs.Roster.{DOOMED, slabRow, slotAt, pushKey}
+use Rattle.ticking.specs.declared.crash.Losses.{Losses}
+use Rattle.ticking.specs.declared.crash.Crashed.{Crashed}
+use Rattle.ticking.specs.Waking.{Listed}
+use Rattle.ticking.specs.Settle.{PENDING, removeKey}
+
+pub record Dying : Type 0 where
+  pub links : Table
+  pub rows : Table
+  pub dead : ℕ
+
+pub record Losing : Type 0 where
+  pub links : Table
+  pub rows : Table
+  pub losses : Losses
+
+pub record Crashing : Type 0 where
+  pub links : Table
+  pub rows : Table
+  pub keys : Table
+  pub crashed : Crashed
+
+-- the first message of a list crashed
+unfoldable pub crashedEntry : Table → Table → Table → ℕ → ℕ → ℕ → ℕ → Dying
+crashedEntry groups t rows g from e dead =
+    pick (ltb (messageAt rows e .attempts) (groupAt groups g .retry))
+    (record { links = moveFirst t from PENDING; rows = putMessage rows e (triedOf (messageAt rows e)); dead = dead })
+    (record { links = overFirst t rows from; rows = rows; dead = capped (dead + 1) })
+
+abbrev pub crashedFound : Table → Table → Table → ℕ → ℕ → ℕ → Found → Dying
+crashedFound groups t rows g from dead (found.Entry e) = crashedEntry groups t rows g from e dead
+crashedFound groups t rows g from dead found.Nothing = record { links = t; rows = rows; dead = dead }
+
+unfoldable pub crashedFirst : Table → Table → Table → ℕ → ℕ → ℕ → Dying
+crashedFirst groups t rows g from dead = crashedFound groups t rows g from dead (firstOf t from)
+
+abbrev pub losing : Dying → ℕ → Losing
+losing d crashes = record { links = d .links; rows = d .rows; losses = record { dead = d .dead; crashes = crashes } }
+
+-- the message in the step's hand crashed with its actor
+unfoldable pub crashOf : Table → Table → Table → Cursor → Losses → Losing
+crashOf groups t rows c l = losing (crashedFirst groups t rows (c .group) HAND (l .dead)) (capped (l .crashes + 1))
+
+-- ---- Trap, and Trapped of each actor in key order
+
+abbrev pub trappedAt : Cursor → Key → At
+trappedAt c (key.At k) = at.Trapped c k
+trappedAt c key.Nothing = at.Doomed c 16
+
+unfoldable pub trappedNext : Table → Cursor → ℕ → At
+trappedNext keys c from = trappedAt c (nextKey (keysAt keys (slabRow (c .group))) (16 - from) from)
+
+abbrev pub listedAt : Table → At → Listed
+listedAt keys a = record { keys = keys; at = a }
+
+abbrev pub trapBy : Table → Cursor → YesIn → Listed
+trapBy keys c yes.Yes = listedAt (set keys DOOMED blankRow) (trappedNext (set keys DOOMED blankRow) c 0)
+trapBy keys c yes.No = listedAt keys (readyAfter c)
+trapBy keys c yes.Other = listedAt keys (at.Trap c)
+
+unfoldable pub trapReply : Table → Cursor → Reply → Listed
+trapReply keys c r = trapBy keys c (yesIn r)
+
+abbrev pub nextAsked : ℕ → ℕ
+nextAsked k = pick (ltb k 16) (k + 1) 16
+
+abbrev pub trappedBy : Table → Cursor → ℕ → YesIn → Listed
+trappedBy keys c k yes.Yes = listedAt (pushKey keys DOOMED k) (trappedNext (pushKey keys DOOMED k) c (nextAsked k))
+trappedBy keys c k yes.No = listedAt keys (trappedNext keys c (nextAsked k))
+trappedBy keys c k yes.Other = listedAt keys (at.Trapped c k)
+
+unfoldable pub trappedReply : Table → Cursor → ℕ → Reply → Listed
+trappedReply keys c k r = trappedBy keys c k (yesIn r)
+
+-- ---- those that were trapped are retired
+
+abbrev pub crashedAt : At → ℕ → ℕ → ℕ → Crashed
+crashedAt a queued dead crashes = record { at = a; queued = queued; losses = record { dead = dead; crashes = crashes } }
+
+abbrev pub doomedBy : Dying → Table → At → ℕ → ℕ → Crashing
+doomedBy d keys a queued crashes = record { links = d .links; rows = d .rows; keys = keys; crashed = crashedAt a queued (d .dead) crashes }
+
+abbrev pub mailBack : Table → ℕ → Table
+mailBack t slot = moveAll t (mailboxOf slot) PENDING
+
+unfoldable pub doomedKey : Table → Table → Table → Table → Cursor → ℕ → ℕ → ℕ → Losses → Crashing
+doomedKey groups t rows keys c k left queued l =
+    doomedBy
+    (crashedFirst groups (mailBack t (slotAt (c .group) k)) rows (c .group) (handOf (slotAt (c .group) k)) (l .dead))
+    (removeKey keys (c .group) k)
+    (at.Doomed c left)
+    (capped (queued + lenOf (mailBack t (slotAt (c .group) k)) (mailboxOf (slotAt (c .group) k))) - lenOf t (mailboxOf (slotAt (c .group) k)))
+    (capped (l .crashes + 1))
+
+abbrev pub doomedDone : Table → Table → Table → Cursor → ℕ → Losses → Crashing
+doomedDone t rows keys c queued l = record { links = t; rows = rows; keys = keys; crashed = record { at = readyAfter c; queued = queued; losses = l } }
+
+abbrev pub doomedFront : Table → Table → Table → Table → Cursor → ℕ → ℕ → Losses → Key → Crashing
+doomedFront groups t rows keys c left queued l (key.At k) =
+    doomedKey groups t rows (set keys DOOMED (popFront (keysAt keys DOOMED))) c k (left - 1) queued l
+doomedFront groups t rows keys c left queued l key.Nothing = doomedDone t rows keys c queued l
+
+unfoldable pub doomedOf : Table → Table → Table → Table → Cursor → ℕ → ℕ → Losses → Crashing
+doomedOf groups t rows keys c left queued l =
+    pick (eqb left 0) (doomedDone t rows keys c queued l) (doomedFront groups t rows keys c left queued l (frontOf (keysAt keys DOOMED)))

@@ -1,0 +1,5 @@
+-- Definitions and statements.
+pub mod Waking
+pub mod Ready
+pub mod Settle
+pub mod Crash

@@ -1,0 +1,92 @@
+-- A step's end: Sends is asked, not of eval; then the actor is put into a list, or leaves its group. One that ended or raised sends its mailbox back to
+-- pending if it ever took a message, else its mail is over.
+use mathlib.Core.Bool.{Bool, true, false}
+use Prim.Native.Nat.{ℕ, _+_, _-_}
+use lib.ListN.{set}
+use Rattle.lists.specs.Links.{Table, lenOf, capped, moveAll, mailboxOf}
+use Rattle.lists.specs.KeyLists.{keysAt}
+use Rattle.lists.specs.Slabs.{removeOf}
+use Rattle.actor.specs.declared.state.Mode.{Mode}
+use Rattle.actor.specs.declared.state.Mode.the-variants as mode
+use Rattle.actor.specs.declared.state.Wake.{Wake}
+use Rattle.actor.specs.Actors.{actorAt, putActor, blockedTo, yieldedAs}
+use Rattle.steps.specs.declared.step.Step.{Step}
+use Rattle.steps.specs.declared.step.Step.the-variants as end
+use Rattle.group.specs.declared.at.At.{At}
+use Rattle.group.specs.declared.at.At.the-variants as at
+use Rattle.group.specs.declared.at.Cursor.{Cursor}
+use Rattle.group.specs.At.{readyAfter}
+use Rattle.group.specs.Roster.{slabRow, idleRow, waitingRow, slotAt, Keyed, pushKey, scheduleOf, overAll}
+use Rattle.ticking.specs.declared.settle.Settled.{Settled}
+
+abbrev pub PENDING : ℕ
+PENDING = 2
+
+pub record LetGo : Type 0 where
+  pub links : Table
+  pub queued : ℕ
+
+pub record Released : Type 0 where
+  pub links : Table
+  pub keys : Table
+  pub queued : ℕ
+
+-- what settling changes, and where the turn stands then
+pub record Settling : Type 0 where
+  pub links : Table
+  pub keys : Table
+  pub actors : Table
+  pub settled : Settled
+
+-- the slot of the step's actor
+abbrev pub slotOn : Cursor → ℕ
+slotOn c = slotAt (c .group) (c .key)
+
+abbrev pub endBy : Cursor → Step → Mode → At
+endBy c s mode.Fixed = at.Sends c s
+endBy c s mode.Eval = at.Settle c s
+
+unfoldable pub stepEnd : Table → Cursor → Step → At
+stepEnd actors c s = endBy c s (actorAt actors (slotOn c) .mode)
+
+unfoldable pub removeKey : Table → ℕ → ℕ → Table
+removeKey keys g k = set keys (slabRow g) (removeOf (keysAt keys (slabRow g)) k)
+
+-- queued changes as the mailbox's length does
+abbrev pub letGoTo : Table → Table → ℕ → ℕ → LetGo
+letGoTo t r slot queued = record { links = r; queued = capped (queued + lenOf r (mailboxOf slot)) - lenOf t (mailboxOf slot) }
+
+unfoldable pub letGo : Table → Table → ℕ → Bool → ℕ → LetGo
+letGo t rows slot true queued = letGoTo t (moveAll t (mailboxOf slot) PENDING) slot queued
+letGo t rows slot false queued = letGoTo t (overAll t rows (mailboxOf slot) (lenOf t (mailboxOf slot))) slot queued
+
+abbrev pub releasedBy : LetGo → Table → Released
+releasedBy l keys = record { links = l .links; keys = keys; queued = l .queued }
+
+unfoldable pub releaseOf : Table → Table → Table → Table → Cursor → ℕ → Released
+releaseOf t rows keys actors c queued =
+    releasedBy (letGo t rows (slotOn c) (actorAt actors (slotOn c) .consumed) queued) (removeKey keys (c .group) (c .key))
+
+unfoldable pub blockAt : Table → Table → Cursor → Wake → Keyed
+blockAt keys actors c until =
+    record { keys = pushKey keys (waitingRow (c .group)) (c .key); actors = putActor actors (slotOn c) (blockedTo (actorAt actors (slotOn c)) until) }
+
+unfoldable pub yieldAt : Table → Table → Cursor → Keyed
+yieldAt keys actors c = scheduleOf keys (putActor actors (slotOn c) (yieldedAs (actorAt actors (slotOn c)))) (c .group) (c .key)
+
+abbrev pub settledAt : At → ℕ → Settled
+settledAt a queued = record { at = a; queued = queued }
+
+abbrev pub settledRelease : Released → Table → At → Settling
+settledRelease r actors a = record { links = r .links; keys = r .keys; actors = actors; settled = settledAt a (r .queued) }
+
+abbrev pub settledKeys : Table → Keyed → At → ℕ → Settling
+settledKeys t k a queued = record { links = t; keys = k .keys; actors = k .actors; settled = settledAt a queued }
+
+unfoldable pub settleOf : Table → Table → Table → Table → Cursor → Step → ℕ → Settling
+settleOf t rows keys actors c end.Done queued = settledRelease (releaseOf t rows keys actors c queued) actors (readyAfter c)
+settleOf t rows keys actors c end.Waiting queued =
+    record { links = t; keys = pushKey keys (idleRow (c .group)) (c .key); actors = actors; settled = settledAt (readyAfter c) queued }
+settleOf t rows keys actors c (end.Blocked until) queued = settledKeys t (blockAt keys actors c until) (readyAfter c) queued
+settleOf t rows keys actors c end.Yield queued = settledKeys t (yieldAt keys actors c) (readyAfter c) queued
+settleOf t rows keys actors c end.Failed queued = settledRelease (releaseOf t rows keys actors c queued) actors (at.Crash c)

@@ -1,0 +1,169 @@
+// A group's ready list is popped, and each actor that has work is stepped once.
+ghost use mathlib.Core.Path.{_≡_};
+ghost use Rattle.ticking.specs.Ready.{restsOf, beginFixed, beginEval, beginStep, readyKey, readyOf};
+use actor::state;
+use actor::state::Actor;
+use actor::state::Mode;
+use group::at;
+use group::at::At;
+use group::at::Cursor;
+use group::roster;
+use lists::keys;
+use lists::keys::Key;
+use steps::eval;
+use steps::fixed;
+
+// Where the turn stands then, how many messages are in mailboxes, and whether an actor was stepped.
+pub struct Begun {
+    pub at: At,
+    pub queued: u64,
+    pub stepped: bool,
+}
+
+// Whether an actor has no work: an empty mailbox, and it ran and is not runnable.
+fn rests(a: Actor, waiting: u64) -> bool
+    ensures { λ r. ⌜ r ≡ restsOf a waiting ⌝ }
+{
+    let ran = a.ran;
+    let runnable = a.runnable;
+    if waiting == 0 {
+        if runnable { false } else { ran }
+    } else {
+        false
+    }
+}
+
+// A step of a fixed actor begins.
+fn begin_fixed(actors: &mut [[u64; 12]], c: Cursor, slot: usize) -> At
+    ensures { λ r. ⌜ record { actors = now (actors .exit); at = r } ≡ beginFixed (now (actors .entry)) c slot ⌝ }
+{
+    let next = fixed::fixed_start(actors, slot);
+    at::fixed_after(c, next)
+}
+
+// A step of an eval actor begins; one with no run and no mail ends at once.
+fn begin_eval(
+    links: &mut [[u64; 4]],
+    actors: &mut [[u64; 12]],
+    c: Cursor,
+    slot: usize,
+    queued: u64,
+) -> Begun
+    ensures { λ r. ⌜ record { links = now (links .exit); actors = now (actors .exit); begun = r } ≡ beginEval (now (links .entry)) (now (actors .entry)) c slot queued ⌝ }
+{
+    let s = eval::eval_start(links, actors, slot, queued);
+    let next = s.at;
+    let at = at::eval_after(c, next);
+    Begun {
+        at,
+        queued: s.queued,
+        stepped: true,
+    }
+}
+
+// The actor of a slot is stepped.
+fn begin_step(
+    links: &mut [[u64; 4]],
+    actors: &mut [[u64; 12]],
+    c: Cursor,
+    slot: usize,
+    queued: u64,
+) -> Begun
+    ensures { λ r. ⌜ record { links = now (links .exit); actors = now (actors .exit); begun = r } ≡ beginStep (now (links .entry)) (now (actors .entry)) c slot queued ⌝ }
+{
+    let a = state::actor_at(actors, slot);
+    let mode = a.mode;
+    let b = state::began(a);
+    state::put_actor(actors, slot, b);
+    match mode {
+        Mode::Fixed => {
+            let at = begin_fixed(actors, c, slot);
+            Begun {
+                at,
+                queued,
+                stepped: true,
+            }
+        }
+        Mode::Eval => begin_eval(links, actors, c, slot, queued),
+    }
+}
+
+// A key of the ready list: its actor is scheduled no more, and stepped if it has work.
+fn ready_key(
+    links: &mut [[u64; 4]],
+    lists: &[[u8; 65]],
+    actors: &mut [[u64; 12]],
+    c: Cursor,
+    queued: u64,
+    stepped: bool,
+) -> Begun
+    ensures { λ r. ⌜ record { links = now (links .exit); actors = now (actors .exit); begun = r } ≡ readyKey (now (links .entry)) (now (lists .entry)) (now (actors .entry)) c queued stepped ⌝ }
+{
+    let next = at::ready_after(c);
+    let there = roster::live(lists, c.group, c.key);
+    if there {
+        let slot = roster::slot_at(c.group, c.key);
+        let a = state::actor_at(actors, slot);
+        let waiting = lists::length_of(links, lists::mailbox(slot));
+        let done = rests(a, waiting);
+        let b = state::scheduled(a, false);
+        state::put_actor(actors, slot, b);
+        if done {
+            return Begun {
+                at: next,
+                queued,
+                stepped,
+            };
+        }
+        return begin_step(links, actors, c, slot, queued);
+    }
+    Begun {
+        at: next,
+        queued,
+        stepped,
+    }
+}
+
+// The next key of the ready list, or the next group.
+pub fn ready(
+    links: &mut [[u64; 4]],
+    lists: &mut [[u8; 65]],
+    actors: &mut [[u64; 12]],
+    queued: u64,
+    stepped: bool,
+    g: usize,
+    clock: u64,
+    pops: u64,
+) -> Begun
+    ensures { λ r. ⌜ record { links = now (links .exit); keys = now (lists .exit); actors = now (actors .exit); begun = r } ≡ readyOf (now (links .entry)) (now (lists .entry)) (now (actors .entry)) queued stepped g clock pops ⌝ }
+{
+    let after = at::next_group(g);
+    if pops == 0 {
+        return Begun {
+            at: At::Wake(after, clock),
+            queued,
+            stepped,
+        };
+    }
+    let row = roster::ready_row(g);
+    let held = keys::keys_at(lists, row);
+    match keys::front(held) {
+        Key::At(key) => {
+            let rest = keys::pop_front(held);
+            keys::put_keys(lists, row, rest);
+            let fewer = lists::less(pops, 1);
+            let c = Cursor {
+                group: g,
+                key,
+                now: clock,
+                pops: fewer,
+            };
+            ready_key(links, lists, actors, c, queued, stepped)
+        }
+        Key::Nothing => Begun {
+            at: At::Wake(after, clock),
+            queued,
+            stepped,
+        },
+    }
+}

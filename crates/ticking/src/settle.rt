@@ -1,0 +1,152 @@
+// `settle` of the Rust: a step's end puts the actor into a list, or takes it out of its group.
+ghost use mathlib.Core.Path.{_≡_};
+ghost use Rattle.ticking.specs.Settle.{stepEnd, removeKey, letGo, releaseOf, blockAt, yieldAt, settleOf};
+use actor::state;
+use actor::state::Mode;
+use actor::state::Wake;
+use group::at;
+use group::at::At;
+use group::at::Cursor;
+use group::over;
+use group::roster;
+use lists::keys;
+use lists::slab;
+use steps::step::Step;
+
+// Where the turn stands then, and how many messages are in mailboxes.
+pub struct Settled {
+    pub at: At,
+    pub queued: u64,
+}
+
+// The step's finished messages have their marks: Sends is asked, not of eval.
+pub fn step_end(actors: &[[u64; 12]], c: Cursor, step: Step) -> At
+    ensures { λ r. ⌜ r ≡ stepEnd (now (actors .entry)) c step ⌝ }
+{
+    let slot = roster::slot_at(c.group, c.key);
+    let a = state::actor_at(actors, slot);
+    let mode = a.mode;
+    match mode {
+        Mode::Fixed => At::Sends(c, step),
+        Mode::Eval => At::Settle(c, step),
+    }
+}
+
+// A key is free again.
+pub(crate) fn remove_key(lists: &mut [[u8; 65]], g: usize, key: u8)
+    ensures { λ r. ⌜ now (lists .exit) ≡ removeKey (now (lists .entry)) g key ⌝ }
+{
+    let row = roster::slab_row(g);
+    let given = keys::keys_at(lists, row);
+    let fewer = slab::remove(given, key);
+    keys::put_keys(lists, row, fewer);
+}
+
+// The mailbox of an actor that is gone: back to pending if it ever took a message, else over. Queued changes as the mailbox does.
+fn let_go(
+    links: &mut [[u64; 4]],
+    rows: &[[u64; 7]],
+    slot: usize,
+    consumed: bool,
+    queued: u64,
+) -> u64
+    ensures { λ r. ⌜ record { links = now (links .exit); queued = r } ≡ letGo (now (links .entry)) (now (rows .entry)) slot consumed queued ⌝ }
+{
+    let mailbox = lists::mailbox(slot);
+    let before = lists::length_of(links, mailbox);
+    if consumed {
+        lists::move_all(links, mailbox, lists::PENDING);
+        let after = lists::length_of(links, mailbox);
+        let more = lists::sum(queued, after);
+        return lists::less(more, before);
+    }
+    over::over_all(links, rows, mailbox, before);
+    let after = lists::length_of(links, mailbox);
+    let more = lists::sum(queued, after);
+    lists::less(more, before)
+}
+
+// An actor that ended or raised leaves its group.
+fn release(
+    links: &mut [[u64; 4]],
+    rows: &[[u64; 7]],
+    lists: &mut [[u8; 65]],
+    actors: &[[u64; 12]],
+    c: Cursor,
+    queued: u64,
+) -> u64
+    ensures { λ r. ⌜ record { links = now (links .exit); keys = now (lists .exit); queued = r } ≡ releaseOf (now (links .entry)) (now (rows .entry)) (now (lists .entry)) (now (actors .entry)) c queued ⌝ }
+{
+    let slot = roster::slot_at(c.group, c.key);
+    let a = state::actor_at(actors, slot);
+    let consumed = a.consumed;
+    remove_key(lists, c.group, c.key);
+    let_go(links, rows, slot, consumed, queued)
+}
+
+// Parked on a host call, it waits.
+fn block_at(lists: &mut [[u8; 65]], actors: &mut [[u64; 12]], c: Cursor, until: Wake)
+    ensures { λ r. ⌜ record { keys = now (lists .exit); actors = now (actors .exit) } ≡ blockAt (now (lists .entry)) (now (actors .entry)) c until ⌝ }
+{
+    let slot = roster::slot_at(c.group, c.key);
+    let a = state::actor_at(actors, slot);
+    let b = state::blocked(a, until);
+    state::put_actor(actors, slot, b);
+    let row = roster::waiting_row(c.group);
+    roster::push_key(lists, row, c.key);
+}
+
+// It handed the thread on: it runs again from the back of the ready list.
+fn yield_at(lists: &mut [[u8; 65]], actors: &mut [[u64; 12]], c: Cursor)
+    ensures { λ r. ⌜ record { keys = now (lists .exit); actors = now (actors .exit) } ≡ yieldAt (now (lists .entry)) (now (actors .entry)) c ⌝ }
+{
+    let slot = roster::slot_at(c.group, c.key);
+    let a = state::actor_at(actors, slot);
+    let b = state::yielded(a);
+    state::put_actor(actors, slot, b);
+    roster::schedule(lists, actors, c.group, c.key);
+}
+
+// A step is settled.
+pub fn settle(
+    links: &mut [[u64; 4]],
+    rows: &[[u64; 7]],
+    lists: &mut [[u8; 65]],
+    actors: &mut [[u64; 12]],
+    c: Cursor,
+    step: Step,
+    queued: u64,
+) -> Settled
+    ensures { λ r. ⌜ record { links = now (links .exit); keys = now (lists .exit); actors = now (actors .exit); settled = r } ≡ settleOf (now (links .entry)) (now (rows .entry)) (now (lists .entry)) (now (actors .entry)) c step queued ⌝ }
+{
+    let next = at::ready_after(c);
+    match step {
+        Step::Done => {
+            let fewer = release(links, rows, lists, actors, c, queued);
+            Settled {
+                at: next,
+                queued: fewer,
+            }
+        }
+        Step::Waiting => {
+            let row = roster::idle_row(c.group);
+            roster::push_key(lists, row, c.key);
+            Settled { at: next, queued }
+        }
+        Step::Blocked(until) => {
+            block_at(lists, actors, c, until);
+            Settled { at: next, queued }
+        }
+        Step::Yield => {
+            yield_at(lists, actors, c);
+            Settled { at: next, queued }
+        }
+        Step::Failed => {
+            let fewer = release(links, rows, lists, actors, c, queued);
+            Settled {
+                at: At::Crash(c),
+                queued: fewer,
+            }
+        }
+    }
+}

@@ -1,0 +1,169 @@
+// `wake` of the Rust: waiting actors past their deadline, and those whose host calls answered, go to the ready list.
+ghost use mathlib.Core.Path.{_≡_};
+ghost use Rattle.ticking.specs.Waking.{atMost64, wakeOf, lateAt, pollsOf, wokenTo, wakeOne, wakeNext, pollReply};
+use actor::question;
+use actor::question::CountIn;
+use actor::question::Reply;
+use actor::state;
+use actor::state::Actor;
+use actor::state::Mode;
+use actor::state::Wake;
+use group::at::At;
+use group::roster;
+use lists::keys;
+use lists::keys::Key;
+
+// A list of keys holds at most 64, so that this changes no count of one.
+fn at_most_64(n: u64) -> u64
+    ensures { λ r. ⌜ r ≡ atMost64 n ⌝ }
+{
+    if n < 64 { n } else { 64 }
+}
+
+// A group's waiting list is gone through from its front, and grows anew; past the last group the turn is over.
+pub fn wake(lists: &mut [[u8; 65]], count: usize, g: usize, clock: u64) -> At
+    ensures { λ r. ⌜ record { keys = now (lists .exit); at = r } ≡ wakeOf (now (lists .entry)) count g clock ⌝ }
+{
+    if count <= g {
+        return At::Rest;
+    }
+    if 8 <= g {
+        return At::Rest;
+    }
+    let row = roster::waiting_row(g);
+    let waiting = keys::keys_at(lists, row);
+    let n = keys::count(waiting) as u64;
+    keys::put_keys(lists, roster::REST, waiting);
+    let none = keys::empty();
+    keys::put_keys(lists, row, none);
+    let left = at_most_64(n);
+    At::WakeNext(g, clock, left)
+}
+
+// Whether its deadline has passed.
+fn late(at: Wake, clock: u64) -> bool
+    ensures { λ r. ⌜ r ≡ lateAt at clock ⌝ }
+{
+    match at {
+        Wake::At(ns) => { if ns <= clock { true } else { false } }
+        Wake::Never => false,
+    }
+}
+
+// Whether Poll is asked: it is blocked and, if eval, has a run.
+fn polls(a: Actor) -> bool
+    ensures { λ r. ⌜ r ≡ pollsOf a ⌝ }
+{
+    let blocked = a.blocked;
+    let mode = a.mode;
+    let run = state::has_run(a);
+    match mode {
+        Mode::Fixed => blocked,
+        Mode::Eval => { if blocked { run } else { false } }
+    }
+}
+
+// Awake, it is queued to run; else it waits on, unless it is idle.
+fn woken_to(lists: &mut [[u8; 65]], actors: &mut [[u64; 12]], g: usize, key: u8, awake: bool)
+    ensures { λ r. ⌜ record { keys = now (lists .exit); actors = now (actors .exit) } ≡ wokenTo (now (lists .entry)) (now (actors .entry)) g key awake ⌝ }
+{
+    let slot = roster::slot_at(g, key);
+    let a = state::actor_at(actors, slot);
+    let idle = a.idle;
+    if awake {
+        let b = state::woken(a);
+        state::put_actor(actors, slot, b);
+        roster::schedule(lists, actors, g, key);
+        return;
+    }
+    if idle {
+        return;
+    }
+    let row = roster::waiting_row(g);
+    roster::push_key(lists, row, key);
+}
+
+// A waiting actor: past its deadline it is awake, else it may be polled.
+fn wake_one(
+    lists: &mut [[u8; 65]],
+    actors: &mut [[u64; 12]],
+    g: usize,
+    key: u8,
+    clock: u64,
+    left: u64,
+) -> At
+    ensures { λ r. ⌜ record { keys = now (lists .exit); actors = now (actors .exit); at = r } ≡ wakeOne (now (lists .entry)) (now (actors .entry)) g key clock left ⌝ }
+{
+    let there = roster::live(lists, g, key);
+    if there {
+        let slot = roster::slot_at(g, key);
+        let a = state::actor_at(actors, slot);
+        let until = a.wake_at;
+        let over = late(until, clock);
+        let asks = polls(a);
+        if over {
+            woken_to(lists, actors, g, key, true);
+            return At::WakeNext(g, clock, left);
+        }
+        if asks {
+            return At::WakePoll(g, key, clock, left);
+        }
+        woken_to(lists, actors, g, key, false);
+        return At::WakeNext(g, clock, left);
+    }
+    At::WakeNext(g, clock, left)
+}
+
+// The next of the waiting list; with none left the ready list is popped as often as it has keys now.
+pub fn wake_next(
+    lists: &mut [[u8; 65]],
+    actors: &mut [[u64; 12]],
+    g: usize,
+    clock: u64,
+    left: u64,
+) -> At
+    ensures { λ r. ⌜ record { keys = now (lists .exit); actors = now (actors .exit); at = r } ≡ wakeNext (now (lists .entry)) (now (actors .entry)) g clock left ⌝ }
+{
+    let ready = keys::keys_at(lists, roster::ready_row(g));
+    let n = keys::count(ready) as u64;
+    let pops = at_most_64(n);
+    if left == 0 {
+        return At::Ready(g, clock, pops);
+    }
+    let rest = keys::keys_at(lists, roster::REST);
+    match keys::front(rest) {
+        Key::At(key) => {
+            let fewer = keys::pop_front(rest);
+            keys::put_keys(lists, roster::REST, fewer);
+            let less = lists::less(left, 1);
+            wake_one(lists, actors, g, key, clock, less)
+        }
+        Key::Nothing => At::Ready(g, clock, pops),
+    }
+}
+
+// The reply to Poll; one that does not fit changes nothing.
+pub fn poll_reply(
+    lists: &mut [[u8; 65]],
+    actors: &mut [[u64; 12]],
+    g: usize,
+    key: u8,
+    clock: u64,
+    left: u64,
+    reply: Reply,
+) -> At
+    ensures { λ r. ⌜ record { keys = now (lists .exit); actors = now (actors .exit); at = r } ≡ pollReply (now (lists .entry)) (now (actors .entry)) g key clock left reply ⌝ }
+{
+    let came = question::count_in(reply);
+    match came {
+        CountIn::Of(n) => {
+            if 0 < n {
+                woken_to(lists, actors, g, key, true);
+                return At::WakeNext(g, clock, left);
+            }
+            woken_to(lists, actors, g, key, false);
+            At::WakeNext(g, clock, left)
+        }
+        CountIn::Other => At::WakePoll(g, key, clock, left),
+    }
+}

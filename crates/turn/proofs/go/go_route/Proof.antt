@@ -1,0 +1,38 @@
+-- `go::go_route` meets its contract: one message routed, then the count of queued messages. Assumes nothing.
+use Rattle.routing.specs.Route.{Sent}
+use Rattle.turn.specs.Go.{goRoute}
+use mathlib.Core.Path.{ap}
+use borrow.Author.Needs.{needs}
+use Rattle.turn.proofs.go.go_route.Statement.{statement}
+use Rattle.turn.proofs.go.go_route.Tie as tie
+
+route-requires : tie.Need-route-requires
+route-requires c κs = search needs
+
+routed-to-requires : tie.Need-routed-to-requires
+routed-to-requires c κs = search needs
+
+same-length : tie.Need-same-length
+same-length c = search needs
+
+same-length-2 : tie.Need-same-length-2
+same-length-2 c = search needs
+
+same-length-3 : tie.Need-same-length-3
+same-length-3 c = search needs
+
+returns : tie.Need-returns
+unfolding goRoute
+returns c =
+    let e1 = c .before .before .before .before .route .ensures in
+    let e1-links = ap (λ (s : Sent). s .links) e1 in
+    let e1-keys = ap (λ (s : Sent). s .keys) e1 in
+    let e1-actors = ap (λ (s : Sent). s .actors) e1 in
+    let e1-routed = ap (λ (s : Sent). s .routed) e1 in
+    let e2 = c .routed-to .ensures in
+    simp (e1-links, e1-keys, e1-actors, e1-routed, e2)
+
+pub go-route-spec : {M : Type 1} → statement M
+go-route-spec =
+    tie.close
+    (tie.spec route-requires routed-to-requires same-length same-length-2 same-length-3 returns)
