@@ -1,0 +1,156 @@
+// A message from outside: logged if nobody waits for its outcome, then queued in the inbox.
+ghost use mathlib.Core.Path.{_≡_};
+ghost use Rattle.door.specs.Admit.{admitCheck, admitLogged, admitFit, admitFree, admitOf};
+use actor::message::Caller;
+use actor::message::Logged;
+use front::state;
+use front::state::Check;
+use front::state::Pool;
+use front::state::Refusal;
+use front::state::Told;
+use log::LogId;
+use log::wal;
+use setup::entry;
+use turn::state::Disk;
+use turn::state::What;
+
+// 5 to 8, in this order.
+fn admit_check(pool: Pool, links: &[[u64; 4]], name: usize, body: usize) -> Check
+    ensures { λ r. ⌜ r ≡ admitCheck pool (now (links .entry)) name body ⌝ }
+{
+    let long = state::length_check(name, body);
+    match long {
+        Check::Refuse(r) => Check::Refuse(r),
+        Check::Fine => {
+            let most = pool.limits.inbox;
+            let closed = pool.closed;
+            let waiting = lists::length_of(links, lists::INBOX);
+            let free = lists::length_of(links, lists::FREE);
+            if most <= waiting {
+                return Check::Refuse(Refusal::InboxFull);
+            }
+            if closed {
+                return Check::Refuse(Refusal::Closed);
+            }
+            if free == 0 {
+                return Check::Refuse(Refusal::TooMany);
+            }
+            Check::Fine
+        }
+    }
+}
+
+// Logged under the next id, then in the inbox.
+fn admit_logged(
+    pool: Pool,
+    log: &mut [u8],
+    records: &mut [[u64; 3]],
+    store: &mut [u8],
+    links: &mut [[u64; 4]],
+    rows: &mut [[u64; 7]],
+    name: &[u8],
+    body: &[u8],
+) -> Told
+    ensures { λ r. ⌜ record { bytes = now (log .exit); records = now (records .exit); store = now (store .exit); links = now (links .exit); rows = now (rows .exit); told = r } ≡ admitLogged pool (now (log .entry)) (now (records .entry)) (now (store .entry)) (now (links .entry)) (now (rows .entry)) (now (name .entry)) (now (body .entry)) ⌝ }
+{
+    let turn = pool.turn;
+    let counters = turn.log;
+    let id = LogId(counters.next);
+    let s = wal::append(log, records, counters, name, body);
+    let more = s.counters;
+    let answer = s.answer;
+    match answer {
+        log::Answer::Ordered(order) => {
+            entry::keep(
+                store,
+                links,
+                rows,
+                name,
+                body,
+                Caller::Nobody,
+                Logged::As(id),
+                lists::INBOX,
+            );
+            let disk = Disk::Waits(order, What::Record);
+            let p = state::with_disk(pool, more, disk);
+            state::shown_now(p, links, rows)
+        }
+        log::Answer::Nothing => state::refused(pool, Refusal::NoRoom),
+        log::Answer::Refused(r) => state::refused(pool, state::log_refusal(r)),
+    }
+}
+
+// A caller's message is not logged.
+fn admit_fit(
+    pool: Pool,
+    log: &mut [u8],
+    records: &mut [[u64; 3]],
+    store: &mut [u8],
+    links: &mut [[u64; 4]],
+    rows: &mut [[u64; 7]],
+    name: &[u8],
+    body: &[u8],
+    caller: Caller,
+) -> Told
+    ensures { λ r. ⌜ record { bytes = now (log .exit); records = now (records .exit); store = now (store .exit); links = now (links .exit); rows = now (rows .exit); told = r } ≡ admitFit pool (now (log .entry)) (now (records .entry)) (now (store .entry)) (now (links .entry)) (now (rows .entry)) (now (name .entry)) (now (body .entry)) caller ⌝ }
+{
+    match caller {
+        Caller::From(id) => {
+            entry::keep(
+                store,
+                links,
+                rows,
+                name,
+                body,
+                Caller::From(id),
+                Logged::Never,
+                lists::INBOX,
+            );
+            state::shown_now(pool, links, rows)
+        }
+        Caller::Nobody => admit_logged(pool, log, records, store, links, rows, name, body),
+    }
+}
+
+fn admit_free(
+    pool: Pool,
+    log: &mut [u8],
+    records: &mut [[u64; 3]],
+    store: &mut [u8],
+    links: &mut [[u64; 4]],
+    rows: &mut [[u64; 7]],
+    name: &[u8],
+    body: &[u8],
+    caller: Caller,
+) -> Told
+    ensures { λ r. ⌜ record { bytes = now (log .exit); records = now (records .exit); store = now (store .exit); links = now (links .exit); rows = now (rows .exit); told = r } ≡ admitFree pool (now (log .entry)) (now (records .entry)) (now (store .entry)) (now (links .entry)) (now (rows .entry)) (now (name .entry)) (now (body .entry)) caller ⌝ }
+{
+    let check = admit_check(pool, links, name.len(), body.len());
+    match check {
+        Check::Refuse(r) => state::refused(pool, r),
+        Check::Fine => admit_fit(pool, log, records, store, links, rows, name, body, caller),
+    }
+}
+
+// A message for a group, which need not exist.
+pub fn admit(
+    pool: Pool,
+    log: &mut [u8],
+    records: &mut [[u64; 3]],
+    store: &mut [u8],
+    links: &mut [[u64; 4]],
+    rows: &mut [[u64; 7]],
+    name: &[u8],
+    body: &[u8],
+    caller: Caller,
+) -> Told
+    ensures { λ r. ⌜ record { bytes = now (log .exit); records = now (records .exit); store = now (store .exit); links = now (links .exit); rows = now (rows .exit); told = r } ≡ admitOf pool (now (log .entry)) (now (records .entry)) (now (store .entry)) (now (links .entry)) (now (rows .entry)) (now (name .entry)) (now (body .entry)) caller ⌝ }
+{
+    let turn = pool.turn;
+    let disk = turn.disk;
+    match disk {
+        Disk::Free => admit_free(pool, log, records, store, links, rows, name, body, caller),
+        Disk::Waits(_, _) => state::refused(pool, Refusal::OrderWaits),
+        Disk::Failed => state::refused(pool, Refusal::StoreFailed),
+    }
+}

@@ -1,0 +1,2 @@
+-- Laws of the pool.
+pub mod Loops

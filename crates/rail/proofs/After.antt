@@ -1,0 +1,138 @@
+-- How a call ends: refused, with the state as it was, or accepted, with the invariant and the log's bytes behind its size kept; and what an order for a mark changes. Assumes nothing.
+use mathlib.Core.Path.{_≡_, refl, sym, ap, _∙_, subst}
+use mathlib.Core.Bool.{true}
+use mathlib.Core.Logic.{_≢_}
+use mathlib.Core.List.{List, [], _∷_, _++_, map-append}
+use Prim.Native.Nat.{ℕ, _+_, _<_}
+use native.Mathlib.Omega.{arith}
+use native.Mathlib.Decide.{ℕ-discrete}
+use borrow.Author.Tests.{eq-eqb, ne-eqb}
+use lib.Dec.{eqb}
+use lib.ListN.{drop}
+use Rattle.text.specs.Format.{Message}
+use Rattle.lists.specs.Links.{pick, Table}
+use Rattle.lists.specs.Family.{count}
+use Rattle.lists.proofs.Counts.{count-other, count-append}
+use Rattle.lists.proofs.Family.{count-none}
+use Rattle.log.specs.Opening.{remove}
+use Rattle.log.specs.Recovery as disk
+use Rattle.log.proofs.RecoveryLaws as sound
+use Rattle.handing.specs.Handing.{idsOf}
+use Rattle.places.proofs.Steps.{pick-rule}
+use Rattle.turn.specs.declared.state.Limits.{Limits}
+use Rattle.turn.specs.Step.{Work}
+use Rattle.front.specs.declared.state.Pool.{Pool}
+use Rattle.front.specs.declared.state.Refusal.{Refusal}
+use Rattle.front.specs.declared.state.Answer.{Answer}
+use Rattle.front.specs.declared.state.Answer.the-variants as answer
+use Rattle.front.specs.declared.state.Told.{Told}
+use Rattle.front.specs.State.{shown, atRest}
+use Rattle.pool.specs.Run.{answeredOf}
+use Rattle.rail.specs.Rail.{Call, State, Did, World, walOf, moved, ordered, answered, accepted, stepDid}
+use Rattle.rail.specs.Invariant.{Ledger, Working, TailKept, Runs, still, marks, markedOff, Steady}
+
+-- the state as a turn's work
+abbrev pub workIn : State → Work
+workIn s = record { turn = s .pool .turn; bytes = s .bytes; records = s .records; links = s .links; rows = s .rows; keys = s .keys; actors = s .actors }
+
+-- ---- a message is taken off
+
+gone-same : (id : ℕ) (ms : List Message) → count id (idsOf (remove id ms)) ≡ 0
+unfolding remove
+gone-same id [] = count-none id
+gone-same id (m ∷ ms) = go (gone-same id ms) (ℕ-discrete (m .id) id)
+  where
+    go : count id (idsOf (remove id ms)) ≡ 0 → Dec (m .id ≡ id) → count id (idsOf (remove id (m ∷ ms))) ≡ 0
+    go rest (yes p) = rw (eq-eqb (m .id) id p, remove) rest
+    go rest (no p) = rw (ne-eqb (m .id) id p, remove) (omega (arith, count-other id (m .id) (idsOf (remove id ms)) p))
+
+gone-other : (id x : ℕ) (ms : List Message) → x ≢ id → count x (idsOf (remove id ms)) ≡ count x (idsOf ms)
+unfolding remove count
+gone-other id x [] other = refl
+gone-other id x (m ∷ ms) other = go (gone-other id x ms other) (ℕ-discrete (m .id) id)
+  where
+    go : count x (idsOf (remove id ms)) ≡ count x (idsOf ms) → Dec (m .id ≡ id) → count x (idsOf (remove id (m ∷ ms))) ≡ count x (idsOf (m ∷ ms))
+    go rest (yes p) = rw (eq-eqb (m .id) id p, remove) (omega (arith, count-other x (m .id) (idsOf ms) (λ z. other (omega arith))))
+    go rest (no p) = rw (ne-eqb (m .id) id p, remove) (omega arith)
+
+-- one id more
+pub count-snoc : (x y : ℕ) (xs : List ℕ) → count x (xs ++ (y ∷ [])) ≡ count x xs + pick (eqb y x) 1 0
+unfolding count
+count-snoc x y xs = omega (arith, count-append x xs (y ∷ []))
+
+pub now-count : (x : ℕ) (m : Message) (ms : List Message) → count x (idsOf (ms ++ (m ∷ []))) ≡ count x (idsOf ms) + pick (eqb (m .id) x) 1 0
+now-count x m ms = ap (count x) (map-append (λ (m : Message). m .id) ms (m ∷ [])) ∙ count-snoc x (m .id) (idsOf ms)
+
+-- an id that was logged and not done is done
+marked-ledger : (j j′ : disk.World) (logged done : List ℕ) (id : ℕ) → Ledger j logged done → 0 < count id (idsOf (j .now))
+    → j′ .now ≡ remove id (j .now) → j′ .wal .counters .next ≡ j .wal .counters .next → Ledger j′ logged (done ++ (id ∷ []))
+marked-ledger j j′ logged done id old there now next = record {
+  adds = λ x. rw now (adds x (ℕ-discrete x id));
+  once = old .once;
+  below = λ x some. omega (arith, old .below x some);
+}
+  where
+    adds : (x : ℕ) → Dec (x ≡ id) → count x (idsOf (remove id (j .now))) + count x (done ++ (id ∷ [])) ≡ count x logged
+    adds x (yes p) = rw p (omega (arith, gone-same id (j .now), rw (eq-eqb id id refl) at (count-snoc id id done), old .adds id, old .once id))
+    adds x (no p) = omega (arith, gone-other id x (j .now) p, rw (ne-eqb id x (λ z. p (sym z))) at (count-snoc x id done), old .adds x)
+
+-- ---- a call of the log
+
+-- with no order out, a call of the log keeps what holds of the journal
+pub call-sound : (long : ℕ) (j : disk.World) → sound.Sound long j → j .disk .status ≡ disk.settled → (c : disk.Call)
+    → sound.Sound long (disk.called j c (disk.didCall 0 (j .wal) c))
+unfolding disk.step
+call-sound long j good settled c = subst (λ q. sound.Sound long (disk.step 0 q j (disk.call c))) settled (sound.step-sound long 0 j (disk.call c) good)
+
+-- ---- how a call ends
+
+module _ (long : ℕ) (limits : Limits) where
+  pub data Ends (w : World) (c : Call) (d : Did) : Type 0 where
+    turned : (r : Refusal) → d ≡ record { state = w .state; answer = answer.Refused r } → Ends w c d
+    took : accepted (d .answer) ≡ true → TailKept (w .state .bytes) (workIn (d .state))
+        → Steady long limits (ordered c w (d .state) (answered (w .journal) c) (d .state .pool .turn .disk)) → Ends w c d
+
+  -- with no order: the journal is the one that the work has beside it
+  pub calm-steady : (s : State) (j : disk.World) (logged done : List ℕ) → Working long j (workIn s) → Ledger j logged done → s .pool .limits ≡ limits
+      → Steady long limits (record { state = s; journal = moved j (walOf s); logged = logged; done = done })
+  calm-steady s j logged done works ledger is =
+      subst (λ v. Steady long limits (record { state = s; journal = moved j v; logged = logged; done = done })) (works .wal)
+      (record { works = works; ledger = ledger; limits-are = is })
+
+  -- after a run, and after a call that runs nothing: the journal is the answered one
+  pub runs-steady : (c : Call) (w : World) (s : State) (j : disk.World) → answered (w .journal) c ≡ j → Runs long j (workIn s) → Ledger j (w .logged) (w .done)
+      → s .pool .limits ≡ limits → Steady long limits (ordered c w s (answered (w .journal) c) (s .pool .turn .disk))
+  unfolding disk.issue
+  runs-steady c w s j from runs ledger is = subst (λ k. Steady long limits (ordered c w s k (s .pool .turn .disk))) (sym from) (go runs)
+    where
+      go : Runs long j (workIn s) → Steady long limits (ordered c w s j (s .pool .turn .disk))
+      go (still free works) = subst (λ d. Steady long limits (ordered c w s j d)) (sym free) (calm-steady s j (w .logged) (w .done) works ledger is)
+      go (marks o id waits there next tail works) =
+          subst (λ d. Steady long limits (ordered c w s j d)) (sym waits)
+          (record { works = works; ledger = marked-ledger j (markedOff j (workIn s) o id) (w .logged) (w .done) (id .0) ledger there refl next; limits-are = is })
+
+  -- after a run the log's bytes at and after its size are those from before it
+  pub runs-tail : (j : disk.World) (x : Work) (bytes : List ℕ) → j .wal .bytes ≡ bytes → Runs long j x → TailKept bytes x
+  runs-tail j x bytes from (still free works) = ap (drop (x .turn .log .size)) (sym (ap (λ v. v .bytes) (works .wal)) ∙ from)
+  runs-tail j x bytes from (marks o id waits there next tail works) = tail ∙ ap (drop (x .turn .log .size)) from
+
+  -- a world after a call that ended so
+  pub ends-steady : (w : World) (c : Call) (d : Did) → Steady long limits w → Ends w c d → Steady long limits (stepDid w c d)
+  ends-steady w c d steady (turned r is) =
+      subst (λ e. Steady long limits (stepDid w c e)) (sym is) (calm-steady (w .state) (w .journal) (w .logged) (w .done) (steady .works) (steady .ledger) (steady .limits-are))
+  ends-steady w c d steady (took ok tail after) = go (d .answer) refl
+    where
+      go : (a : Answer) → d .answer ≡ a → Steady long limits (stepDid w c d)
+      go (answer.Refused r) e = let z : _≡_ {A = ℕ} 0 1 = cc in absurd (omega arith)
+      go (answer.Open a) e = rw e after
+      go (answer.Ended busy waiters) e = rw e after
+
+-- ---- an answer is no refusal
+
+pub shown-rule : (P : Told → Type 0) (p : Pool) (t rows : Table) → ((a : Answer) → accepted a ≡ true → P (record { pool = p; answer = a })) → P (shown p t rows)
+unfolding shown
+shown-rule P p t rows all = all _ refl
+
+pub answered-rule : (P : Told → Type 0) (p : Pool) (t rows keys : Table) → ((a : Answer) → accepted a ≡ true → P (record { pool = p; answer = a })) → P (answeredOf p t rows keys)
+unfolding answeredOf
+answered-rule P p t rows keys all = pick-rule P (atRest (p .turn .at)) (λ e. all _ refl) (λ e. shown-rule P p t rows all)

@@ -1,0 +1,11 @@
+-- Laws of the rail.
+pub mod Marks
+pub mod Running
+pub mod After
+pub mod Admit
+pub mod Replies
+pub mod Calls
+pub mod Opened
+pub mod Opening
+pub mod Tail
+pub mod Rail

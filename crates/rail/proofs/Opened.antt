@@ -1,0 +1,204 @@
+-- What an accepted opening is: its sizes and settings are right, the log takes the file, and the messages left are in pending. Assumes nothing.
+use mathlib.Core.Path.{_≡_, refl, sym, ap, _∙_}
+use mathlib.Core.Bool.{Bool, true, false}
+use mathlib.Core.Logic.{_⊎_, inl, inr}
+use mathlib.Core.List.{List, [], _∷_, append-nil, List·Memᴰ·head}
+use Prim.Native.Nat.{ℕ, suc, _≤_, _<_}
+use native.Mathlib.Omega.{arith}
+use borrow.Author.Tests.{eqb-true, eqb-false, eq-eqb}
+use lib.Dec.{eqb}
+use lib.ListN.{length, take, replicate}
+use lib.Seq.{take-nil, length-take-le}
+use Rattle.text.specs.Format.{Message}
+use Rattle.lists.specs.Links.{pick, Table, startFrom}
+use Rattle.lists.specs.Family.{count}
+use Rattle.lists.specs.KeyLists.{blankRow}
+use Rattle.lists.proofs.Counts.{count-same, count-other}
+use Rattle.log.specs.declared.Order.the-variants.{Replace}
+use Rattle.log.specs.Opening.{Read, Rising, Opening, refused, opened, opening, image}
+use Rattle.log.specs.declared.Refusal.{Refusal}
+use Rattle.log.specs.declared.Refusal.the-variants.{Sizes}
+use Rattle.log.specs.Opened as log
+use Rattle.log.specs.Recovery as disk
+use Rattle.log.proofs.OpeningLaws.{Rising-le}
+use Rattle.log.proofs.OpenLaws.{sized-all, open-accepts, image-fits, opened-long, opened-stands, opened-sent}
+use Rattle.log.specs.Stands.{Stands}
+use Rattle.log.proofs.RecoveryLaws.{ReadBack, stands-fit, stored-replace, whole-image, Sound, waiting}
+use Rattle.handing.specs.Handing.{idsOf, putMessages}
+use Rattle.setup.specs.declared.settings.Settings.{Settings}
+use Rattle.setup.specs.Settings.{settingsFit, groupsFrom}
+use Rattle.setup.specs.Tables.{Placed, putLeft}
+use Rattle.front.specs.declared.state.Refusal.the-variants as refusal
+use Rattle.door.specs.Open.{PoolOpened, tablesSized, openTold, filledBy, openPool, noLeft, notOpened, openedPool, openedLog, openOf}
+use Rattle.rail.specs.Rail.{accepted}
+
+-- ---- ids that rise
+
+rising-under : (ms : List Message) (low high x : ℕ) → Rising low ms high → x < low → count x (idsOf ms) ≡ 0
+unfolding count
+rising-under [] low high x rises under = refl
+rising-under (m ∷ ms) low high x rises under =
+    count-other x (m .id) (idsOf ms) (λ same. omega (arith, rises .0)) ∙ rising-under ms (suc (m .id)) high x (rises .1) (omega (arith, rises .0))
+
+pub rising-once : (ms : List Message) (low high x : ℕ) → Rising low ms high → count x (idsOf ms) ≤ 1
+unfolding count
+rising-once [] low high x rises = omega arith
+rising-once (m ∷ ms) low high x rises = at (eqb (m .id) x) refl (rising-once ms (suc (m .id)) high x (rises .1))
+  where
+    at : (b : Bool) → eqb (m .id) x ≡ b → count x (idsOf ms) ≤ 1 → count x (m .id ∷ idsOf ms) ≤ 1
+    at true e later =
+        let is : m .id ≡ x = eqb-true (m .id) x e in
+        omega (arith, count-same x (m .id) (idsOf ms) is, rising-under ms (suc (m .id)) high x (rises .1) (omega arith))
+    at false e later = omega (arith, count-other x (m .id) (idsOf ms) (eqb-false (m .id) x e))
+
+pub rising-top : (ms : List Message) (low high x : ℕ) → Rising low ms high → 0 < count x (idsOf ms) → x < high
+unfolding count
+rising-top [] low high x rises there = omega arith
+rising-top (m ∷ ms) low high x rises there = at (eqb (m .id) x) refl (rising-top ms (suc (m .id)) high x (rises .1))
+  where
+    at : (b : Bool) → eqb (m .id) x ≡ b → (0 < count x (idsOf ms) → x < high) → x < high
+    at true e later = omega (arith, eqb-true (m .id) x e, Rising-le ms (suc (m .id)) high (rises .1))
+    at false e later = later (omega (arith, count-other x (m .id) (idsOf ms) (eqb-false (m .id) x e)))
+
+-- ---- the log turned away
+
+log-sizes : (bytes : List ℕ) (n : ℕ) (store : List ℕ) (records left : Table) → log.sized (length bytes) n (length store) (length records) (length left) ≡ false
+    → log.openOf bytes n store records left ≡ log.closedBy bytes store records left Sizes
+unfolding log.openOf
+log-sizes bytes n store records left e = cc
+
+log-refuses : (bytes : List ℕ) (n : ℕ) (store : List ℕ) (records left : Table) (r : Refusal) → log.sized (length bytes) n (length store) (length records) (length left) ≡ true
+    → opening (take n bytes) ≡ refused r → log.openOf bytes n store records left ≡ log.closedBy bytes store records left r
+unfolding log.openOf
+log-refuses bytes n store records left r s e = cc
+
+-- ---- the lent tables
+
+never : false ≡ true → ⊥
+never e = let z : _≡_ {A = ℕ} 0 1 = cc in omega arith
+
+both : (a b : Bool) → pick a b false ≡ true → (a ≡ true) × (b ≡ true)
+both true b e = (refl, e)
+both false b e = (e, cc)
+
+-- the lists and the messages
+pub tables-are : (groups links rows keys actors : ℕ) → tablesSized groups links rows keys actors ≡ true → (links ≡ 262) × (rows ≡ 256)
+unfolding tablesSized
+tables-are groups links rows keys actors e =
+    let one = both (eqb groups 8) (pick (eqb links 262) (pick (eqb rows 256) (pick (eqb keys 34) (eqb actors 128) false) false) false) e in
+    let two = both (eqb links 262) (pick (eqb rows 256) (pick (eqb keys 34) (eqb actors 128) false) false) (one .1) in
+    let three = both (eqb rows 256) (pick (eqb keys 34) (eqb actors 128) false) (two .1) in
+    (eqb-true links 262 (two .0), eqb-true rows 256 (three .0))
+
+pub tables-true : (groups links rows keys actors : ℕ) → groups ≡ 8 → links ≡ 262 → rows ≡ 256 → keys ≡ 34 → actors ≡ 128
+    → tablesSized groups links rows keys actors ≡ true
+unfolding tablesSized
+tables-true groups links rows keys actors g l r k a =
+    rw (eq-eqb groups 8 g, eq-eqb links 262 l, eq-eqb rows 256 r, eq-eqb keys 34 k, eq-eqb actors 128 a)
+
+-- ---- what an accepted opening had
+
+module _ (s : Settings) (given : Table) (bytes : List ℕ) (n : ℕ) (store : List ℕ) (records groups links rows keys actors : Table) where
+  abbrev tablesFit : Bool
+  tablesFit = tablesSized (length groups) (length links) (length rows) (length keys) (length actors)
+
+  abbrev logFits : Bool
+  logFits = log.sized (length bytes) n (length store) (length records) (length noLeft)
+
+  abbrev byLog : log.Opened → PoolOpened
+  byLog o = openedLog s given groups links rows keys o
+
+  abbrev byTables : Bool → PoolOpened
+  byTables b = pick b (byLog (log.openOf bytes n store records noLeft)) (notOpened bytes store records groups links rows keys refusal.Sizes)
+
+  abbrev bySettings : Bool → PoolOpened
+  bySettings b = pick b (byTables tablesFit) (notOpened bytes store records groups links rows keys refusal.Setting)
+
+  abbrev yes : PoolOpened → Bool
+  yes o = accepted (o .told .answer)
+
+  -- settings in their ranges, tables and log of the right sizes, and a file that the log takes
+  pub record Taken : Type 0 where
+    pub fit : settingsFit s given ≡ true
+    pub tables : tablesFit ≡ true
+    pub sizes : logFits ≡ true
+    pub found : Read
+    pub reads : opening (take n bytes) ≡ opened found
+
+  taken-file : (o : Opening) → opening (take n bytes) ≡ o → logFits ≡ true → tablesFit ≡ true → settingsFit s given ≡ true → yes (byTables true) ≡ true → Taken
+  taken-file (opened r) reads sizes tables fit ok = record { fit = fit; tables = tables; sizes = sizes; found = r; reads = reads }
+  taken-file (refused r) reads sizes tables fit ok = absurd (never (sym (ap (λ o. yes (byLog o)) (log-refuses bytes n store records noLeft r sizes reads)) ∙ ok))
+
+  taken-log : (b : Bool) → logFits ≡ b → tablesFit ≡ true → settingsFit s given ≡ true → yes (byTables true) ≡ true → Taken
+  taken-log true sizes tables fit ok = taken-file (opening (take n bytes)) refl sizes tables fit ok
+  taken-log false sizes tables fit ok = absurd (never (sym (ap (λ o. yes (byLog o)) (log-sizes bytes n store records noLeft sizes)) ∙ ok))
+
+  taken-tables : (b : Bool) → tablesFit ≡ b → settingsFit s given ≡ true → yes (byTables b) ≡ true → Taken
+  taken-tables true tables fit ok = taken-log logFits refl tables fit ok
+  taken-tables false tables fit ok = absurd (never ok)
+
+  taken-settings : (b : Bool) → settingsFit s given ≡ b → yes (bySettings b) ≡ true → Taken
+  taken-settings true fit ok = taken-tables tablesFit refl fit ok
+  taken-settings false fit ok = absurd (never ok)
+
+  pub accepted-taken : yes (openOf s given bytes n store records groups links rows keys actors) ≡ true → Taken
+  unfolding openOf
+  accepted-taken ok = taken-settings (settingsFit s given) refl ok
+
+  -- ---- and what it makes: the messages left are put into pending
+
+  abbrev logMade : Read → log.Opened
+  logMade r = log.openedBy bytes store records noLeft r
+
+  abbrev madeWith : Read → Placed → PoolOpened
+  madeWith r placed =
+      openedPool (logMade r)
+      (filledBy (groupsFrom (s .«max_actors») groups given) placed (replicate (length keys) blankRow) (openTold s (length given) (logMade r .step .counters) (Replace (length (image (r .left))))))
+
+  abbrev pub opensAs : Read → PoolOpened
+  opensAs r = madeWith r (putMessages rows (r .left))
+
+  to-log : Taken → openOf s given bytes n store records groups links rows keys actors ≡ byLog (log.openOf bytes n store records noLeft)
+  unfolding openOf
+  to-log t = rw (t .fit, t .tables)
+
+  to-pool : (t : Taken) → byLog (logMade (t .found)) ≡ opensAs (t .found)
+  unfolding openPool
+  to-pool t =
+      ap (λ k. madeWith (t .found) (putLeft (startFrom 0 k) rows (logMade (t .found) .left) 0 (length (t .found .left))))
+      (tables-are (length groups) (length links) (length rows) (length keys) (length actors) (t .tables) .0)
+
+  pub opens-as : (t : Taken) → openOf s given bytes n store records groups links rows keys actors ≡ opensAs (t .found)
+  opens-as t = to-log t ∙ (ap byLog (open-accepts bytes n store records noLeft (t .found) (t .sizes) (t .reads)) ∙ to-pool t)
+
+-- ---- the log at the start
+
+module _ (bytes : List ℕ) (n : ℕ) (store : List ℕ) (records left : Table) (r : Read)
+    (s : log.sized (length bytes) n (length store) (length records) (length left) ≡ true) (ok : opening (take n bytes) ≡ opened r) where
+  abbrev pub startLog : disk.World
+  startLog = disk.begin (log.openedBy bytes store records left r) (take n bytes) (r .left)
+
+  start-stands : Stands (disk.walOf (log.openedBy bytes store records left r)) (r .left)
+  start-stands = opened-stands bytes n store records left r s ok
+
+  -- whatever a cut leaves of the file given, or of the opening's replace, is read as the messages left
+  start-reads : (file : List ℕ) → disk.Cut (take n bytes) [] file ⊎ (file ≡ image (r .left)) → ReadBack (length bytes) file (r .left ∷ [])
+  unfolding disk.begin
+  start-reads file (inl c) =
+      let lent = sized-all (length bytes) n (length store) (length records) (length left) s in
+      let same : file ≡ take n bytes = cc (c .1, take-nil {A = ℕ} (c .0), append-nil (take n bytes)) in
+      record { short = omega (arith, ap length same, length-take-le n bytes (lent .file), lent .file); found = r; accepted = ap opening same ∙ ok; among = List·Memᴰ·head refl }
+  start-reads file (inr e) =
+      whole-image (length bytes) (startLog .disk) r (stands-fit (startLog .wal) (r .left) start-stands) (image-fits bytes n store records left r s ok) file e
+
+  pub start-sound : Sound (length bytes) startLog
+  unfolding disk.begin disk.storedOrder disk.failedOrder disk.firmMoment disk.confirm
+  start-sound =
+      waiting (disk.replacing (image (r .left))) (ap disk.waits (opened-sent bytes n store records left r s ok))
+      (record {
+        stands = start-stands;
+        bytes = opened-long bytes n store records left r s ok;
+        onDisk = stored-replace (length bytes) (startLog .disk) r (stands-fit (startLog .wal) (r .left) start-stands);
+        firm = omega arith;
+      })
+      start-reads

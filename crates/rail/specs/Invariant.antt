@@ -1,0 +1,74 @@
+-- What holds between two calls, and between two points of a turn: the invariant behind the theorem. A reader of the theorem needs none of this.
+use mathlib.Core.Path.{_≡_}
+use mathlib.Core.List.{List}
+use Prim.Native.Nat.{ℕ, _+_, _≤_, _<_}
+use lib.ListN.{drop}
+use Rattle.lists.specs.Family.{count}
+use Rattle.log.specs.declared.LogId.{LogId}
+use Rattle.log.specs.declared.Order.{Order}
+use Rattle.log.specs.Opening.{remove}
+use Rattle.log.specs.Log.{Wal, state}
+use Rattle.log.specs.Recovery as disk
+use Rattle.log.proofs.RecoveryLaws as log
+use Rattle.turn.specs.declared.state.What.the-variants as what
+use Rattle.turn.specs.declared.state.Disk.{Disk}
+use Rattle.turn.specs.declared.state.Disk.the-variants as order
+use Rattle.turn.specs.declared.state.Limits.{Limits}
+use Rattle.turn.specs.Step.{Work}
+use Rattle.places.specs.Places.{stands, Sound}
+use Rattle.keeping.specs.Keeping.{AtOk}
+use Rattle.handing.specs.Handing.{idsOf}
+use Rattle.rail.specs.Rail.{World, walOf}
+
+-- the pool's disk and the journal's say the same
+abbrev pub Agrees : Disk → disk.Status → List ℕ → Type 0
+Agrees order.Free status bytes = status ≡ disk.settled
+Agrees (order.Waits o for) status bytes = status ≡ disk.waits (disk.sent bytes o)
+Agrees order.Failed status bytes = (s : disk.Sent) × (status ≡ disk.lost s)
+
+-- the ids logged: each once, each below the next id, each open or done
+pub record Ledger (j : disk.World) (logged done : List ℕ) : Type 0 where
+  pub adds : (x : ℕ) → count x (idsOf (j .now)) + count x done ≡ count x logged
+  pub once : (x : ℕ) → count x logged ≤ 1
+  pub below : (x : ℕ) → 0 < count x logged → x < j .wal .counters .next
+
+-- a turn's work with the journal beside it: sound lists; each id stands as often as it is logged and not done; the log of the journal; the disk
+pub record Working (long : ℕ) (j : disk.World) (w : Work) : Type 0 where
+  pub sound : Sound (w .links) (w .rows) (w .turn .counts .queued)
+  pub ids : (x : ℕ) → stands x (w .links) (w .rows) ≡ count x (idsOf (j .now))
+  pub ok : AtOk (w .turn .at) (w .links)
+  pub wal : j .wal ≡ state (w .bytes) (w .records) (w .turn .log)
+  pub agrees : Agrees (w .turn .disk) (j .disk .status) (w .bytes)
+  pub journal : log.Sound long j
+
+-- the journal after the order of a mark
+abbrev pub markedOff : disk.World → Work → Order → LogId → disk.World
+markedOff j w o id = disk.issue j (state (w .bytes) (w .records) (w .turn .log)) (remove (id .0) (j .now)) (disk.sent (w .bytes) o)
+
+-- the log's bytes at and after its size are those given
+abbrev pub TailKept : List ℕ → Work → Type 0
+TailKept bytes w = drop (w .turn .log .size) (w .bytes) ≡ drop (w .turn .log .size) bytes
+
+-- how a run ended: with no order, or with the mark of a message that was logged and not done, the log's bytes behind its new size as they were
+pub data Runs (long : ℕ) (j : disk.World) (w : Work) : Type 0 where
+  still : w .turn .disk ≡ order.Free → Working long j w → Runs long j w
+  marks : (o : Order) (id : LogId) → w .turn .disk ≡ order.Waits o (what.Mark id) → 0 < count (id .0) (idsOf (j .now)) → w .turn .log .next ≡ j .wal .counters .next
+      → TailKept (j .wal .bytes) w → Working long (markedOff j w o id) w → Runs long j w
+
+-- the state of a world as a turn's work
+abbrev pub workOf : World → Work
+workOf w = record {
+  turn = w .state .pool .turn;
+  bytes = w .state .bytes;
+  records = w .state .records;
+  links = w .state .links;
+  rows = w .state .rows;
+  keys = w .state .keys;
+  actors = w .state .actors;
+}
+
+-- what holds after every list of calls
+pub record Steady (long : ℕ) (limits : Limits) (w : World) : Type 0 where
+  pub works : Working long (w .journal) (workOf w)
+  pub ledger : Ledger (w .journal) (w .logged) (w .done)
+  pub limits-are : w .state .pool .limits ≡ limits

@@ -1,0 +1,309 @@
+-- THE THEOREM OF THE WHOLE RAIL. From top to bottom: a call; what is handed from call to call; the world, with the disk and the moments; a list of calls; what
+-- holds after it. The definitions of the calls are crates/pool/specs, those of disk and moments crates/log/specs/Recovery, those of the places
+-- crates/places/specs. The theorem itself, `whole-rail`, is proofs/Rail.antt.
+use mathlib.Core.Path.{_≡_}
+use mathlib.Core.Bool.{Bool, true, false}
+use mathlib.Core.Logic.{_⊎_}
+use mathlib.Core.List.{List, [], _∷_, _++_, List·Memᴰ}
+use Prim.Native.Nat.{ℕ, _<_}
+use lib.ListN.{length, take, drop}
+use Rattle.text.specs.Format.{Message}
+use Rattle.log.specs.Opening.{Opening, opened, refused, opening, remove}
+use Rattle.log.specs.Log.{Wal, newMessage}
+use Rattle.log.specs.Opened as log
+use Rattle.log.specs.Recovery as disk
+use Rattle.lists.specs.Links.{Table}
+use Rattle.lists.specs.Family.{count}
+use Rattle.actor.specs.declared.message.Caller.{Caller}
+use Rattle.actor.specs.declared.question.Reply.{Reply}
+use Rattle.places.specs.Places.{stands, mailTotal}
+use Rattle.handing.specs.Handing.{handed, idsOf}
+use Rattle.setup.specs.declared.settings.Settings.{Settings}
+use Rattle.turn.specs.declared.state.What.{What}
+use Rattle.turn.specs.declared.state.What.the-variants as what
+use Rattle.turn.specs.declared.state.Disk.{Disk}
+use Rattle.turn.specs.declared.state.Disk.the-variants as order
+use Rattle.front.specs.declared.state.Pool.{Pool}
+use Rattle.front.specs.declared.state.Answer.{Answer}
+use Rattle.front.specs.declared.state.Answer.the-variants as answer
+use Rattle.front.specs.declared.state.Told.{Told}
+use Rattle.pool.specs.declared.calls.StoredIn.{StoredIn}
+use Rattle.pool.specs.declared.calls.StoredIn.the-variants as stored
+use Rattle.door.specs.Open.{PoolOpened, openOf}
+use Rattle.door.specs.Admit.{Admitted, admitOf}
+use Rattle.pool.specs.Run.{Ran}
+use Rattle.pool.specs.Calls.{Replied, turnOf, storedIn, replyOf, syncOf, closeOf}
+
+-- ---- calls
+
+pub data Call : Type 0 where
+  -- a group's name, a body, and who waits for the outcome, if anybody
+  admit : List ℕ → List ℕ → Caller → Call
+  turn : Call
+  -- with the name and body of a message that was sent
+  reply : Reply → List ℕ → List ℕ → Call
+  sync : Call
+  close : Call
+
+-- what each call gets as the one before left it: the pool, the log's bytes and table of open records, the body store, and the pool's tables
+pub record State : Type 0 where
+  pub pool : Pool
+  pub bytes : List ℕ
+  pub records : Table
+  pub store : List ℕ
+  pub groups : Table
+  pub links : Table
+  pub rows : Table
+  pub keys : Table
+  pub actors : Table
+
+pub record Did : Type 0 where
+  pub state : State
+  pub answer : Answer
+
+abbrev pub didAdmit : State → Admitted → Did
+didAdmit s a = record {
+  state = record {
+    pool = a .told .pool;
+    bytes = a .bytes;
+    records = a .records;
+    store = a .store;
+    groups = s .groups;
+    links = a .links;
+    rows = a .rows;
+    keys = s .keys;
+    actors = s .actors;
+  };
+  answer = a .told .answer;
+}
+
+abbrev pub didRun : State → Ran → Did
+didRun s r = record {
+  state = record {
+    pool = r .told .pool;
+    bytes = r .bytes;
+    records = r .records;
+    store = s .store;
+    groups = s .groups;
+    links = r .links;
+    rows = r .rows;
+    keys = r .keys;
+    actors = r .actors;
+  };
+  answer = r .told .answer;
+}
+
+abbrev pub didReply : State → Replied → Did
+didReply s r = record {
+  state = record {
+    pool = r .told .pool;
+    bytes = r .bytes;
+    records = r .records;
+    store = r .store;
+    groups = s .groups;
+    links = r .links;
+    rows = r .rows;
+    keys = r .keys;
+    actors = r .actors;
+  };
+  answer = r .told .answer;
+}
+
+abbrev pub didTell : State → Told → Did
+didTell s t = record {
+  state = record {
+    pool = t .pool;
+    bytes = s .bytes;
+    records = s .records;
+    store = s .store;
+    groups = s .groups;
+    links = s .links;
+    rows = s .rows;
+    keys = s .keys;
+    actors = s .actors;
+  };
+  answer = t .answer;
+}
+
+-- what a call does: the definitions that the code equals
+unfoldable pub callOf : State → Call → Did
+callOf s (admit name body who) = didAdmit s (admitOf (s .pool) (s .bytes) (s .records) (s .store) (s .links) (s .rows) name body who)
+callOf s turn = didRun s (turnOf (s .pool) (s .bytes) (s .records) (s .store) (s .groups) (s .links) (s .rows) (s .keys) (s .actors))
+callOf s (reply r name body) =
+    didReply s (replyOf (s .pool) (s .bytes) (s .records) (s .store) (s .groups) (s .links) (s .rows) (s .keys) (s .actors) r name body)
+callOf s sync = didTell s (syncOf (s .pool) (s .links) (s .rows))
+callOf s close = didTell s (closeOf (s .pool) (s .links) (s .rows))
+
+-- ---- the world
+
+-- the log as the state has it
+abbrev pub walOf : State → Wal
+walOf s = record { bytes = s .bytes; table = s .records; counters = s .pool .turn .log }
+
+-- journal: the log, the disk, the moments, and the moment of the last confirmed flush or replace (crates/log/specs/Recovery).
+-- logged: the ids logged or handed back; done: the ids marked; both as orders went out.
+pub record World : Type 0 where
+  pub state : State
+  pub journal : disk.World
+  pub logged : List ℕ
+  pub done : List ℕ
+
+-- the name and body of a call
+abbrev pub nameOf : Call → List ℕ
+nameOf (admit name body who) = name
+nameOf turn = []
+nameOf (reply r name body) = name
+nameOf sync = []
+nameOf close = []
+
+abbrev pub bodyOf : Call → List ℕ
+bodyOf (admit name body who) = body
+bodyOf turn = []
+bodyOf (reply r name body) = body
+bodyOf sync = []
+bodyOf close = []
+
+-- an order with a new record adds its message, with the name and body given and the next id; an order for a mark takes off the message that it marks;
+-- any other order changes nothing
+abbrev pub effect : Wal → Call → What → List Message → List Message
+effect w c what.Record now = now ++ (newMessage w (nameOf c) (bodyOf c) ∷ [])
+effect w c (what.Mark id) now = remove (id .0) now
+effect w c what.Nothing now = now
+
+abbrev pub loggedBy : Wal → What → List ℕ → List ℕ
+loggedBy w what.Record ids = ids ++ (w .counters .next ∷ [])
+loggedBy w (what.Mark id) ids = ids
+loggedBy w what.Nothing ids = ids
+
+abbrev pub doneBy : What → List ℕ → List ℕ
+doneBy what.Record ids = ids
+doneBy (what.Mark id) ids = ids ++ (id .0 ∷ [])
+doneBy what.Nothing ids = ids
+
+-- the log as an accepted call left it
+abbrev pub moved : disk.World → Wal → disk.World
+moved j wal = record { wal = wal; disk = j .disk; moments = j .moments; now = j .now; firm = j .firm }
+
+-- the order that a call sent out, if any, is one more moment; its bytes are read from the log as it stands
+abbrev pub ordered : Call → World → State → disk.World → Disk → World
+ordered c w s j order.Free = record { state = s; journal = moved j (walOf s); logged = w .logged; done = w .done }
+ordered c w s j (order.Waits o for) = record {
+  state = s;
+  journal = disk.issue j (walOf s) (effect (walOf (w .state)) c for (j .now)) (disk.sent (s .bytes) o);
+  logged = loggedBy (walOf (w .state)) for (w .logged);
+  done = doneBy for (w .done);
+}
+ordered c w s j order.Failed = record { state = s; journal = moved j (walOf s); logged = w .logged; done = w .done }
+
+-- the order that waits is answered: stored, or failed; any other call leaves it
+abbrev pub orderAnswered : disk.World → disk.Sent → StoredIn → disk.World
+orderAnswered j s stored.Stored = disk.storedOrder j s
+orderAnswered j s stored.Failed = disk.failedOrder j s
+orderAnswered j s stored.Other = j
+
+abbrev pub answeredBy : disk.World → disk.Status → StoredIn → disk.World
+answeredBy j disk.settled r = j
+answeredBy j (disk.waits s) r = orderAnswered j s r
+answeredBy j (disk.lost s) r = j
+
+abbrev pub answered : disk.World → Call → disk.World
+answered j (admit name body who) = j
+answered j turn = j
+answered j (reply r name body) = answeredBy j (j .disk .status) (storedIn r)
+answered j sync = j
+answered j close = j
+
+-- a refused call adds nothing; an accepted one answers the order that waited, and may send out another
+abbrev pub stepBy : World → Call → State → Answer → World
+stepBy w c s (answer.Refused r) = record { state = s; journal = moved (w .journal) (walOf s); logged = w .logged; done = w .done }
+stepBy w c s (answer.Open a) = ordered c w s (answered (w .journal) c) (s .pool .turn .disk)
+stepBy w c s (answer.Ended busy waiters) = ordered c w s (answered (w .journal) c) (s .pool .turn .disk)
+
+abbrev pub stepDid : World → Call → Did → World
+stepDid w c d = stepBy w c (d .state) (d .answer)
+
+unfoldable pub step : World → Call → World
+step w c = stepDid w c (callOf (w .state) c)
+
+unfoldable pub run : World → List Call → World
+run w [] = w
+run w (c ∷ cs) = run (step w c) cs
+
+-- ---- an accepted opening
+
+abbrev pub accepted : Answer → Bool
+accepted (answer.Refused r) = false
+accepted (answer.Open a) = true
+accepted (answer.Ended busy waiters) = true
+
+abbrev pub leftBy : Opening → List Message
+leftBy (opened r) = r .left
+leftBy (refused r) = []
+
+-- the messages that a file leaves
+abbrev pub leftOf : List ℕ → List Message
+leftOf file = leftBy (opening file)
+
+abbrev pub openState : PoolOpened → Table → State
+openState o actors = record {
+  pool = o .told .pool;
+  bytes = o .bytes;
+  records = o .records;
+  store = o .store;
+  groups = o .groups;
+  links = o .links;
+  rows = o .rows;
+  keys = o .keys;
+  actors = actors;
+}
+
+-- the world at the start: the file given counts as confirmed, the opening's own replace is out, and the messages left are handed back
+abbrev pub begin : PoolOpened → Table → List ℕ → World
+begin o actors file = record {
+  state = openState o actors;
+  journal = record {
+    wal = walOf (openState o actors);
+    disk = record { sure = file; since = []; status = disk.waits (disk.replacing (take (o .told .pool .turn .log .size) (o .bytes))) };
+    moments = leftOf file ∷ [];
+    now = leftOf file;
+    firm = 0;
+  };
+  logged = idsOf (leftOf file);
+  done = [];
+}
+
+-- ---- what holds
+
+-- what an opening hands back: the messages in pending, in order
+abbrev pub handedBack : PoolOpened → List Message
+handedBack o = handed (o .store) (o .links) (o .rows)
+
+-- an id is done and stands in no place, or not done and stands in exactly one of the six
+abbrev pub Placed : World → ℕ → Type 0
+Placed w x =
+    ((0 < count x (w .done)) × (stands x (w .state .links) (w .state .rows) ≡ 0)) ⊎ ((count x (w .done) ≡ 0) × (stands x (w .state .links) (w .state .rows) ≡ 1))
+
+-- the next opening of a file, with the same settings, in a lent log of the same length that begins with it, and any store and tables of the right sizes,
+-- is accepted, and hands back in rising id order the messages of one of these moments
+pub record Reopens (s : Settings) (given : Table) (long : ℕ) (file : List ℕ) (moments : List (List Message)) : Type 0 where
+  pub found : List Message
+  pub among : List·Memᴰ found moments
+  pub accepts : (bytes store : List ℕ) (records groups links rows keys actors : Table) → length bytes ≡ long → take (length file) bytes ≡ file → length store ≡ 40960
+      → length records ≡ 256 → length groups ≡ 8 → length links ≡ 262 → length rows ≡ 256 → length keys ≡ 34 → length actors ≡ 128
+      → (accepted (openOf s given bytes (length file) store records groups links rows keys actors .told .answer) ≡ true)
+      × (handedBack (openOf s given bytes (length file) store records groups links rows keys actors) ≡ found)
+
+pub record Holds (s : Settings) (given : Table) (long : ℕ) (w : World) : Type 0 where
+  -- each message logged or handed back
+  pub placed : (x : ℕ) → 0 < count x (w .logged) → Placed w x
+  -- queued is the sum of the mailbox lengths
+  pub queued : w .state .pool .turn .counts .queued ≡ mailTotal (w .state .links)
+  -- wherever the power fails, whichever file the write rule allows: a moment up to the cut, no earlier than the last confirmed flush or replace
+  pub safe : (file : List ℕ) → disk.Possible (w .journal .disk) file → Reopens s given long file (drop (w .journal .firm) (w .journal .moments))
+
+-- the statement: every opening that is accepted, every list of calls
+abbrev pub WholeRail : Type 0
+WholeRail =
+    (s : Settings) (given : Table) (bytes : List ℕ) (n : ℕ) (store : List ℕ) (records groups links rows keys actors : Table)
+    → accepted (openOf s given bytes n store records groups links rows keys actors .told .answer) ≡ true → (calls : List Call)
+    → Holds s given (length bytes) (run (begin (openOf s given bytes n store records groups links rows keys actors) actors (take n bytes)) calls)
