@@ -1,5 +1,5 @@
 -- THE THEOREM OF THE WHOLE RAIL. From top to bottom: a call; what is handed from call to call; the world, with the disk and the moments; a list of calls; what
--- holds after it. The definitions of the calls are crates/pool/specs, those of disk and moments crates/log/specs/Recovery, those of the places
+-- holds after it. The definitions of the calls are crates/door/specs and crates/pool/specs, those of disk and moments crates/log/specs/Recovery, those of the places
 -- crates/places/specs. The theorem itself, `whole-rail`, is proofs/Rail.antt.
 use mathlib.Core.Path.{_≡_}
 use mathlib.Core.Bool.{Bool, true, false}
