@@ -179,7 +179,7 @@ module _ (t : Table) (c : Cursor) (slot-is : slotOn c < 128) where
   unfolding readying.beginFixed fixedStart
   fixed-ok actors slot = pick-rule (λ (a : FixedAt). AtOk (fixedAfter c a) t) (actorAt actors slot .started) (λ e. (slot-is, omega arith)) (λ e. (slot-is, omega arith))
 
-  eval-ok : (a : EvalAt) → AtOk (evalAfter c a) t
+  pub eval-ok : (a : EvalAt) → AtOk (evalAfter c a) t
   eval-ok eval.Clock = slot-is
   eval-ok eval.Boot = slot-is
   eval-ok eval.StartClock = slot-is

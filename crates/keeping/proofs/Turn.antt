@@ -12,13 +12,12 @@ use Rattle.steps.specs.declared.step.Step.{Step}
 use Rattle.steps.specs.declared.fixed.FixedAt.{FixedAt}
 use Rattle.steps.specs.declared.fixed.FixedAt.the-variants as fixed
 use Rattle.steps.specs.declared.eval.EvalAt.{EvalAt}
-use Rattle.steps.specs.declared.eval.EvalAt.the-variants as eval
 use Rattle.steps.specs.StepFixed.{FixedBoth}
 use Rattle.steps.specs.StepEval.{EvalBoth, stepEval}
 use Rattle.group.specs.declared.at.At.{At}
 use Rattle.group.specs.declared.at.At.the-variants as at
 use Rattle.group.specs.declared.at.Cursor.{Cursor}
-use Rattle.group.specs.At.{fixedAfter, evalAfter}
+use Rattle.group.specs.At.{fixedAfter}
 use Rattle.group.specs.Roster.{slotAt}
 use Rattle.turn.specs.declared.state.Counts.{Counts}
 use Rattle.turn.specs.declared.state.Limits.{Limits}
@@ -130,15 +129,6 @@ module _ (t : Table) (c : Cursor) (slot-is : slotAt (c .group) (c .key) < 128) w
   fixed-after-ok fixed.Dispatch full = (slot-is, full)
   fixed-after-ok (fixed.End e) full = full
 
-  eval-after-ok : (a : EvalAt) → AtOk (evalAfter c a) t
-  eval-after-ok eval.Clock = slot-is
-  eval-after-ok eval.Boot = slot-is
-  eval-after-ok eval.StartClock = slot-is
-  eval-after-ok (eval.Run start) = slot-is
-  eval-after-ok eval.Dispatch = slot-is
-  eval-after-ok (eval.Tell o) = slot-is
-  eval-after-ok (eval.End e) = omega arith
-
 -- a reply that moves no message, and one to a step of an actor
 module _ (t rows : Table) (n : Counts) (sound : Sound t rows (n .queued)) where
   resumes-to : (keys actors : Table) (a : At) → AtOk a t → ResumeKeeps t rows (resumed t keys actors a n)
@@ -153,7 +143,7 @@ module _ (t rows : Table) (n : Counts) (sound : Sound t rows (n .queued)) where
 
   eval-done : (keys : Table) (c : Cursor) → slotAt (c .group) (c .key) < 128 → (s : EvalBoth) → Keeps t rows (s .links) rows (n .queued)
       → ResumeKeeps t rows (runResumed keys n (evalDone c s))
-  eval-done keys c slot-is s keeps = record { keeps = keeps; ok = eval-after-ok (s .links) c slot-is (s .at) }
+  eval-done keys c slot-is s keeps = record { keeps = keeps; ok = tick.eval-ok (s .links) c slot-is (s .at) }
 
   fixed-resumes : (keys actors : Table) (c : Cursor) (a : FixedAt) (r : Reply) → AtOk (at.Fixed c a) t
       → ResumeKeeps t rows (stepResumed keys (fixedResumed n t rows actors c a r))

@@ -50,7 +50,8 @@ use Rattle.door.specs.Admit as one
 use Rattle.door.specs.Admit.{INBOX, roomCheck}
 use Rattle.rail.specs.Rail.{Call, admit, State, didAdmit, callOf, World, walOf}
 use Rattle.rail.specs.Invariant.{Agrees, Ledger, Working, still, Steady}
-use Rattle.rail.proofs.After.{workIn, count-snoc, now-count, Ends, turned, took, runs-steady, call-sound, shown-rule}
+use Rattle.rail.proofs.Ids.{count-snoc, now-count}
+use Rattle.rail.proofs.After.{workIn, Ends, turned, took, runs-steady, call-sound, shown-rule}
 
 -- ---- the checks
 

@@ -1,19 +1,14 @@
 -- How a call ends: refused, with the state as it was, or accepted, with the invariant and the log's bytes behind its size kept; and what an order for a mark changes. Assumes nothing.
 use mathlib.Core.Path.{_≡_, refl, sym, ap, _∙_, subst}
 use mathlib.Core.Bool.{true}
-use mathlib.Core.Logic.{_≢_}
-use mathlib.Core.List.{List, [], _∷_, _++_, map-append}
+use mathlib.Core.List.{List, [], _∷_, _++_}
 use Prim.Native.Nat.{ℕ, _+_, _<_}
 use native.Mathlib.Omega.{arith}
 use native.Mathlib.Decide.{ℕ-discrete}
 use borrow.Author.Tests.{eq-eqb, ne-eqb}
-use lib.Dec.{eqb}
 use lib.ListN.{drop}
-use Rattle.text.specs.Format.{Message}
-use Rattle.lists.specs.Links.{pick, Table}
+use Rattle.lists.specs.Links.{Table}
 use Rattle.lists.specs.Family.{count}
-use Rattle.lists.proofs.Counts.{count-other, count-append}
-use Rattle.lists.proofs.Family.{count-none}
 use Rattle.log.specs.Opening.{remove}
 use Rattle.log.specs.Recovery as disk
 use Rattle.log.proofs.RecoveryLaws as sound
@@ -29,39 +24,12 @@ use Rattle.front.specs.declared.state.Told.{Told}
 use Rattle.front.specs.State.{shown, atRest}
 use Rattle.pool.specs.Run.{answeredOf}
 use Rattle.rail.specs.Rail.{Call, State, Did, World, walOf, moved, ordered, answered, accepted, stepDid}
+use Rattle.rail.proofs.Ids.{gone-same, gone-other, count-snoc}
 use Rattle.rail.specs.Invariant.{Ledger, Working, TailKept, Runs, still, marks, markedOff, Steady}
 
 -- the state as a turn's work
 abbrev pub workIn : State → Work
 workIn s = record { turn = s .pool .turn; bytes = s .bytes; records = s .records; links = s .links; rows = s .rows; keys = s .keys; actors = s .actors }
-
--- ---- a message is taken off
-
-gone-same : (id : ℕ) (ms : List Message) → count id (idsOf (remove id ms)) ≡ 0
-unfolding remove
-gone-same id [] = count-none id
-gone-same id (m ∷ ms) = go (gone-same id ms) (ℕ-discrete (m .id) id)
-  where
-    go : count id (idsOf (remove id ms)) ≡ 0 → Dec (m .id ≡ id) → count id (idsOf (remove id (m ∷ ms))) ≡ 0
-    go rest (yes p) = rw (eq-eqb (m .id) id p, remove) rest
-    go rest (no p) = rw (ne-eqb (m .id) id p, remove) (omega (arith, count-other id (m .id) (idsOf (remove id ms)) p))
-
-gone-other : (id x : ℕ) (ms : List Message) → x ≢ id → count x (idsOf (remove id ms)) ≡ count x (idsOf ms)
-unfolding remove count
-gone-other id x [] other = refl
-gone-other id x (m ∷ ms) other = go (gone-other id x ms other) (ℕ-discrete (m .id) id)
-  where
-    go : count x (idsOf (remove id ms)) ≡ count x (idsOf ms) → Dec (m .id ≡ id) → count x (idsOf (remove id (m ∷ ms))) ≡ count x (idsOf (m ∷ ms))
-    go rest (yes p) = rw (eq-eqb (m .id) id p, remove) (omega (arith, count-other x (m .id) (idsOf ms) (λ z. other (omega arith))))
-    go rest (no p) = rw (ne-eqb (m .id) id p, remove) (omega arith)
-
--- one id more
-pub count-snoc : (x y : ℕ) (xs : List ℕ) → count x (xs ++ (y ∷ [])) ≡ count x xs + pick (eqb y x) 1 0
-unfolding count
-count-snoc x y xs = omega (arith, count-append x xs (y ∷ []))
-
-pub now-count : (x : ℕ) (m : Message) (ms : List Message) → count x (idsOf (ms ++ (m ∷ []))) ≡ count x (idsOf ms) + pick (eqb (m .id) x) 1 0
-now-count x m ms = ap (count x) (map-append (λ (m : Message). m .id) ms (m ∷ [])) ∙ count-snoc x (m .id) (idsOf ms)
 
 -- an id that was logged and not done is done
 marked-ledger : (j j′ : disk.World) (logged done : List ℕ) (id : ℕ) → Ledger j logged done → 0 < count id (idsOf (j .now))

@@ -1,4 +1,5 @@
 -- Laws of the rail.
+pub mod Ids
 pub mod Marks
 pub mod Running
 pub mod After

@@ -1,19 +1,17 @@
 -- The mark of a message that was logged and not done: its order goes out, and its id alone is no longer open. Assumes nothing.
 use mathlib.Core.Path.{_≡_, refl, sym, ap, _∙_, subst}
 use mathlib.Core.Bool.{Bool, true, false}
-use mathlib.Core.Logic.{_≢_}
 use mathlib.Core.Option.{some}
 use mathlib.Core.List.{List, [], _∷_}
-use Prim.Native.Nat.{ℕ, suc, _+_, _≤_, _<_}
+use Prim.Native.Nat.{ℕ, suc, _+_, _<_}
 use native.Mathlib.Omega.{arith}
 use native.Mathlib.Decide.{ℕ-discrete}
-use borrow.Author.Tests.{eqb-true, eqb-false, eq-eqb, ne-eqb}
+use borrow.Author.Tests.{eq-eqb, ne-eqb}
 use lib.Dec.{eqb}
 use lib.ListN.{length, drop}
 use Rattle.text.specs.Format.{Message, recordLine, doneLine}
 use Rattle.lists.specs.Links.{pick}
 use Rattle.lists.specs.Family.{count}
-use Rattle.lists.proofs.Counts.{count-same, count-other}
 use Rattle.log.specs.declared.Order.{Order}
 use Rattle.log.specs.declared.Answer.the-variants.{Ordered}
 use Rattle.log.specs.Opening.{Rising, remove}
@@ -24,6 +22,7 @@ use Rattle.log.proofs.WalLaws.{mark-known}
 use Rattle.log.proofs.RecoveryLaws as log
 use Rattle.log.proofs.Recovery.{call-tail}
 use Rattle.handing.specs.Handing.{idsOf}
+use Rattle.rail.proofs.Ids.{rising-once, gone-same, gone-other}
 
 -- ---- the order
 
@@ -79,53 +78,10 @@ mark-tail limit w ms x stands = call-tail limit w ms (disk.mark x) stands
 
 -- ---- the ids that are open
 
-module _ (high x : ℕ) where
-  -- below the first id none stands
-  low-none : (ms : List Message) (low : ℕ) → Rising low ms high → x < low → count x (idsOf ms) ≡ 0
-  unfolding count
-  low-none [] low r below = refl
-  low-none (m ∷ ms) low r below = count-other x (m .id) (idsOf ms) (λ e. omega (arith, r .0)) ∙ low-none ms (suc (m .id)) (r .1) (omega (arith, r .0))
-
-  -- ids rise, so each stands once at most
-  rising-once : (ms : List Message) (low : ℕ) → Rising low ms high → count x (idsOf ms) ≤ 1
-  unfolding count
-  rising-once [] low r = omega arith
-  rising-once (m ∷ ms) low r = go (ℕ-discrete (m .id) x) (rising-once ms (suc (m .id)) (r .1))
-    where
-      go : Dec (m .id ≡ x) → count x (idsOf ms) ≤ 1 → count x (idsOf (m ∷ ms)) ≤ 1
-      go (yes e) later = omega (arith, count-same x (m .id) (idsOf ms) e, low-none ms (suc (m .id)) (r .1) (omega arith))
-      go (no n) later = omega (arith, count-other x (m .id) (idsOf ms) n)
-
--- what a mark removes is all of its id ..
-removed-none : (x : ℕ) (ms : List Message) → count x (idsOf (remove x ms)) ≡ 0
-unfolding remove count
-removed-none x [] = refl
-removed-none x (m ∷ ms) = go (eqb (m .id) x) refl (removed-none x ms)
-  where
-    go : (b : Bool) → eqb (m .id) x ≡ b → count x (idsOf (remove x ms)) ≡ 0 → count x (idsOf (remove x (m ∷ ms))) ≡ 0
-    go true e later = cc
-    go false e later =
-        let kept : remove x (m ∷ ms) ≡ m ∷ remove x ms = cc in
-        rw kept (count-other x (m .id) (idsOf (remove x ms)) (eqb-false (m .id) x e) ∙ later)
-
--- .. and nothing else
-removed-other : (x y : ℕ) (ms : List Message) → x ≢ y → count y (idsOf (remove x ms)) ≡ count y (idsOf ms)
-unfolding remove count
-removed-other x y [] other = refl
-removed-other x y (m ∷ ms) other = go (eqb (m .id) x) refl (removed-other x y ms other)
-  where
-    go : (b : Bool) → eqb (m .id) x ≡ b → count y (idsOf (remove x ms)) ≡ count y (idsOf ms) → count y (idsOf (remove x (m ∷ ms))) ≡ count y (idsOf (m ∷ ms))
-    go true e later =
-        let gone : remove x (m ∷ ms) ≡ remove x ms = cc in
-        rw gone (later ∙ sym (count-other y (m .id) (idsOf ms) (λ z. other (sym (eqb-true (m .id) x e) ∙ z))))
-    go false e later =
-        let kept : remove x (m ∷ ms) ≡ m ∷ remove x ms = cc in
-        rw kept (ap (λ n. pick (eqb (m .id) y) 1 0 + n) later)
-
 -- an open id is marked: it stands once less, every other as before
 pub ids-marked : (x high low : ℕ) (ms : List Message) → Rising low ms high → 0 < count x (idsOf ms) → (y : ℕ) → count y (idsOf (remove x ms)) + pick (eqb x y) 1 0 ≡ count y (idsOf ms)
 ids-marked x high low ms r there y = go (ℕ-discrete x y)
   where
     go : Dec (x ≡ y) → count y (idsOf (remove x ms)) + pick (eqb x y) 1 0 ≡ count y (idsOf ms)
-    go (yes e) = rw (eq-eqb x y e, ← e) (omega (arith, removed-none x ms, rising-once high x ms low r))
-    go (no n) = rw (ne-eqb x y n) (omega (arith, removed-other x y ms n))
+    go (yes e) = rw (eq-eqb x y e, ← e) (omega (arith, gone-same x ms, rising-once ms low high x r))
+    go (no n) = rw (ne-eqb x y n) (omega (arith, gone-other x y ms (λ e. n (sym e))))

@@ -3,62 +3,30 @@ use mathlib.Core.Path.{_≡_, refl, sym, ap, _∙_}
 use mathlib.Core.Bool.{Bool, true, false}
 use mathlib.Core.Logic.{_⊎_, inl, inr}
 use mathlib.Core.List.{List, [], _∷_, append-nil, List·Memᴰ·head}
-use Prim.Native.Nat.{ℕ, suc, _≤_, _<_}
+use Prim.Native.Nat.{ℕ}
 use native.Mathlib.Omega.{arith}
-use borrow.Author.Tests.{eqb-true, eqb-false, eq-eqb}
+use borrow.Author.Tests.{eqb-true, eq-eqb}
 use lib.Dec.{eqb}
 use lib.ListN.{length, take, replicate}
 use lib.Seq.{take-nil, length-take-le}
-use Rattle.text.specs.Format.{Message}
 use Rattle.lists.specs.Links.{pick, Table, startFrom}
-use Rattle.lists.specs.Family.{count}
 use Rattle.lists.specs.KeyLists.{blankRow}
-use Rattle.lists.proofs.Counts.{count-same, count-other}
 use Rattle.log.specs.declared.Order.the-variants.{Replace}
-use Rattle.log.specs.Opening.{Read, Rising, Opening, refused, opened, opening, image}
+use Rattle.log.specs.Opening.{Read, Opening, refused, opened, opening, image}
 use Rattle.log.specs.declared.Refusal.{Refusal}
 use Rattle.log.specs.declared.Refusal.the-variants.{Sizes}
 use Rattle.log.specs.Opened as log
 use Rattle.log.specs.Recovery as disk
-use Rattle.log.proofs.OpeningLaws.{Rising-le}
 use Rattle.log.proofs.OpenLaws.{sized-all, open-accepts, image-fits, opened-long, opened-stands, opened-sent}
 use Rattle.log.specs.Stands.{Stands}
 use Rattle.log.proofs.RecoveryLaws.{ReadBack, stands-fit, stored-replace, whole-image, Sound, waiting}
-use Rattle.handing.specs.Handing.{idsOf, putMessages}
+use Rattle.handing.specs.Handing.{putMessages}
 use Rattle.setup.specs.declared.settings.Settings.{Settings}
 use Rattle.setup.specs.Settings.{settingsFit, groupsFrom}
 use Rattle.setup.specs.Tables.{Placed, putLeft}
 use Rattle.front.specs.declared.state.Refusal.the-variants as refusal
 use Rattle.door.specs.Open.{PoolOpened, tablesSized, openTold, filledBy, openPool, noLeft, notOpened, openedPool, openedLog, openOf}
 use Rattle.rail.specs.Rail.{accepted}
-
--- ---- ids that rise
-
-rising-under : (ms : List Message) (low high x : ℕ) → Rising low ms high → x < low → count x (idsOf ms) ≡ 0
-unfolding count
-rising-under [] low high x rises under = refl
-rising-under (m ∷ ms) low high x rises under =
-    count-other x (m .id) (idsOf ms) (λ same. omega (arith, rises .0)) ∙ rising-under ms (suc (m .id)) high x (rises .1) (omega (arith, rises .0))
-
-pub rising-once : (ms : List Message) (low high x : ℕ) → Rising low ms high → count x (idsOf ms) ≤ 1
-unfolding count
-rising-once [] low high x rises = omega arith
-rising-once (m ∷ ms) low high x rises = at (eqb (m .id) x) refl (rising-once ms (suc (m .id)) high x (rises .1))
-  where
-    at : (b : Bool) → eqb (m .id) x ≡ b → count x (idsOf ms) ≤ 1 → count x (m .id ∷ idsOf ms) ≤ 1
-    at true e later =
-        let is : m .id ≡ x = eqb-true (m .id) x e in
-        omega (arith, count-same x (m .id) (idsOf ms) is, rising-under ms (suc (m .id)) high x (rises .1) (omega arith))
-    at false e later = omega (arith, count-other x (m .id) (idsOf ms) (eqb-false (m .id) x e))
-
-pub rising-top : (ms : List Message) (low high x : ℕ) → Rising low ms high → 0 < count x (idsOf ms) → x < high
-unfolding count
-rising-top [] low high x rises there = omega arith
-rising-top (m ∷ ms) low high x rises there = at (eqb (m .id) x) refl (rising-top ms (suc (m .id)) high x (rises .1))
-  where
-    at : (b : Bool) → eqb (m .id) x ≡ b → (0 < count x (idsOf ms) → x < high) → x < high
-    at true e later = omega (arith, eqb-true (m .id) x e, Rising-le ms (suc (m .id)) high (rises .1))
-    at false e later = later (omega (arith, count-other x (m .id) (idsOf ms) (eqb-false (m .id) x e)))
 
 -- ---- the log turned away
 

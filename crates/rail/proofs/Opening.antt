@@ -24,7 +24,8 @@ use Rattle.setup.specs.Settings.{settingsFit}
 use Rattle.door.specs.Open.{PoolOpened, limitsFrom, noLeft, openOf}
 use Rattle.rail.specs.Rail.{World, accepted, leftBy, openState, walOf, begin, handedBack, Reopens}
 use Rattle.rail.specs.Invariant.{Working, Ledger, workOf, Steady}
-use Rattle.rail.proofs.Opened.{rising-once, rising-top, tables-are, tables-true, Taken, accepted-taken, opensAs, opens-as, start-sound}
+use Rattle.rail.proofs.Ids.{rising-once, rising-top}
+use Rattle.rail.proofs.Opened.{tables-are, tables-true, Taken, accepted-taken, opensAs, opens-as, start-sound}
 
 -- the world at the start, with the messages left by the file
 abbrev beginAt : PoolOpened → Table → List ℕ → List Message → World
