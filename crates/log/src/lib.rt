@@ -1,6 +1,6 @@
 // The write-ahead log of the rail pool, over a lent slice of bytes: each message logged, each marked done, so that a restart hands back only the rest.
 // State: the lent log (its first `size` bytes are the file), a lent table of 256 rows of open records (id, where the record begins, its length) in rising id order,
-// and the counters, by value. One invariant, a law and no precondition: the table is what the bytes say (specs/Stands, theorem `standing`).
+// and the counters, lent or by value. One invariant, a law and no precondition: the table is what the bytes say (specs/Stands, theorem `standing`).
 // Calls: `open_log` one pass over the file, `append` and `sync` in the record's length, `mark` in the table's; a rewrite moves the open records down.
 // Each ends on any bytes, tables and numbers and equals its definition (specs/Log). proofs/Recovery: after any list of calls, wherever the power fails, the next opening
 // hands back exactly the messages of one moment no earlier than the last confirmed flush or replace.

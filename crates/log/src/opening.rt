@@ -21,13 +21,14 @@ use crate::table::close_row;
 use crate::table::find_row;
 use crate::table::open_row;
 use crate::table::set_row;
+use lines::Line;
+use lines::line_at;
+use lines::turn_from;
 use text::escape::Measure;
 use text::escape::copy_field;
 use text::escape::field_fits;
 use text::line::LineKind;
 use text::line::body_field;
-use text::line::line_at;
-use text::line::line_end;
 use text::line::line_kind;
 use text::line::name_field;
 use text::record::encode_record;
@@ -218,15 +219,16 @@ fn scan(rows: &mut [[u64; 3]], file: &[u8], lo: u64) -> Taken
     };
     let mut at: usize = 0;
     loop {
-        let end = line_end(file, at);
-        if file.len() <= end {
+        let t = turn_from(file, at);
+        let line = t.line;
+        let Line::At(from, to) = line else {
             return Taken::Next(p);
-        }
-        let Taken::Next(q) = pass_line(rows, p, lo, &file[at..end], at) else {
+        };
+        let Taken::Next(q) = pass_line(rows, p, lo, &file[from..to], from) else {
             return Taken::Over;
         };
         p = q;
-        at = end + 1;
+        at = t.at;
     }
 }
 

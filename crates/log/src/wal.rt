@@ -1,4 +1,6 @@
 // The log's steps: append, mark and sync, and the rewrite to the open records.
+// The counters are lent by `&mut` to `append_in`, `mark_in` and `sync_in`; the work is in `append_step`, `mark_step` and `sync_step`, by value. `append`, `mark` and `sync`
+// lend a local, and have plain parameters. The first and the last three are proved by walks (tools/stepped.py), so whoever calls the last three needs none.
 ghost use mathlib.Core.Path.{_≡_};
 ghost use mathlib.Core.List.{[]};
 ghost use Prim.Native.Nat.{_+_, _-_, _≤_};
@@ -52,7 +54,7 @@ fn fits_behind(size: usize, n: usize, long: usize) -> bool
     n <= long - size
 }
 
-// The log rewritten to its open records: their ranges are moved down, in their order, and their rows say where to.
+// The log rewritten to its open records: their ranges are moved down, in their order, and their rows say where to. It goes by the table, and reads no line.
 pub(crate) fn compact(log: &mut [u8], records: &mut [[u64; 3]], count: usize)
     ensures bytes { λ r. ⌜ now (log .exit) ≡ squeezed (take count (now (records .entry))) 0 (now (log .entry)) ⌝ }
     ensures table { λ r. ⌜ now (records .exit) ≡ write (now (records .entry)) 0 (settled (length (now (log .entry))) (take count (now (records .entry))) 0) ⌝ }
@@ -150,11 +152,11 @@ fn turned_away(counters: Counters, r: Refusal) -> Stepped
     }
 }
 
-// Logs a message under the next id.
-pub fn append(
+// Append, by value.
+fn append_step(
+    counters: Counters,
     log: &mut [u8],
     records: &mut [[u64; 3]],
-    counters: Counters,
     name: &[u8],
     body: &[u8],
 ) -> Stepped
@@ -176,6 +178,39 @@ pub fn append(
         return turned_away(counters, Refusal::NoRoom);
     };
     append_record(log, records, counters, len, name, body)
+}
+
+// Append, on counters that are lent.
+pub fn append_in(
+    counters: &mut Counters,
+    log: &mut [u8],
+    records: &mut [[u64; 3]],
+    name: &[u8],
+    body: &[u8],
+) -> Answer
+    ensures { λ a. ⌜ record { wal = state (now (log .exit)) (now (records .exit)) (now (counters .exit)); answer = a } ≡ appendOf (state (now (log .entry)) (now (records .entry)) (now (counters .entry))) (now (name .entry)) (now (body .entry)) ⌝ }
+{
+    let s = append_step(*counters, log, records, name, body);
+    *counters = s.counters;
+    s.answer
+}
+
+// Logs a message under the next id.
+pub fn append(
+    log: &mut [u8],
+    records: &mut [[u64; 3]],
+    counters: Counters,
+    name: &[u8],
+    body: &[u8],
+) -> Stepped
+    ensures { λ r. ⌜ record { wal = state (now (log .exit)) (now (records .exit)) (r .counters); answer = r .answer } ≡ appendOf (state (now (log .entry)) (now (records .entry)) counters) (now (name .entry)) (now (body .entry)) ⌝ }
+{
+    let mut c = counters;
+    let answer = append_in(&mut c, log, records, name, body);
+    Stepped {
+        counters: c,
+        answer,
+    }
 }
 
 // A difference, 0 where there is none.
@@ -277,11 +312,11 @@ fn mark_done(
     }
 }
 
-// Marks a message done; an id that is not open does nothing.
-pub fn mark(
+// Mark, by value.
+fn mark_step(
+    counters: Counters,
     log: &mut [u8],
     records: &mut [[u64; 3]],
-    counters: Counters,
     limit: usize,
     id: LogId,
 ) -> Stepped
@@ -299,8 +334,41 @@ pub fn mark(
     mark_done(log, records, rest, limit, n)
 }
 
-// Orders a flush, where a record was appended since the last one.
-pub fn sync(counters: Counters) -> Stepped
+// Mark, on counters that are lent.
+pub fn mark_in(
+    counters: &mut Counters,
+    log: &mut [u8],
+    records: &mut [[u64; 3]],
+    limit: usize,
+    id: LogId,
+) -> Answer
+    ensures { λ a. ⌜ record { wal = state (now (log .exit)) (now (records .exit)) (now (counters .exit)); answer = a } ≡ markOf limit (state (now (log .entry)) (now (records .entry)) (now (counters .entry))) (id .0) ⌝ }
+{
+    let s = mark_step(*counters, log, records, limit, id);
+    *counters = s.counters;
+    s.answer
+}
+
+// Marks a message done; an id that is not open does nothing.
+pub fn mark(
+    log: &mut [u8],
+    records: &mut [[u64; 3]],
+    counters: Counters,
+    limit: usize,
+    id: LogId,
+) -> Stepped
+    ensures { λ r. ⌜ record { wal = state (now (log .exit)) (now (records .exit)) (r .counters); answer = r .answer } ≡ markOf limit (state (now (log .entry)) (now (records .entry)) counters) (id .0) ⌝ }
+{
+    let mut c = counters;
+    let answer = mark_in(&mut c, log, records, limit, id);
+    Stepped {
+        counters: c,
+        answer,
+    }
+}
+
+// Sync, by value.
+fn sync_step(counters: Counters) -> Stepped
     ensures { λ r. ⌜ r ≡ syncOf counters ⌝ }
 {
     if counters.dirty {
@@ -319,5 +387,26 @@ pub fn sync(counters: Counters) -> Stepped
     Stepped {
         counters,
         answer: Answer::Nothing,
+    }
+}
+
+// Sync, on counters that are lent.
+pub fn sync_in(counters: &mut Counters) -> Answer
+    ensures { λ a. ⌜ record { counters = now (counters .exit); answer = a } ≡ syncOf (now (counters .entry)) ⌝ }
+{
+    let s = sync_step(*counters);
+    *counters = s.counters;
+    s.answer
+}
+
+// Orders a flush, where a record was appended since the last one.
+pub fn sync(counters: Counters) -> Stepped
+    ensures { λ r. ⌜ r ≡ syncOf counters ⌝ }
+{
+    let mut c = counters;
+    let answer = sync_in(&mut c);
+    Stepped {
+        counters: c,
+        answer,
     }
 }

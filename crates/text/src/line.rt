@@ -1,9 +1,9 @@
-// Lines: the next whole line of a file, and what a line says.
+// Lines: where the next whole line of a file ends, and what a line says. (The crate `lines` has the reader over them.)
 ghost use mathlib.Core.Path.{_≡_};
 ghost use Prim.Native.Nat.{_≤_};
-ghost use lib.ListN.{length, drop};
-ghost use Rattle.text.specs.Format.{unescape, lines};
-ghost use Rattle.text.specs.Line.{readLine, nameOf, bodyOf, firstOf};
+ghost use lib.ListN.{length};
+ghost use Rattle.text.specs.Format.{unescape};
+ghost use Rattle.text.specs.Line.{readLine, nameOf, bodyOf};
 ghost use Rattle.text.specs.Answers.{First, FirstFrom, doneKind, putKind, Said, NextLine};
 use crate::ids::IdRead;
 use crate::ids::read_id;
@@ -95,17 +95,6 @@ pub fn line_end(file: &[u8], at: usize) -> usize
         return file.len();
     }
     find_from(file, at, b'\n')
-}
-
-// The whole line that begins at a place; nothing where there is none.
-pub fn line_at(file: &[u8], at: usize) -> &[u8]
-    ensures { λ r. ⌜ now r ≡ firstOf (lines (drop at (now (file .entry)))) ⌝ }
-{
-    let end = line_end(file, at);
-    if file.len() <= end {
-        return &file[0..0];
-    }
-    &file[at..end]
 }
 
 // The name of a record, as it stands in the line from after its TAB on; nothing in any other line.

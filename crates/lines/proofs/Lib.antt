@@ -1,0 +1,3 @@
+-- The laws of the line reader.
+pub mod TurnLaws
+pub mod Local

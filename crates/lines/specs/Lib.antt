@@ -1,0 +1,2 @@
+-- The definitions of the line reader.
+pub mod Lines
