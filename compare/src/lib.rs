@@ -1,29 +1,36 @@
-//! The Rust of the message core beside the port, over scripts.
+//! The Rust of the message core beside the port, over scripts of calls and replies.
 //!
-//! Both sides are run over one script (a lent log, a file, then append, mark, sync and the disk's answers) and must
-//! give the same bytes: `oracle` runs the Rust and writes down the script with the answers that follow from it, `port`
-//! runs the linked library, `judge` compares. `suite` holds the cases, `cuts` the power cuts on real files, `recorded`
-//! the fixed list of the Rust's answers that needs no Rust at hand.
+//! `model` is 01 as a plain program. It drives a run inside the domain of equality and writes down what must follow;
+//! `port` (the linked library, one function) must then give the same, and the Rust too.
 
-pub mod bench;
-pub mod cuts;
-pub mod domain;
-pub mod generate;
-pub mod judge;
+pub mod lent;
 pub mod limits;
+pub mod met;
+pub mod model;
 pub mod output;
 pub mod port;
-pub mod recorded;
 pub mod rng;
 pub mod scratch;
 pub mod script;
-pub mod suite;
+pub mod tables;
 pub mod tally;
+pub mod trace;
+pub mod view;
 pub mod wire;
 
-#[cfg(oracle)]
-pub mod disguise;
+pub mod diff;
+pub mod generate;
+
 #[cfg(oracle)]
 pub mod oracle;
+// The Rust names these two at the crate's root.
 #[cfg(oracle)]
-mod standins;
+use oracle::{host, pack};
+#[cfg(oracle)]
+extern crate slab;
+
+pub mod bench;
+pub mod cuts;
+pub mod differences;
+pub mod property;
+pub mod recorded;

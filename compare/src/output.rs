@@ -1,187 +1,222 @@
-//! What a run of the log gives: the opening's answer, state and left messages, then an answer and the state for each
-//! event. Read from bytes with every byte accounted for, and written as bytes.
-use crate::wire::{Reader, put};
-use std::fmt;
+//! What a run of the port gives (docs/PROTOCOL.md): an entry for the opening, then one for each call, read from bytes
+//! with every byte accounted for. An entry borrows the bytes that it was read from.
+use crate::model::log::Order;
+use crate::model::pool::{self, Outcome, Question};
+use crate::script::{SHOW_LOG, SHOW_STORE, SHOW_TABLES};
+use crate::tables::{self, Tables};
+use crate::wire::{NUMBER, Reader};
 
-/// What a call gives: an order to the disk, a refusal, or nothing.
+/// What a call gives: a refusal, the turn's end, or what is open now.
 #[derive(Clone, Copy, PartialEq, Eq, Debug)]
 pub enum Answer {
     Nothing,
+    Refused(u64),
+    TurnEnd {
+        busy: bool,
+        waiters: bool,
+    },
     /// Bytes a to b of the log go to the file's end.
     Append(u64, u64),
     /// The file becomes the log's first n bytes, whole or not at all.
     Replace(u64),
     Flush,
-    Refused(u64),
+    Boot {
+        group: u64,
+    },
+    Clock,
+    Poll {
+        group: u64,
+        key: u64,
+    },
+    Drain {
+        group: u64,
+        key: u64,
+    },
+    Dispatch {
+        group: u64,
+        key: u64,
+    },
+    Run {
+        group: u64,
+        key: u64,
+        start: bool,
+    },
+    Push {
+        group: u64,
+        key: u64,
+    },
+    Sends {
+        group: u64,
+        key: u64,
+    },
+    Trap {
+        group: u64,
+    },
+    Trapped {
+        group: u64,
+        key: u64,
+    },
+    Tell {
+        caller: u64,
+        outcome: Outcome,
+    },
 }
 
-/// The log's counters, the number of open records, and the first `size` bytes of the log.
-#[derive(Clone, PartialEq, Eq, Debug, Default)]
-pub struct State {
+impl Answer {
+    /// The same answer of the plain program. The message that it shows is apart.
+    pub fn of(answer: &pool::Answer) -> Answer {
+        match *answer {
+            pool::Answer::Refused(number) => Answer::Refused(number as u64),
+            pool::Answer::TurnEnd { busy, waiters } => Answer::TurnEnd { busy, waiters },
+            pool::Answer::Open(None) => Answer::Nothing,
+            pool::Answer::Open(Some(question)) => Answer::of_question(question),
+        }
+    }
+
+    fn of_question(question: Question) -> Answer {
+        let n = |number: usize| number as u64;
+        match question {
+            Question::Boot { g } => Answer::Boot { group: n(g) },
+            Question::Clock => Answer::Clock,
+            Question::Poll { g, key } => Answer::Poll { group: n(g), key: n(key) },
+            Question::Drain { g, key } => Answer::Drain { group: n(g), key: n(key) },
+            Question::Dispatch { g, key } => Answer::Dispatch { group: n(g), key: n(key) },
+            Question::Run { g, key, start, .. } => Answer::Run { group: n(g), key: n(key), start },
+            Question::Push { g, key, .. } => Answer::Push { group: n(g), key: n(key) },
+            Question::Sends { g, key } => Answer::Sends { group: n(g), key: n(key) },
+            Question::Trap { g } => Answer::Trap { group: n(g) },
+            Question::Trapped { g, key } => Answer::Trapped { group: n(g), key: n(key) },
+            Question::Tell { caller, outcome } => Answer::Tell { caller: caller.0, outcome },
+            Question::Store(Order::Append(a, b)) => Answer::Append(n(a), n(b)),
+            Question::Store(Order::Replace(length)) => Answer::Replace(n(length)),
+            Question::Store(Order::Flush) => Answer::Flush,
+        }
+    }
+
+    /// An order to the disk waits.
+    pub fn is_order(&self) -> bool {
+        matches!(self, Answer::Append(..) | Answer::Replace(_) | Answer::Flush)
+    }
+
+    fn read(kind: u64, a: u64, b: u64, c: u64) -> Option<Answer> {
+        let flag = |number: u64| (number < 2).then_some(number == 1);
+        let (group, key) = (a, b);
+        let (answer, values) = match kind {
+            0 => (Answer::Nothing, 0),
+            1 => (Answer::Refused(a), 1),
+            2 => (Answer::TurnEnd { busy: flag(a)?, waiters: flag(b)? }, 2),
+            3 => (Answer::Append(a, b), 2),
+            4 => (Answer::Replace(a), 1),
+            5 => (Answer::Flush, 0),
+            6 => (Answer::Boot { group }, 1),
+            7 => (Answer::Clock, 0),
+            8 => (Answer::Poll { group, key }, 2),
+            9 => (Answer::Drain { group, key }, 2),
+            10 => (Answer::Dispatch { group, key }, 2),
+            11 => (Answer::Run { group, key, start: flag(c)? }, 3),
+            12 => (Answer::Push { group, key }, 2),
+            13 => (Answer::Sends { group, key }, 2),
+            14 => (Answer::Trap { group }, 1),
+            15 => (Answer::Trapped { group, key }, 2),
+            16 => (Answer::Tell { caller: a, outcome: outcome(b)? }, 2),
+            _ => return None,
+        };
+        // A value that the answer does not have is 0.
+        [a, b, c][values..].iter().all(|value| *value == 0).then_some(answer)
+    }
+}
+
+fn outcome(number: u64) -> Option<Outcome> {
+    const ALL: [Outcome; 7] = [
+        Outcome::Ran,
+        Outcome::Unbooted,
+        Outcome::Broke,
+        Outcome::Raised,
+        Outcome::Late,
+        Outcome::StuckHostCall,
+        Outcome::StuckReceive,
+    ];
+    ALL.get(usize::try_from(number).ok()?).copied()
+}
+
+/// The message that a question shows.
+#[derive(Clone, Copy, PartialEq, Eq, Debug)]
+pub struct Shown<'a> {
+    pub name: &'a [u8],
+    pub body: &'a [u8],
+}
+
+#[derive(Clone, Copy)]
+pub struct Entry<'a> {
+    pub answer: Answer,
+    pub shown: Option<Shown<'a>>,
     pub next: u64,
     pub live: u64,
+    pub size: u64,
     pub dirty: bool,
+    /// The number of open records.
     pub open: u64,
-    pub log: Vec<u8>,
+    pub queued: u64,
+    pub dead: u64,
+    pub crashes: u64,
+    /// The log's first `size` bytes, where they are shown.
+    pub log: Option<&'a [u8]>,
+    pub tables: Option<Tables<'a>>,
+    pub store: Option<&'a [u8]>,
+    /// The entry as it was written.
+    pub raw: &'a [u8],
 }
 
-impl State {
-    pub fn size(&self) -> u64 {
-        self.log.len() as u64
-    }
+/// An entry for the opening, then one for each call that was made.
+pub struct Output<'a> {
+    pub entries: Vec<Entry<'a>>,
 }
 
-/// A message that an opening hands back.
-#[derive(Clone, PartialEq, Eq, Debug)]
-pub struct Left {
-    pub id: u64,
-    pub name: Vec<u8>,
-    pub body: Vec<u8>,
-}
-
-#[derive(Clone, PartialEq, Eq, Debug)]
-pub struct Entry {
-    pub answer: Answer,
-    pub state: State,
-}
-
-#[derive(Clone, PartialEq, Eq, Debug)]
-pub struct Output {
-    pub opening: Entry,
-    pub left: Vec<Left>,
-    pub entries: Vec<Entry>,
-}
-
-impl Output {
-    pub fn refused(number: u64) -> Output {
-        let opening = Entry { answer: Answer::Refused(number), state: State::default() };
-        Output { opening, left: Vec::new(), entries: Vec::new() }
-    }
-
-    /// The output as the port writes it, with the count of its bytes in front.
-    pub fn bytes(&self) -> Vec<u8> {
-        self.bytes_shown(true)
-    }
-
-    /// The same, with or without the log's bytes behind each state.
-    pub fn bytes_shown(&self, show: bool) -> Vec<u8> {
-        let mut out = Vec::new();
-        put(&mut out, 0);
-        put_entry(&mut out, &self.opening, show);
-        put(&mut out, self.left.len() as u64);
-        for left in &self.left {
-            put(&mut out, left.id);
-            put(&mut out, left.name.len() as u64);
-            put(&mut out, left.body.len() as u64);
-            out.extend_from_slice(&left.name);
-            out.extend_from_slice(&left.body);
-        }
-        for entry in &self.entries {
-            put_entry(&mut out, entry, show);
-        }
-        let count = (out.len() - 8) as u64;
-        out[..8].copy_from_slice(&count.to_le_bytes());
-        out
-    }
-
-    /// Reads what the port wrote. Anything short, left over or outside its range is an error.
-    pub fn read(bytes: &[u8]) -> Result<Output, String> {
-        let mut from = Reader::new(bytes);
+impl<'a> Output<'a> {
+    /// Reads what the port wrote under `show`, the count included. Anything short, left over or outside its range is an
+    /// error.
+    pub fn read(written: &'a [u8], show: u64, store_len: usize) -> Result<Output<'a>, String> {
+        let mut from = Reader::new(written);
         let count = from.number().ok_or("no count")?;
-        if count != bytes.len() as u64 - 8 {
-            return Err(format!("the count says {count} bytes, {} were written", bytes.len() - 8));
+        if count != (written.len() - NUMBER) as u64 {
+            return Err(format!("the count says {count} bytes, {} were written", written.len() - NUMBER));
         }
-        let opening = read_entry(&mut from)?;
-        let left = read_left(&mut from)?;
         let mut entries = Vec::new();
         while !from.is_empty() {
-            entries.push(read_entry(&mut from)?);
+            let entry = Entry::read(&mut from, show, store_len);
+            entries.push(entry.map_err(|error| format!("entry {}: {error}", entries.len()))?);
         }
-        if let Answer::Refused(_) = opening.answer
-            && (opening.state != State::default() || !left.is_empty() || !entries.is_empty())
-        {
-            return Err("something follows a refused opening".into());
+        Ok(Output { entries })
+    }
+}
+
+impl<'a> Entry<'a> {
+    fn read(from: &mut Reader<'a>, show: u64, store_len: usize) -> Result<Entry<'a>, String> {
+        const SHORT: &str = "the output ends inside an entry";
+        let all = from.rest();
+        let mut numbers = [0; 12];
+        for number in &mut numbers {
+            *number = from.number().ok_or(SHORT)?;
         }
-        Ok(Output { opening, left, entries })
-    }
-}
-
-fn put_entry(out: &mut Vec<u8>, entry: &Entry, show: bool) {
-    let (kind, a, b) = match entry.answer {
-        Answer::Nothing => (0, 0, 0),
-        Answer::Append(a, b) => (1, a, b),
-        Answer::Replace(n) => (2, n, 0),
-        Answer::Flush => (3, 0, 0),
-        Answer::Refused(number) => (4, number, 0),
-    };
-    let state = &entry.state;
-    for number in [kind, a, b, state.next, state.live, state.size(), state.dirty as u64, state.open] {
-        put(out, number);
-    }
-    if show {
-        out.extend_from_slice(&state.log);
-    }
-}
-
-fn read_entry(from: &mut Reader) -> Result<Entry, String> {
-    let mut number = || from.number().ok_or("the output ends inside an entry");
-    let (kind, a, b) = (number()?, number()?, number()?);
-    let answer = match (kind, a, b) {
-        (0, 0, 0) => Answer::Nothing,
-        (1, a, b) => Answer::Append(a, b),
-        (2, n, 0) => Answer::Replace(n),
-        (3, 0, 0) => Answer::Flush,
-        (4, number, 0) => Answer::Refused(number),
-        _ => return Err(format!("no such answer: {kind} {a} {b}")),
-    };
-    let (next, live, size, dirty, open) = (number()?, number()?, number()?, number()?, number()?);
-    if dirty > 1 {
-        return Err(format!("dirty is {dirty}"));
-    }
-    let log = from.bytes(size).ok_or("the output ends inside a log")?.to_vec();
-    Ok(Entry { answer, state: State { next, live, dirty: dirty == 1, open, log } })
-}
-
-fn read_left(from: &mut Reader) -> Result<Vec<Left>, String> {
-    let short = "the output ends inside the left messages";
-    let count = from.number().ok_or(short)?;
-    let mut left: Vec<Left> = Vec::new();
-    for _ in 0..count {
-        let id = from.number().ok_or(short)?;
-        if left.last().is_some_and(|before| before.id >= id) {
-            return Err(format!("left messages out of order at id {id}"));
+        let [kind, a, b, c, next, live, size, dirty, open, queued, dead, crashes] = numbers;
+        let answer = Answer::read(kind, a, b, c).ok_or_else(|| format!("no such answer: {kind} {a} {b} {c}"))?;
+        if dirty > 1 {
+            return Err(format!("dirty is {dirty}"));
         }
-        let (name, body) = (from.number().ok_or(short)?, from.number().ok_or(short)?);
-        let name = from.bytes(name).ok_or(short)?.to_vec();
-        let body = from.bytes(body).ok_or(short)?.to_vec();
-        left.push(Left { id, name, body });
-    }
-    Ok(left)
-}
-
-impl fmt::Display for Answer {
-    fn fmt(&self, f: &mut fmt::Formatter<'_>) -> fmt::Result {
-        match self {
-            Answer::Nothing => write!(f, "nothing"),
-            Answer::Append(a, b) => write!(f, "append {a} to {b}"),
-            Answer::Replace(n) => write!(f, "replace by {n}"),
-            Answer::Flush => write!(f, "flush"),
-            Answer::Refused(number) => write!(f, "refused {number}"),
-        }
-    }
-}
-
-impl fmt::Display for Left {
-    fn fmt(&self, f: &mut fmt::Formatter<'_>) -> fmt::Result {
-        write!(f, "{} \"{}\" \"{}\"", self.id, self.name.escape_ascii(), self.body.escape_ascii())
-    }
-}
-
-impl fmt::Display for Entry {
-    fn fmt(&self, f: &mut fmt::Formatter<'_>) -> fmt::Result {
-        let State { next, live, dirty, open, log } = &self.state;
-        let size = self.state.size();
-        write!(f, "{}; next {next}, live {live}, size {size}, ", self.answer)?;
-        write!(f, "dirty {}, open {open}, log \"{}\"", *dirty as u64, log.escape_ascii())
+        let shown = match from.number().ok_or(SHORT)? {
+            0 => None,
+            1 => {
+                let (name, body) = (from.number().ok_or(SHORT)?, from.number().ok_or(SHORT)?);
+                Some(Shown { name: from.bytes(name).ok_or(SHORT)?, body: from.bytes(body).ok_or(SHORT)? })
+            }
+            other => return Err(format!("a message is shown {other} times")),
+        };
+        let log = if show >= SHOW_LOG { Some(from.bytes(size).ok_or(SHORT)?) } else { None };
+        let tables =
+            if show >= SHOW_TABLES { Some(Tables::new(from.bytes(tables::LENGTH as u64).ok_or(SHORT)?)) } else { None };
+        let store = if show >= SHOW_STORE { Some(from.bytes(store_len as u64).ok_or(SHORT)?) } else { None };
+        let raw = &all[..all.len() - from.rest().len()];
+        let dirty = dirty == 1;
+        Ok(Entry { answer, shown, next, live, size, dirty, open, queued, dead, crashes, log, tables, store, raw })
     }
 }

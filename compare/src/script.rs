@@ -1,104 +1,141 @@
-//! What one run of the log is given: the lent log's length, compact_at, whether each state is shown with the log's
-//! bytes, the file, then the calls and the disk's answers, in order.
-use crate::wire::put;
-use std::fmt;
+//! What one run of the port is given, as bytes (docs/PROTOCOL.md): settings, the file, then calls and replies in order.
+use crate::limits::{MESSAGES, NAME_MAX};
+use crate::model::pool::{Call, Reply, Settings, Status};
+use crate::tables;
+use crate::wire::{NUMBER, put};
 
-#[derive(Clone, PartialEq, Eq, Debug)]
-pub enum Event {
-    Append { name: Vec<u8>, body: Vec<u8> },
-    Mark(u64),
-    Sync,
-    Stored,
-    Failed,
-}
+const VERSION: u64 = 1;
 
-impl Event {
-    pub fn append(name: &[u8], body: &[u8]) -> Event {
-        Event::Append { name: name.to_vec(), body: body.to_vec() }
-    }
-}
+/// What an entry of the output shows besides answer and counters: nothing, the log, the tables too, the store too.
+pub const SHOW_NOTHING: u64 = 0;
+pub const SHOW_LOG: u64 = 1;
+pub const SHOW_TABLES: u64 = 2;
+pub const SHOW_STORE: u64 = 3;
 
-#[derive(Clone, PartialEq, Eq, Debug)]
+#[derive(Clone)]
 pub struct Script {
-    pub lent: u64,
-    pub compact_at: u64,
-    /// The log's bytes stand behind each state; without them a call is timed alone.
-    pub show: bool,
-    pub file: Vec<u8>,
-    pub events: Vec<Event>,
+    bytes: Vec<u8>,
+    show: u64,
+    log_len: usize,
+    store_len: usize,
+    /// Bytes that the log can have at most after the calls so far, and the output with them.
+    log_bound: usize,
+    bound: usize,
 }
 
 impl Script {
-    pub fn opening(lent: u64, compact_at: u64, file: &[u8]) -> Script {
-        Script { lent, compact_at, show: true, file: file.to_vec(), events: Vec::new() }
+    /// A script of an opening alone. The lent lengths and `show` may be any numbers.
+    pub fn new(settings: &Settings, log_len: usize, store_len: usize, file: &[u8], show: u64) -> Script {
+        let mut bytes = Vec::new();
+        for number in [VERSION, show, log_len as u64, store_len as u64, file.len() as u64] {
+            put(&mut bytes, number);
+        }
+        for number in [settings.max_actors, settings.inbox, settings.backlog, settings.compact_at] {
+            put(&mut bytes, number as u64);
+        }
+        put(&mut bytes, settings.tick_ns);
+        put(&mut bytes, settings.groups.len() as u64);
+        for group in &settings.groups {
+            let name = &group.name;
+            for number in [group.replicas as u64, group.eval as u64, group.timeout, group.retry, name.len() as u64] {
+                put(&mut bytes, number);
+            }
+            for at in 0..NAME_MAX {
+                put(&mut bytes, name.get(at).copied().unwrap_or(0) as u64);
+            }
+        }
+        bytes.extend_from_slice(file);
+        let mut script = Script { bytes, show, log_len, store_len, log_bound: file.len(), bound: NUMBER };
+        script.bound += script.entry_bound();
+        script
+    }
+
+    /// Adds a call.
+    pub fn call(&mut self, call: &Call) {
+        const NONE: (u64, u64, &[u8], &[u8]) = (0, 0, &[], &[]);
+        let (which, (kind, value, name, body)) = match call {
+            Call::Admit { name, body, caller } => {
+                let value = caller.map_or(0, |caller| caller.0);
+                (1, (caller.is_some() as u64, value, name.as_slice(), body.as_slice()))
+            }
+            Call::Turn => (2, NONE),
+            Call::Reply(reply) => (3, reply_numbers(reply)),
+            Call::Sync => (4, NONE),
+            Call::Close => (5, NONE),
+        };
+        for number in [which, kind, value, name.len() as u64, body.len() as u64] {
+            put(&mut self.bytes, number);
+        }
+        self.bytes.extend_from_slice(name);
+        self.bytes.extend_from_slice(body);
+        // A call orders one record or one done line at most.
+        const ID_AND_SEPARATORS: usize = 23;
+        self.log_bound += ID_AND_SEPARATORS + 2 * (name.len() + body.len());
+        self.bound += self.entry_bound();
     }
 
     /// The script as the port reads it.
-    pub fn bytes(&self) -> Vec<u8> {
-        let mut out = Vec::new();
-        put(&mut out, self.lent);
-        put(&mut out, self.compact_at);
-        put(&mut out, self.show as u64);
-        put(&mut out, self.file.len() as u64);
-        out.extend_from_slice(&self.file);
-        for event in &self.events {
-            match event {
-                Event::Append { name, body } => {
-                    put(&mut out, 1);
-                    put(&mut out, name.len() as u64);
-                    put(&mut out, body.len() as u64);
-                    out.extend_from_slice(name);
-                    out.extend_from_slice(body);
-                }
-                Event::Mark(id) => {
-                    put(&mut out, 2);
-                    put(&mut out, *id);
-                }
-                Event::Sync => put(&mut out, 3),
-                Event::Stored => put(&mut out, 4),
-                Event::Failed => put(&mut out, 5),
-            }
-        }
-        out
+    pub fn bytes(&self) -> &[u8] {
+        &self.bytes
     }
 
-    /// A length that the port's output cannot pass.
+    pub fn show(&self) -> u64 {
+        self.show
+    }
+
+    pub fn log_len(&self) -> usize {
+        self.log_len
+    }
+
+    pub fn store_len(&self) -> usize {
+        self.store_len
+    }
+
+    /// A length that the output cannot pass.
     pub fn output_bound(&self) -> usize {
-        use crate::limits::MESSAGES;
-        const HEAD: usize = 8 * crate::wire::NUMBER;
-        const DIGITS: usize = 20;
-        let mut log = self.file.len();
-        let mut bound = 16 + HEAD + 2 * log + MESSAGES * 3 * 8;
-        for event in &self.events {
-            log += match event {
-                Event::Append { name, body } => DIGITS + 3 + 2 * (name.len() + body.len()),
-                Event::Mark(_) => DIGITS + 1,
-                _ => 0,
-            };
-            bound += HEAD + log.min(self.lent as usize);
+        self.bound
+    }
+
+    fn entry_bound(&self) -> usize {
+        const NUMBERS: usize = 15 * NUMBER;
+        let mut bound = NUMBERS + crate::limits::STORE / MESSAGES;
+        if self.show >= SHOW_LOG {
+            bound += self.log_bound.min(self.log_len);
+        }
+        if self.show >= SHOW_TABLES {
+            bound += tables::LENGTH;
+        }
+        if self.show >= SHOW_STORE {
+            bound += self.store_len;
         }
         bound
     }
 }
 
-impl fmt::Display for Event {
-    fn fmt(&self, f: &mut fmt::Formatter<'_>) -> fmt::Result {
-        match self {
-            Event::Append { name, body } => write!(f, "append \"{}\" \"{}\"", name.escape_ascii(), body.escape_ascii()),
-            Event::Mark(id) => write!(f, "mark {id}"),
-            Event::Sync => write!(f, "sync"),
-            Event::Stored => write!(f, "stored"),
-            Event::Failed => write!(f, "failed"),
-        }
+/// Kind, value, name and body of a reply.
+fn reply_numbers(reply: &Reply) -> (u64, u64, &[u8], &[u8]) {
+    match reply {
+        Reply::No => (0, 0, &[], &[]),
+        Reply::Yes => (1, 0, &[], &[]),
+        Reply::Clock(clock) => (2, *clock, &[], &[]),
+        Reply::Count(count) => (3, *count, &[], &[]),
+        Reply::Ran(status) => (4, status_number(*status), &[], &[]),
+        Reply::Send(name, body) => (5, 0, name, body),
+        Reply::End => (6, 0, &[], &[]),
+        Reply::Told => (7, 0, &[], &[]),
+        Reply::Stored => (8, 0, &[], &[]),
+        Reply::Failed => (9, 0, &[], &[]),
     }
 }
 
-impl fmt::Display for Script {
-    fn fmt(&self, f: &mut fmt::Formatter<'_>) -> fmt::Result {
-        write!(f, "L {}, compact_at {}, file \"{}\"", self.lent, self.compact_at, self.file.escape_ascii())?;
-        for event in &self.events {
-            write!(f, "; {event}")?;
-        }
-        Ok(())
+fn status_number(status: Status) -> u64 {
+    match status {
+        Status::Done => 0,
+        Status::Exit => 1,
+        Status::Preempted => 2,
+        Status::Event => 3,
+        Status::HostCall => 4,
+        Status::Error => 5,
+        Status::Broke => 6,
     }
 }

@@ -28,6 +28,11 @@ impl<'a> Reader<'a> {
         Some(bytes)
     }
 
+    /// What was not read yet.
+    pub fn rest(&self) -> &'a [u8] {
+        self.rest
+    }
+
     pub fn is_empty(&self) -> bool {
         self.rest.is_empty()
     }

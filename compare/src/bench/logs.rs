@@ -22,14 +22,14 @@ pub fn full() -> Vec<u8> {
         if id % 2 == 0 {
             line.push_str(&format!("{id}\n"));
         }
-        if file.len() + line.len() > LOG_MAX as usize {
+        if file.len() + line.len() > LOG_MAX {
             break;
         }
         file.push_str(&line);
         id += 1;
     }
     // The last line says nothing.
-    let rest = LOG_MAX as usize - file.len();
+    let rest = LOG_MAX - file.len();
     file.push_str(&"x".repeat(rest.saturating_sub(1)));
     file.push_str(&"\n".repeat(rest.min(1)));
     file.into_bytes()
@@ -47,7 +47,7 @@ pub fn most_ids() -> Vec<u8> {
     let mut length = 0;
     let fits = |at: &usize| {
         length += records[*at].len() + done[*at].len();
-        length <= LOG_MAX as usize
+        length <= LOG_MAX
     };
     let count = (0..10_000).take_while(fits).count();
     [&records[..count], &done[..count]].concat().concat().into_bytes()

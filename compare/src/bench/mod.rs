@@ -1,24 +1,12 @@
-//! Speed: the port beside the Rust and beside a plain memory copy, on the same logs and calls.
+//! Speed: the port beside the Rust, on the same lists of calls from the same driver.
+//!
+//! `lists` are the lists, `port_side` times the port, `writes` the file operations that only the Rust's time has in it,
+//! `table` prints. The Rust's side is compiled with the program `bench` (`rust`), over stand-ins that answer from a list of
+//! replies and compare nothing.
 
 pub mod clock;
+pub mod lists;
 pub mod logs;
 pub mod port_side;
 pub mod table;
-
-#[cfg(oracle)]
-pub mod rust_side;
-
-/// The Rust is not at hand.
-#[cfg(not(oracle))]
-pub mod rust_side {
-    use crate::scratch::Scratch;
-    use crate::script::{Event, Script};
-
-    pub fn opening(_: &Scratch, _: usize, _: &Script) -> Option<f64> {
-        None
-    }
-
-    pub fn call(_: &Scratch, _: usize, _: &Script, _: &[Event], _: bool) -> Option<f64> {
-        None
-    }
-}
+pub mod writes;

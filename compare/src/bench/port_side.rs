@@ -1,53 +1,56 @@
-//! The port's times. It is called through the script, so reading the script and writing the output count too; a call is
-//! timed with the log's bytes not shown, so its entry and that of the `stored` after it, which counts as part of the
-//! call, are 64 bytes each. An opening is timed with them shown.
-use super::clock::{median, time};
+//! The port's times. It runs a whole script, so a list is timed as the difference of two scripts, one with the timed calls
+//! and one without. Reading the script and writing an entry of 96 bytes for each call (show 0) count.
+use super::clock::time;
+use super::lists::Timed;
+use crate::limits::STORE;
 use crate::port;
-use crate::script::{Event, Script};
-use crate::wire::NUMBER;
+use crate::property::list::{List, Opening};
+use crate::script::SHOW_NOTHING;
 
-/// A script and room for its output.
-struct Runner {
+/// A script, and the slices that it is lent.
+pub struct Runner {
     script: Vec<u8>,
+    log: Vec<u8>,
+    store: Vec<u8>,
     out: Vec<u8>,
 }
 
 impl Runner {
-    fn new(script: &Script) -> Runner {
-        let mut runner = Runner { script: script.bytes(), out: vec![0; script.output_bound()] };
-        assert_eq!(port::replay(&runner.script, &mut runner.out), port::OK, "a script that runs to its end");
+    pub fn new(list: &List) -> Runner {
+        let script = list.script(SHOW_NOTHING);
+        let out = vec![0; script.output_bound()];
+        let log = vec![0; list.opening.log_len];
+        let mut runner = Runner { script: script.bytes().to_vec(), log, store: vec![0; STORE], out };
+        let code = port::replay(&runner.script, &mut runner.log, &mut runner.store, &mut runner.out);
+        assert_eq!(code, port::OK, "a script that runs to its end");
         runner
     }
 
+    /// An opening alone.
+    pub fn opening(opening: &Opening) -> Runner {
+        Runner::new(&List { opening: opening.clone(), calls: Vec::new() })
+    }
+
     /// The time of one run, in nanoseconds.
-    fn run(&mut self) -> f64 {
-        time(|| port::replay(&self.script, &mut self.out)).as_nanos() as f64
-    }
-
-    /// Bytes of the output.
-    fn written(&self) -> u64 {
-        u64::from_le_bytes(self.out[..NUMBER].try_into().unwrap())
+    pub fn run(&mut self) -> f64 {
+        time(|| port::replay(&self.script, &mut self.log, &mut self.store, &mut self.out))
     }
 }
 
-/// The time, and the bytes of output that it includes.
-pub struct Measured {
-    pub time: f64,
-    pub output: u64,
+/// The timed calls of a list.
+pub struct Calls {
+    long: Runner,
+    short: Runner,
 }
 
-pub fn opening(runs: usize, script: &Script) -> Measured {
-    let mut runner = Runner::new(script);
-    Measured { time: median(runs, || runner.run()), output: runner.written() }
-}
+impl Calls {
+    pub fn new(timed: &Timed) -> Calls {
+        let calls = timed.list.calls[..timed.setup].to_vec();
+        let short = List { opening: timed.list.opening.clone(), calls };
+        Calls { long: Runner::new(&timed.list), short: Runner::new(&short) }
+    }
 
-/// One call: a script with the calls, less the same without, over their number.
-pub fn call(runs: usize, opening: &Script, calls: &[Event]) -> Measured {
-    let mut script = Script { show: false, events: vec![Event::Stored], ..opening.clone() };
-    let mut short = Runner::new(&script);
-    script.events.extend(calls.iter().flat_map(|call| [call.clone(), Event::Stored]));
-    let mut long = Runner::new(&script);
-    let count = calls.len() as u64;
-    let time = median(runs, || long.run() - short.run()) / count as f64;
-    Measured { time, output: (long.written() - short.written()) / count }
+    pub fn run(&mut self) -> f64 {
+        self.long.run() - self.short.run()
+    }
 }

@@ -1,88 +1,134 @@
-//! bench [RUNS]: times of the port, the Rust and a plain memory copy, medians of RUNS runs, as a table.
-use compare::bench::table::Row;
-use compare::bench::{clock, logs, port_side, rust_side, table};
+//! bench [RUNS]: times of the port beside the Rust, medians of RUNS runs, and what each holds in memory, as tables.
+//!
+//! The Rust is compiled here once more, over stand-ins that answer from a list of replies and compare nothing. It names
+//! `host` and `pack` at the crate's root.
+use compare::bench::port_side::{Calls, Runner};
+use compare::bench::table::{Opened, Row};
+use compare::bench::writes::Writes;
+use compare::bench::{clock, lists, logs, table};
+use compare::limits::{LOG_MAX, STORE};
+use compare::model::pool::{GroupSetting, Settings};
+use compare::port;
+use compare::property::list::Opening;
 use compare::scratch::Scratch;
-use compare::script::{Event, Script};
+use compare::tables;
+use std::path::Path;
+
+#[cfg(oracle)]
+extern crate slab;
+#[path = "../bench/held.rs"]
+mod held;
+#[cfg(oracle)]
+#[path = "../bench/rust/host.rs"]
+mod host;
+#[cfg(oracle)]
+#[path = "../bench/rust/oracle.rs"]
+mod oracle;
+#[cfg(oracle)]
+#[path = "../bench/rust/pack.rs"]
+mod pack;
+#[cfg(oracle)]
+#[path = "../bench/rust/side.rs"]
+mod rust_side;
 
 const RUNS: usize = 501;
-/// The largest lent log and compact_at: nothing is rewritten unless a row says so.
-const LARGEST: u64 = 65_536;
-/// Calls of one script.
-const CALLS: u64 = 16;
+
+#[global_allocator]
+static HELD: held::Held = held::Held;
 
 fn main() {
     let runs = std::env::args().nth(1).map_or(RUNS, |text| text.parse().expect("usage: bench [RUNS]"));
-    let bench = Bench { scratch: Scratch::in_memory("bench"), runs };
-    let mut rows = vec![
-        bench.opening("opening, an empty file (what every script costs)", Vec::new()),
-        bench.opening("opening, 1,000 records, 750 done", logs::typical()),
-        bench.opening("opening, 65,536 bytes, longest bodies", logs::full()),
-        bench.opening("opening, 16,384 records of 4 bytes", logs::shortest()),
-        bench.opening("opening, most ids open at once, all done", logs::most_ids()),
-    ];
-    for open in [0, 100] {
-        rows.push(bench.appends(open));
-    }
-    for open in [CALLS, 100] {
-        rows.push(bench.marks(open));
-    }
-    for open in [2, 100, 256] {
-        rows.push(bench.rewrite(open));
-    }
-    table::print(&rows);
+    port::on_large_stack(|| run(runs));
+}
+
+fn run(runs: usize) {
+    let scratch = Scratch::in_memory("bench");
+    let path = scratch.file("log.wal");
+    let mut rows: Vec<Row> = lists::all().iter().map(|timed| row(timed, runs, &path)).collect();
+    rows.push(refused(runs));
+    table::lists(&rows);
     println!();
-    println!(
-        "Medians of {runs} runs. The port is called through the script: reading it and writing the output count (an"
-    );
-    println!(
-        "opening's with the log's bytes, a call's two entries of 64 bytes without them). The Rust's file is in memory."
-    );
-    println!(
-        "Copy: the file at an opening, the bytes written at a call. The rewrites are those of a full lent log; in the"
-    );
-    println!("Rust, whose log has no end, its own rewrite is called.");
+    let opened: Vec<Opened> = files().into_iter().map(|(what, file)| opened(what, file, runs, &path)).collect();
+    table::openings(&opened);
+    println!();
+    state(&path);
+    println!("\nMedians of {runs} runs.");
 }
 
-struct Bench {
-    scratch: Scratch,
-    runs: usize,
+/// What reading a call and writing its entry cost.
+fn refused(runs: usize) -> Row {
+    let timed = lists::refused();
+    let mut port = Calls::new(&timed);
+    let [port] = clock::medians(runs, [&mut || port.run()]);
+    Row { what: timed.what.clone(), counted: timed.counted(), port, rust: None, writes: 0.0 }
 }
 
-impl Bench {
-    fn opening(&self, what: &str, file: Vec<u8>) -> Row {
-        let script = Script::opening(LARGEST, LARGEST, &file);
-        let port = port_side::opening(self.runs, &script);
-        let rust = rust_side::opening(&self.scratch, self.runs, &script);
-        let copy = (!file.is_empty()).then(|| clock::copy(self.runs, &file));
-        Row { what: what.into(), port, rust, copy }
+fn row(timed: &lists::Timed, runs: usize, path: &Path) -> Row {
+    let (mut port, mut writes) = (Calls::new(timed), Writes::new(timed, path));
+    let (what, counted) = (timed.what.clone(), timed.counted());
+    #[cfg(oracle)]
+    {
+        let mut rust = rust_side::Calls::new(timed, path);
+        let [port, rust, writes] = clock::medians(runs, [&mut || port.run(), &mut || rust.run(), &mut || writes.run()]);
+        Row { what, counted, port, rust: Some(rust), writes }
     }
-
-    /// Records of one size, one after the other, on a log with so many open.
-    fn appends(&self, open: u64) -> Row {
-        let opening = Script::opening(LARGEST, LARGEST, &logs::open(open));
-        let calls = vec![Event::append(b"row", logs::body(0, 40).as_bytes()); CALLS as usize];
-        self.calls(format!("append, {open} records open"), &opening, &calls, 48, false)
+    #[cfg(not(oracle))]
+    {
+        let [port, writes] = clock::medians(runs, [&mut || port.run(), &mut || writes.run()]);
+        Row { what, counted, port, rust: None, writes }
     }
+}
 
-    /// Marks, each a done line.
-    fn marks(&self, open: u64) -> Row {
-        let opening = Script::opening(LARGEST, LARGEST, &logs::open(open));
-        let calls: Vec<Event> = (0..CALLS).map(Event::Mark).collect();
-        self.calls(format!("mark, {open} records open"), &opening, &calls, 3, false)
+/// The files that are opened.
+fn files() -> Vec<(&'static str, Vec<u8>)> {
+    vec![
+        ("opening, an empty file (what every script costs)", Vec::new()),
+        ("opening, 1,000 records, 750 done", logs::typical()),
+        ("opening, 65,536 bytes, longest bodies", logs::full()),
+        ("opening, 16,384 records of 4 bytes", logs::shortest()),
+        ("opening, most ids open at once, all done", logs::most_ids()),
+    ]
+}
+
+fn opening(file: Vec<u8>) -> Opening {
+    let group = GroupSetting { name: b"row".to_vec(), replicas: 1, eval: false, timeout: 0, retry: 0 };
+    let settings =
+        Settings { groups: vec![group], max_actors: 1, inbox: 64, backlog: 256, compact_at: LOG_MAX, tick_ns: 1 };
+    Opening { settings, log_len: LOG_MAX, store_len: STORE, file }
+}
+
+fn opened(what: &str, file: Vec<u8>, runs: usize, path: &Path) -> Opened {
+    let opening = opening(file);
+    let mut port = Runner::opening(&opening);
+    let what = what.into();
+    let _ = path;
+    #[cfg(oracle)]
+    {
+        let mut rust = || rust_side::opening(&opening, path);
+        let [port, rust] = clock::medians(runs, [&mut || port.run(), &mut rust]);
+        Opened { what, port, rust: Some(rust) }
     }
-
-    /// One mark on a full lent log, which is rewritten; the Rust's own rewrite is called.
-    fn rewrite(&self, open: u64) -> Row {
-        let file = logs::open(open);
-        let lent = file.len() as u64;
-        let kept = file.len() - logs::open(1).len();
-        let what = format!("mark with a rewrite, {open} records open, {lent} bytes");
-        self.calls(what, &Script::opening(lent, LARGEST, &file), &[Event::Mark(0)], kept, true)
+    #[cfg(not(oracle))]
+    {
+        let [port] = clock::medians(runs, [&mut || port.run()]);
+        Opened { what, port, rust: None }
     }
+}
 
-    fn calls(&self, what: String, opening: &Script, calls: &[Event], written: usize, rewrite: bool) -> Row {
-        let port = port_side::call(self.runs, opening, calls);
-        let rust = rust_side::call(&self.scratch, self.runs, opening, calls, rewrite);
-        Row { what, port, rust, copy: Some(clock::copy(self.runs, &vec![b'x'; written])) }
+/// What each side holds: the port's tables, store and log have fixed lengths; the Rust's heap is counted.
+fn state(path: &Path) {
+    println!("| state | bytes |\n|---|---:|");
+    println!(
+        "| port: tables | {} |\n| port: body store | {STORE} |\n| port: lent log, at most | {LOG_MAX} |",
+        tables::LENGTH
+    );
+    let _ = path;
+    #[cfg(oracle)]
+    for (what, file) in [("nothing live", Vec::new()), ("256 messages of 40 bytes live", logs::open(256))] {
+        let opening = opening(file);
+        std::fs::write(path, &opening.file).unwrap();
+        let (rust, bytes) = held::by(|| rust_side::Rust::open(&opening.settings, path));
+        drop(rust);
+        println!("| Rust: heap after an opening, {what} | {bytes} |");
     }
 }

@@ -1,42 +1,124 @@
-//! differ [COUNT [SEED]]: the comparison. COUNT random scripts, and cuts in proportion; the other cases are fixed.
+//! differ [COUNT [SEED]]: COUNT random cases, the port beside the Rust and beside the plain program of 01; before them
+//! what is fixed or smaller: slips that must be caught, recorded answers, differences, any lists of calls, power cuts,
+//! any bytes.
+//! differ selftest: the slips alone, in more cases.
+//! differ CASE 0 show: one case as text, and what differs in it (CASE as a FAILED line names it).
 //! The last line is `N passed, M failed`; the program fails if M is above 0.
+use compare::diff::seen::Seen;
+use compare::lent::Lent;
 use compare::scratch::Scratch;
-use compare::suite::{self, Run};
 use compare::tally::Tally;
+use compare::{cuts, diff, differences, met, port, property, recorded};
 use std::process::ExitCode;
 
-const COUNT: u64 = 20_000;
+const COUNT: u64 = 10_000;
 const SEED: u64 = 1;
-/// Random scripts for each random life that is cut.
-const SCRIPTS_A_LIFE: u64 = 100;
+/// Cases from which on every point must be met.
+const ALL_POINTS: u64 = 10_000;
+/// Cases in which every slip is made: before a run, and when it is asked for alone.
+const SELFTEST: u64 = 60;
+const SELFTEST_ALONE: u64 = 400;
+/// Cases for each list of any calls, for each list that is cut, and bytes of any scripts for each case.
+const CASES_A_LIST: u64 = 5;
+const CASES_A_CUT: u64 = 100;
+const BYTES_A_CASE: u64 = 200;
 
 fn main() -> ExitCode {
     let arguments: Vec<String> = std::env::args().skip(1).collect();
     let number = |at: usize, default| arguments.get(at).map_or(Some(default), |text| text.parse().ok());
-    let (Some(count), Some(seed), true) = (number(0, COUNT), number(1, SEED), arguments.len() <= 2) else {
-        eprintln!("usage: differ [COUNT [SEED]]");
-        return ExitCode::from(2);
+    #[cfg(oracle)]
+    compare::oracle::run::silence();
+    let passed = match arguments.iter().map(String::as_str).collect::<Vec<_>>()[..] {
+        ["selftest"] => port::on_large_stack(selftest_alone),
+        [case, "0", "show"] if case.parse::<u64>().is_ok() => port::on_large_stack(|| show(case.parse().unwrap())),
+        [] | [_] | [_, _] => match (number(0, COUNT), number(1, SEED)) {
+            (Some(count), Some(seed)) => port::on_large_stack(|| run(count, seed)),
+            _ => return usage(),
+        },
+        _ => return usage(),
     };
+    if passed { ExitCode::SUCCESS } else { ExitCode::FAILURE }
+}
+
+fn usage() -> ExitCode {
+    eprintln!("usage: differ [COUNT [SEED]]\n       differ selftest\n       differ CASE 0 show");
+    ExitCode::from(2)
+}
+
+fn run(count: u64, seed: u64) -> bool {
     println!("differ {count} {seed}");
-    let mut run = Run { tally: Tally::default(), scratch: Scratch::in_memory("differ"), count, seed };
-    suite::protocol::run(&mut run);
-    suite::recorded::run(&mut run);
-    beside_the_rust(&mut run);
-    compare::cuts::run(&mut run.tally, count / SCRIPTS_A_LIFE, seed);
-    if run.tally.finish() { ExitCode::SUCCESS } else { ExitCode::FAILURE }
-}
-
-#[cfg(oracle)]
-fn beside_the_rust(run: &mut Run) {
-    suite::differences::run(run);
-    suite::limits::run(run);
-    suite::escapes::run(run);
-    suite::room::run(run);
-    suite::random::run(run);
-    suite::files::run(run);
-}
-
-#[cfg(not(oracle))]
-fn beside_the_rust(_: &mut Run) {
+    #[cfg(not(oracle))]
     println!("the Rust is not at hand (FELDWYGOR_RUST_SRC names its folder): the comparison with it is SKIPPED");
+    let mut tally = Tally::default();
+    selftest(&mut tally, SELFTEST, false);
+    recorded::run(&mut tally);
+    differences::run(&mut tally);
+    property::run(&mut tally, count / CASES_A_LIST, seed);
+    cuts::run(&mut tally, count / CASES_A_CUT, seed);
+    property::wild::run(&mut tally, count * BYTES_A_CASE, seed);
+    let seen = cases(&mut tally, count, seed);
+    points(&mut tally, count, &seen);
+    tally.finish()
+}
+
+fn cases(tally: &mut Tally, count: u64, seed: u64) -> Seen {
+    tally.begin("cases");
+    let scratch = Scratch::in_memory("differ");
+    let (mut lent, mut seen) = (Lent::default(), Seen::default());
+    met::take();
+    for at in 0..count {
+        let case = seed.wrapping_mul(1 << 32).wrapping_add(at);
+        let result = diff::run(case, &mut lent, &scratch.file("log.wal"), &mut seen);
+        tally.check(result.map_err(|what| format!("case {case}: {what}")));
+    }
+    seen.take_met();
+    seen.print();
+    tally.end();
+    seen
+}
+
+/// Every point must have been met, where there were cases enough.
+fn points(tally: &mut Tally, count: u64, seen: &Seen) {
+    tally.begin("points");
+    seen.print_met();
+    let unmet = met::faults(&seen.met);
+    if count < ALL_POINTS {
+        println!("{} points not met; fewer than {ALL_POINTS} cases need not meet all", unmet.len());
+        return;
+    }
+    for _ in unmet.len()..met::POINTS.len() {
+        tally.check(Ok(()));
+    }
+    for what in unmet {
+        tally.check(Err(what));
+    }
+    tally.end();
+}
+
+fn show(case: u64) -> bool {
+    diff::show::print(case);
+    let scratch = Scratch::in_memory("differ");
+    let mut tally = Tally::default();
+    let result = diff::run(case, &mut Lent::default(), &scratch.file("log.wal"), &mut Seen::default());
+    tally.check(result.map_err(|what| format!("case {case}: {what}")));
+    tally.finish()
+}
+
+fn selftest_alone() -> bool {
+    let mut tally = Tally::default();
+    selftest(&mut tally, SELFTEST_ALONE, true);
+    tally.finish()
+}
+
+/// Slips that the comparison must catch.
+fn selftest(tally: &mut Tally, cases: u64, print: bool) {
+    tally.begin("slips");
+    let scratch = Scratch::in_memory("selftest");
+    for slip in diff::selftest::run(cases, SEED, &scratch.file("log.wal")) {
+        if print {
+            println!("{}: made {} times, caught {}", slip.slip, slip.made, slip.caught);
+        }
+        tally.check(slip.result());
+    }
+    tally.end();
 }

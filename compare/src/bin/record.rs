@@ -2,7 +2,7 @@
 #[cfg(oracle)]
 fn main() {
     let scratch = compare::scratch::Scratch::in_memory("record");
-    print!("{}", compare::recorded::cases::list(&scratch.file("log.wal")));
+    print!("{}", compare::recorded::list::list(&scratch.file("log.wal")));
 }
 
 #[cfg(not(oracle))]

@@ -1,56 +1,68 @@
-//! Lists of calls for the cuts: every short one, and random ones.
-use crate::generate::texts::Texts;
+//! Lists for the cuts: every short list of a few steps, and random ones on small logs.
+use crate::limits::STORE;
+use crate::model::pool::{Call, GroupSetting, Settings};
+use crate::property::calls::Mood;
+use crate::property::list::{List, Making, Opening};
+use crate::property::{files, settings};
 use crate::rng::Rng;
-use crate::script::Event;
 
-/// Calls of the short lists: two records, marks of an old and a new message, a flush.
-fn call(which: usize) -> Event {
-    match which {
-        0 => Event::append(b"a", b"y"),
-        1 => Event::append(b"", b"\\\n"),
-        2 => Event::Mark(0),
-        3 => Event::Mark(1),
-        _ => Event::Sync,
-    }
-}
-const KINDS: usize = 5;
+/// Steps of a list, each with every order stored: a message that is marked in the next turn, one that stays, one with
+/// bytes that are escaped, a flush, a whole turn.
+const STEPS: usize = 5;
+const LENGTH: u32 = 4;
 
-/// Every list of so many calls, each order stored.
-pub fn every(length: u32) -> impl Iterator<Item = Vec<Event>> {
-    (0..KINDS.pow(length)).map(move |list| {
-        let mut events = vec![Event::Stored];
-        for at in 0..length {
-            events.extend([call(list / KINDS.pow(at) % KINDS), Event::Stored]);
-        }
-        events
+/// Every list of so many steps, on lent logs that have little room and compact_at that is reached or not.
+pub fn every() -> impl Iterator<Item = List> {
+    [(16, 1), (16, 64), (20, 12), (40, 20), (64, 64)].into_iter().flat_map(|(log_len, compact_at)| {
+        (0..STEPS.pow(LENGTH)).map(move |number| {
+            let steps = (0..LENGTH).map(|at| number / STEPS.pow(at) % STEPS);
+            stepped(log_len, compact_at, steps)
+        })
     })
 }
 
-/// A random list for a log that has these messages open. An answer may be missing, and the last one may be a failure.
-pub fn random(rng: &mut Rng, left: &[u64], lent: u64) -> Vec<Event> {
-    let texts = if rng.chance(2) { Texts::any(rng) } else { Texts::Domain };
-    let mut open = left.to_vec();
-    let mut next = left.last().map_or(0, |last| last + 1);
-    let mut events = vec![Event::Stored];
-    for _ in 0..rng.range(1, 24) {
-        events.push(match rng.below(10) {
-            0 => Event::Sync,
-            1 => Event::Mark(rng.below(20)),
-            2..=4 if !open.is_empty() => Event::Mark(open.swap_remove(rng.below(open.len() as u64) as usize)),
-            _ => {
-                // A guess: where the record is refused, its id comes to the next one.
-                open.push(next);
-                next += 1;
-                let most = (lent as usize / 4).min(100);
-                Event::append(&texts.text(rng, most.min(32)), &texts.text(rng, most))
-            }
+fn stepped(log_len: usize, compact_at: usize, steps: impl Iterator<Item = usize>) -> List {
+    let group =
+        |name: &[u8], replicas| GroupSetting { name: name.to_vec(), replicas, eval: false, timeout: 0, retry: 0 };
+    let settings = Settings {
+        groups: vec![group(b"m", 0), group(b"s", 1)],
+        max_actors: 1,
+        inbox: 8,
+        backlog: 8,
+        compact_at,
+        tick_ns: 1,
+    };
+    let opening = Opening { settings, log_len, store_len: STORE, file: b"0\tm\tx\n".to_vec() };
+    let mut making = Making::new(opening);
+    making.answered();
+    for step in steps {
+        making.done(match step {
+            0 => admit(b"m", b"y"),
+            1 => admit(b"s", b""),
+            2 => admit(b"m", b"\\\n"),
+            3 => Call::Sync,
+            _ => Call::Turn,
         });
-        if !rng.chance(40) {
-            events.push(Event::Stored);
-        }
     }
-    if rng.chance(3) {
-        events.extend([Event::append(b"", b"f"), Event::Failed, Event::append(b"", b"g"), Event::Stored]);
+    making.list
+}
+
+fn admit(name: &[u8], body: &[u8]) -> Call {
+    Call::Admit { name: name.to_vec(), body: body.to_vec(), caller: None }
+}
+
+/// A random list on a small log, on which much is appended, flushed, marked and rewritten.
+pub fn random(rng: &mut Rng) -> List {
+    let mut settings = settings::any(rng);
+    settings.inbox = rng.range(2, 64) as usize;
+    if rng.chance(2) {
+        settings.compact_at = rng.range(1, 200) as usize;
     }
-    events
+    let names: Vec<Vec<u8>> = settings.groups.iter().map(|group| group.name.clone()).collect();
+    let lines = rng.below(10);
+    let file = files::any(rng, lines, &names);
+    let log_len = (file.len() + *rng.pick(&[0, 8, 20, 40, 100, 300, 1_000])).max(16);
+    let opening = Opening { settings, log_len, store_len: STORE, file };
+    let (mood, length) = (Mood::random(rng), rng.range(1, 120));
+    List::made(rng, opening, mood, length)
 }

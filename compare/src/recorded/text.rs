@@ -1,9 +1,10 @@
-//! The list as text. A line that begins with `#` is a comment, one with `<` a script, one with `>` the output that the
-//! port must write for the script above it, its count included. Bytes are hexadecimal; `.` stands for seven zero bytes
-//! and `:` for six (the upper bytes of most numbers), and one of them only follows a whole byte.
+//! The list as text. A line that begins with `#` is a comment, one with `=` a title, which the program that replays the
+//! list prints, one with `<` a script, one with `>` the output that the port must write for the script above it, its
+//! count included. Bytes are hexadecimal; `.` stands for seven zero bytes and `:` for six (the upper bytes of most
+//! numbers), and one of them only follows a whole byte.
 
 pub struct Case {
-    /// The comment above it.
+    /// The title or comment above it.
     pub name: String,
     pub script: Vec<u8>,
     pub output: Vec<u8>,
@@ -51,7 +52,7 @@ pub fn read(list: &str) -> Result<Vec<Case>, String> {
         let mut signs = line.chars();
         match signs.next() {
             None => {}
-            Some('#') => name = signs.as_str().trim().into(),
+            Some('#' | '=') => name = signs.as_str().trim().into(),
             Some('<') if script.is_none() => script = Some(decode(signs.as_str()).ok_or_else(wrong)?),
             Some('>') => {
                 let output = decode(signs.as_str()).ok_or_else(wrong)?;

@@ -1,284 +1,231 @@
-// The row ends 9 and 10 of the pool, run: a message that crashes is dead at the first crash with no retry, at the second with one; a message for a group
-// whose ceiling is 0 is marked done. Prints the counts after each turn, and the log at the end.
-use actor::message::Caller;
-use actor::question::Asked;
-use actor::question::Question;
-use actor::question::Reply;
-use actor::question::Status;
-use door::admit;
-use door::open;
-use front::state::Answer;
-use front::state::Pool;
-use front::state::Told;
+// Replays recorded answers of the Rust: a list of scripts of the pool, the row ends 8 to 11 first, each with the output that the Rust's answers make, on standard input (its
+// form is said in the list). Prints each titled script with whether the port's output is the same byte for byte, in just the room that it needs, and how many are.
+ghost use Prim.Native.Nat.{_≤_};
+ghost use lib.ListN.{length};
+use libc::STDIN_FILENO;
 use libc::STDOUT_FILENO;
-use pool::calls;
-use setup::settings::Settings;
+use replay::replay;
+use wire::number::number_at;
 
-// A host whose programs go to receive() when they are started, and raise when they are resumed.
-fn reply_to(q: Question) -> Reply {
-    match q {
-        Question::Boot(_) => Reply::Yes,
-        Question::Clock => Reply::Clock(0),
-        Question::Poll(_) => Reply::Count(0),
-        Question::Drain(_) => Reply::Count(0),
-        Question::Dispatch(_) => Reply::Count(0),
-        Question::Run {
-            who: _,
-            start,
-            message: _,
-        } => {
-            if start {
-                Reply::Ran(Status::Event)
+struct Tally {
+    passed: u64,
+    cases: u64,
+}
+
+// The end of the line that begins at p: the place of its LF, or the text's end.
+fn line_end(text: &[u8], p: usize) -> usize
+    requires { ⌜ p ≤ length (now text) ⌝ }
+    ensures { λ r. ⌜ (p ≤ r) × (r ≤ length (now (text .entry))) ⌝ }
+{
+    let mut i = p;
+    while i < text.len() {
+        if text[i] == b'\n' {
+            return i;
+        }
+        i += 1;
+    }
+    i
+}
+
+fn digit(b: u8) -> u8
+    ensures { λ r. ⌜ r ≤ 15 ⌝ }
+{
+    if b < b'0' {
+        return 0;
+    }
+    if b <= b'9' {
+        return b - b'0';
+    }
+    if b < b'a' {
+        return 0;
+    }
+    if b <= b'f' {
+        return b - b'a' + 10;
+    }
+    0
+}
+
+// How many zero bytes a sign stands for.
+fn zeros(b: u8) -> usize
+    ensures { λ r. ⌜ r ≤ 7 ⌝ }
+{
+    if b == b'.' {
+        return 7;
+    }
+    if b == b':' {
+        return 6;
+    }
+    0
+}
+
+// So many zero bytes, or as many as there is room for.
+fn put_zeros(out: &mut [u8], at: usize, n: usize) -> usize
+    requires { ⌜ at ≤ length (now out) ⌝ }
+    ensures { λ r. ⌜ r ≤ length (now (out .entry)) ⌝ }
+{
+    let mut p = at;
+    let mut k = n;
+    while 0 < k {
+        if out.len() <= p {
+            return p;
+        }
+        out[p] = 0;
+        p += 1;
+        k -= 1;
+    }
+    p
+}
+
+// The bytes of a line, behind its first sign; those that have no room are left out.
+fn decode(line: &[u8], out: &mut [u8]) -> usize
+    ensures { λ r. ⌜ r ≤ length (now (out .entry)) ⌝ }
+{
+    let mut p: usize = 0;
+    let mut i: usize = 1;
+    while i < line.len() {
+        let b = line[i];
+        let z = zeros(b);
+        i += 1;
+        if 0 < z {
+            p = put_zeros(out, p, z);
+        } else {
+            if line.len() <= i {
+                return p;
+            }
+            if out.len() <= p {
+                return p;
+            }
+            out[p] = digit(b) * 16 + digit(line[i]);
+            p += 1;
+            i += 1;
+        }
+    }
+    p
+}
+
+// Whether a text begins with another.
+fn same(a: &[u8], b: &[u8]) -> bool {
+    let mut i: usize = 0;
+    while i < b.len() {
+        if a.len() <= i {
+            return false;
+        }
+        if a[i] != b[i] {
+            return false;
+        }
+        i += 1;
+    }
+    true
+}
+
+// Whether the port writes just what is expected. The script says how long the lent log and store are.
+fn replayed(
+    script: &[u8],
+    expected: &[u8],
+    log: &mut [u8],
+    store: &mut [u8],
+    out: &mut [u8],
+) -> bool {
+    let n = expected.len();
+    let l = number_at(script, 16) as usize;
+    let m = number_at(script, 24) as usize;
+    if out.len() < n {
+        return false;
+    }
+    if log.len() < l {
+        return false;
+    }
+    if store.len() < m {
+        return false;
+    }
+    if replay(script, &mut log[..l], &mut store[..m], &mut out[..n]) != 0 {
+        return false;
+    }
+    same(out, expected)
+}
+
+// A title, if there is one, with whether its script was replayed.
+fn print_title(text: &[u8], from: usize, end: usize, passed: bool) {
+    if end <= text.len() {
+        if from < end {
+            io::write_all(STDOUT_FILENO, &text[from..end]);
+            if passed {
+                io::write_all(STDOUT_FILENO, b": the same\n");
             } else {
-                Reply::Ran(Status::Error)
-            }
-        }
-        Question::Push { who: _, message: _ } => Reply::Yes,
-        Question::Sends(_) => Reply::End,
-        Question::Trap(_) => Reply::No,
-        Question::Trapped(_) => Reply::No,
-        Question::Tell(_, _) => Reply::Told,
-        Question::Store(_) => Reply::Stored,
-    }
-}
-
-// What is open, if anything.
-fn open_now(a: Answer) -> Asked {
-    match a {
-        Answer::Refused(_) => Asked::Nothing,
-        Answer::Open(asked) => asked,
-        Answer::Ended(_, _) => Asked::Nothing,
-    }
-}
-
-fn print_count(name: &[u8], n: u64) {
-    io::write_all(STDOUT_FILENO, name);
-    io::print_decimal(STDOUT_FILENO, n);
-}
-
-fn print_counts(pool: Pool) {
-    print_count(b"crashes=", pool.turn.counts.losses.crashes);
-    print_count(b" dead=", pool.turn.counts.losses.dead);
-    print_count(b" queued=", pool.turn.counts.queued);
-    io::write_all(STDOUT_FILENO, b"\n");
-}
-
-fn print_log(pool: Pool, log: &[u8]) {
-    let size = pool.turn.log.size;
-    if size <= log.len() {
-        io::write_all(STDOUT_FILENO, &log[..size]);
-    }
-}
-
-// Every question is answered until nothing is open, at most 100 of them.
-fn answer_all(
-    told: Told,
-    log: &mut [u8],
-    records: &mut [[u64; 3]],
-    store: &mut [u8],
-    groups: &[[u64; 37]],
-    links: &mut [[u64; 4]],
-    rows: &mut [[u64; 7]],
-    lists: &mut [[u8; 65]],
-    actors: &mut [[u64; 12]],
-) -> Pool {
-    let mut pool = told.pool;
-    let first = told.answer;
-    let mut asked = open_now(first);
-    let mut n: usize = 0;
-    while n < 100 {
-        n += 1;
-        match asked {
-            Asked::Open(q) => {
-                let r = reply_to(q);
-                let next = calls::reply(
-                    pool,
-                    log,
-                    records,
-                    store,
-                    groups,
-                    links,
-                    rows,
-                    lists,
-                    actors,
-                    r,
-                    b"",
-                    b"",
-                );
-                let after = next.pool;
-                let answer = next.answer;
-                let now_open = open_now(answer);
-                pool = after;
-                asked = now_open;
-            }
-            Asked::Nothing => {
-                return pool;
+                io::write_all(STDOUT_FILENO, b": DIFFERENT\n");
             }
         }
     }
-    pool
 }
 
-// So many turns, each answered to its end. Prints the counts after each.
-fn run_turns(
-    start: Pool,
+fn one_if(b: bool) -> u64
+    ensures { λ r. ⌜ r ≤ 1 ⌝ }
+{
+    if b { 1 } else { 0 }
+}
+
+// The whole list, by its whole lines; a script, the output expected and the port's are held in what is lent.
+fn replay_list(
+    text: &[u8],
+    script: &mut [u8],
+    expected: &mut [u8],
     log: &mut [u8],
-    records: &mut [[u64; 3]],
     store: &mut [u8],
-    groups: &[[u64; 37]],
-    links: &mut [[u64; 4]],
-    rows: &mut [[u64; 7]],
-    lists: &mut [[u8; 65]],
-    actors: &mut [[u64; 12]],
-    turns: usize,
-) -> Pool {
-    let mut pool = start;
+    out: &mut [u8],
+) -> Tally {
     let mut n: usize = 0;
-    while n < turns {
-        let told = calls::turn(
-            pool,
-            log,
-            records,
-            store,
-            groups,
-            links,
-            rows,
-            lists,
-            actors,
-        );
-        let after = answer_all(
-            told,
-            log,
-            records,
-            store,
-            groups,
-            links,
-            rows,
-            lists,
-            actors,
-        );
-        print_counts(after);
-        pool = after;
-        n += 1;
+    let mut p: usize = 0;
+    let mut title: usize = 0;
+    let mut title_end: usize = 0;
+    let mut passed: u64 = 0;
+    let mut cases: u64 = 0;
+    while p < text.len() {
+        let from = p;
+        let end = line_end(text, from);
+        if text.len() <= end {
+            return Tally { passed, cases };
+        }
+        let sign = text[from];
+        p = end + 1;
+        if sign == b'<' {
+            n = decode(&text[from..end], script);
+        } else {
+            if sign == b'>' {
+                let m = decode(&text[from..end], expected);
+                let good = replayed(&script[..n], &expected[..m], log, store, out);
+                print_title(text, title, title_end, good);
+                title_end = 0;
+                cases += 1;
+                passed += one_if(good);
+            } else {
+                if sign == b'=' {
+                    title = from + 1;
+                    title_end = end;
+                }
+            }
+        }
     }
-    pool
-}
-
-// A pool opened over these tables with the groups that are given; a message for the group `a`; and so many turns. Prints the log at the end.
-fn play(
-    given: &[[u64; 37]],
-    turns: usize,
-    log: &mut [u8],
-    records: &mut [[u64; 3]],
-    store: &mut [u8],
-    groups: &mut [[u64; 37]],
-    links: &mut [[u64; 4]],
-    rows: &mut [[u64; 7]],
-    lists: &mut [[u8; 65]],
-    actors: &mut [[u64; 12]],
-) {
-    let settings = Settings {
-        max_actors: 4,
-        inbox: 4,
-        backlog: 8,
-        compact_at: 65536,
-        tick: 1000000,
-    };
-    let opened = open::open(
-        settings,
-        given,
-        log,
-        0,
-        store,
-        records,
-        groups,
-        links,
-        rows,
-        lists,
-        actors,
-    );
-    let ready = answer_all(
-        opened,
-        log,
-        records,
-        store,
-        groups,
-        links,
-        rows,
-        lists,
-        actors,
-    );
-    let admitted = admit::admit(
-        ready,
-        log,
-        records,
-        store,
-        links,
-        rows,
-        b"a",
-        b"x",
-        Caller::Nobody,
-    );
-    let queued = answer_all(
-        admitted,
-        log,
-        records,
-        store,
-        groups,
-        links,
-        rows,
-        lists,
-        actors,
-    );
-    let last = run_turns(
-        queued,
-        log,
-        records,
-        store,
-        groups,
-        links,
-        rows,
-        lists,
-        actors,
-        turns,
-    );
-    print_log(last, log);
-}
-
-// One group, `a`, with these replicas and retries; a message for it; and so many turns.
-fn scene(replicas: u64, retry: u64, turns: usize) {
-    let mut log = [0u8; 256];
-    let mut store = [0u8; 40960];
-    let mut records = [[0u64; 3]; 256];
-    let mut groups = [[0u64; 37]; 8];
-    let mut links = [[0u64; 4]; 262];
-    let mut rows = [[0u64; 7]; 256];
-    let mut lists = [[0u8; 65]; 34];
-    let mut actors = [[0u64; 12]; 128];
-    let mut given = [[0u64; 37]; 1];
-    given[0][0] = replicas;
-    given[0][3] = retry;
-    given[0][4] = 1;
-    given[0][5] = 97;
-    play(
-        &given,
-        turns,
-        &mut log,
-        &mut records,
-        &mut store,
-        &mut groups,
-        &mut links,
-        &mut rows,
-        &mut lists,
-        &mut actors,
-    );
+    Tally { passed, cases }
 }
 
 fn main() {
-    io::write_all(STDOUT_FILENO, b"retry 0\n");
-    scene(1, 0, 1);
-    io::write_all(STDOUT_FILENO, b"retry 1\n");
-    scene(1, 1, 2);
-    io::write_all(STDOUT_FILENO, b"ceiling 0\n");
-    scene(0, 0, 1);
+    let mut text = [0u8; 262144];
+    let mut script = [0u8; 16384];
+    let mut expected = [0u8; 32768];
+    let mut log = [0u8; 65536];
+    let mut store = [0u8; 40960];
+    let mut out = [0u8; 32768];
+    let n = io::read_full(STDIN_FILENO, &mut text);
+    let tally = replay_list(
+        &text[..n],
+        &mut script,
+        &mut expected,
+        &mut log,
+        &mut store,
+        &mut out,
+    );
+    io::print_decimal(STDOUT_FILENO, tally.passed);
+    io::write_all(STDOUT_FILENO, b" of ");
+    io::print_decimal(STDOUT_FILENO, tally.cases);
+    io::write_all(STDOUT_FILENO, b" recorded answers replayed\n");
 }

@@ -1,0 +1,67 @@
+//! The file operations of a list alone: what the Rust's time has in it, and what a host of the port does when it is handed
+//! an order. Made on the memory file system, as the Rust makes them.
+use super::clock::time;
+use super::lists::Timed;
+use crate::model::log::Order;
+use crate::model::pool::Call;
+use std::fs::{self, File, OpenOptions};
+use std::io::Write;
+use std::path::{Path, PathBuf};
+
+enum Operation {
+    Append(Vec<u8>),
+    Replace(Vec<u8>),
+    Flush,
+}
+
+pub struct Writes {
+    path: PathBuf,
+    operations: Vec<Operation>,
+}
+
+impl Writes {
+    pub fn new(timed: &Timed, path: &Path) -> Writes {
+        let mut pool = timed.list.opening.model().ok().expect("an accepted opening");
+        let mut operations = Vec::new();
+        for (at, call) in timed.list.calls.iter().enumerate() {
+            let waited = pool.order.is_some();
+            pool.call(call);
+            if at < timed.setup || (waited && !matches!(call, Call::Reply(_))) {
+                continue;
+            }
+            operations.extend(pool.order.map(|order| match order {
+                Order::Append(from, to) => Operation::Append(pool.log[from..to].to_vec()),
+                Order::Replace(length) => Operation::Replace(pool.log[..length].to_vec()),
+                Order::Flush => Operation::Flush,
+            }));
+        }
+        Writes { path: path.to_path_buf(), operations }
+    }
+
+    pub fn run(&mut self) -> f64 {
+        fs::write(&self.path, b"").unwrap();
+        let mut file = for_appending(&self.path);
+        let beside = self.path.with_extension("beside");
+        time(|| {
+            for operation in &self.operations {
+                match operation {
+                    Operation::Append(bytes) => file.write_all(bytes).unwrap(),
+                    Operation::Flush => file.sync_data().unwrap(),
+                    Operation::Replace(bytes) => {
+                        let mut new = File::create(&beside).unwrap();
+                        new.write_all(bytes).unwrap();
+                        new.sync_all().unwrap();
+                        fs::rename(&beside, &self.path).unwrap();
+                        let folder = self.path.parent().unwrap();
+                        File::open(folder).and_then(|folder| folder.sync_all()).unwrap();
+                        file = for_appending(&self.path);
+                    }
+                }
+            }
+        })
+    }
+}
+
+fn for_appending(path: &Path) -> File {
+    OpenOptions::new().append(true).open(path).unwrap()
+}

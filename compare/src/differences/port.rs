@@ -1,0 +1,89 @@
+//! What the port says, in words. A record is an admit; a mark is the next turn, since the group's ceiling is 0 and one
+//! message is taken in at a time.
+use crate::lent::Lent;
+use crate::limits::{BODY_MAX, STORE};
+use crate::model::log::{self, Left};
+use crate::model::pool::{Call, GroupSetting, Settings};
+use crate::output::{Answer, Entry};
+use crate::property::list::{List, Making, Opening};
+use crate::script::SHOW_STORE;
+
+/// A lent log and a compact_at that nothing here reaches.
+pub const AMPLE: usize = 65_536;
+
+/// One group with an empty name and ceiling 0.
+pub fn opening(log_len: usize, compact_at: usize, file: &[u8]) -> Opening {
+    let group = GroupSetting { name: Vec::new(), replicas: 0, eval: false, timeout: 0, retry: 0 };
+    let settings = Settings { groups: vec![group], max_actors: 1, inbox: 64, backlog: 1, compact_at, tick_ns: 1 };
+    Opening { settings, log_len, store_len: STORE, file: file.to_vec() }
+}
+
+pub fn record(name: &[u8], body: &[u8]) -> Call {
+    Call::Admit { name: name.to_vec(), body: body.to_vec(), caller: None }
+}
+
+/// The calls on a log, all but the last with their orders stored.
+pub fn on(opening: Opening, calls: &[Call]) -> List {
+    let mut making = Making::new(opening);
+    for call in calls {
+        making.answered();
+        making.call(call.clone());
+    }
+    making.list
+}
+
+/// Makes of the port's last entry what is to be said of it.
+pub fn last(list: &List, say: impl FnOnce(&Entry) -> String) -> String {
+    let mut lent = Lent::default();
+    match lent.output(&list.script(SHOW_STORE)) {
+        Ok(output) => output.entries.last().map_or("no entry".into(), say),
+        Err(error) => error,
+    }
+}
+
+/// Answer, counters and log.
+pub fn says(entry: &Entry) -> String {
+    let log = entry.log.unwrap_or_default();
+    match entry.answer {
+        Answer::Refused(number) => format!("refused {number}"),
+        answer => {
+            format!("{}; live {}, size {}, log \"{}\"", order(answer), entry.live, entry.size, log.escape_ascii())
+        }
+    }
+}
+
+fn order(answer: Answer) -> String {
+    match answer {
+        Answer::Append(from, to) => format!("append {from} to {to}"),
+        Answer::Replace(length) => format!("replace by {length}"),
+        other => format!("{other:?}").to_lowercase(),
+    }
+}
+
+/// What an opening hands back, and the next id. The left messages are read from the new log, which has them alone.
+pub fn left(entry: &Entry) -> String {
+    if let Answer::Refused(number) = entry.answer {
+        return format!("refused {number}");
+    }
+    let Ok(reading) = log::read_file(entry.log.unwrap_or_default()) else { return "no log".into() };
+    let words = |left: &Left| {
+        debug_assert!(left.body.len() <= BODY_MAX);
+        format!("{} \"{}\" \"{}\"", left.id.0, left.name.escape_ascii(), left.body.escape_ascii())
+    };
+    format!("left [{}], next {}", reading.left.iter().map(words).collect::<Vec<_>>().join(", "), entry.next)
+}
+
+/// What a file leaves.
+pub fn opens(file: &[u8]) -> String {
+    last(&List { opening: opening(AMPLE, AMPLE, file), calls: Vec::new() }, left)
+}
+
+/// What the log of a list leaves at a further opening.
+pub fn reopens(list: &List) -> String {
+    let mut log = Vec::new();
+    let said = last(list, |entry| {
+        log = entry.log.unwrap_or_default().to_vec();
+        String::new()
+    });
+    if said.is_empty() { opens(&log) } else { said }
+}

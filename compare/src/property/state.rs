@@ -1,0 +1,138 @@
+//! The tables that the port shows beside the plain program's state: every list of messages, by what the messages are
+//! (which entry of the store one has is free), every actor, and the lists of keys.
+use crate::limits::MESSAGES;
+use crate::model::log;
+use crate::model::pool::{Actor, Pool};
+use crate::tables::{ActorRow, MessageRow, OpenRecord, Tables, list, slot, text};
+
+/// A message wherever it lies: attempts, caller, id, and its text where the store is shown.
+#[derive(PartialEq, Eq, Debug)]
+struct Message<'a> {
+    row: MessageRow,
+    text: Option<(&'a [u8], &'a [u8])>,
+}
+
+/// One state on both sides.
+pub struct Sides<'a> {
+    pub tables: Tables<'a>,
+    pub store: Option<&'a [u8]>,
+    pub pool: &'a Pool,
+}
+
+impl<'a> Sides<'a> {
+    pub fn compare(&self) -> Result<(), String> {
+        self.every_entry_once()?;
+        self.records()?;
+        let pool = self.pool;
+        self.list("inbox", list::INBOX, pool.inbox.iter().copied())?;
+        self.list("pending", list::PENDING, pool.pending.iter().copied())?;
+        self.list("batch", list::BATCH, pool.batch.iter().copied())?;
+        self.list("over", list::OVER, pool.over.iter().copied())?;
+        self.list("the step's hand", list::HAND, pool.hand.iter().copied())?;
+        (0..pool.groups.len()).try_for_each(|group| self.group(group))
+    }
+
+    /// Each entry of the store stands in one list, once, and the lists' lengths and ends fit their links.
+    fn every_entry_once(&self) -> Result<(), String> {
+        let mut times = [0; MESSAGES];
+        let slots = crate::tables::SLOTS;
+        for row in 0..list::mailbox(0, 0) + 2 * slots {
+            for entry in self.tables.list(row) {
+                *times.get_mut(entry).ok_or_else(|| format!("list {row} has an entry {entry}"))? += 1;
+            }
+        }
+        match times.iter().position(|times| *times != 1) {
+            Some(entry) => Err(format!("entry {entry} stands in the lists {} times", times[entry])),
+            None => Ok(()),
+        }
+    }
+
+    /// The table of open records says what the log's bytes say.
+    fn records(&self) -> Result<(), String> {
+        let file = &self.pool.log[..self.pool.counters.size];
+        let expected: Vec<OpenRecord> = log::open_records(file)
+            .into_iter()
+            .map(|(id, from, to)| OpenRecord { id: id.0, at: from as u64, length: (to - from) as u64 })
+            .collect();
+        same("the table of open records", self.tables.records(expected.len() as u64), expected)
+    }
+
+    fn list(&self, what: &str, row: usize, entries: impl Iterator<Item = usize>) -> Result<(), String> {
+        let found = self.tables.list(row).into_iter().map(|entry| self.found(entry)).collect::<Vec<_>>();
+        same(what, found, entries.map(|entry| self.expected(entry)).collect())
+    }
+
+    fn found(&self, entry: usize) -> Message<'a> {
+        let row = self.tables.message(entry);
+        Message { text: self.store.map(|store| text(store, entry, &row)), row }
+    }
+
+    fn expected(&self, entry: usize) -> Message<'a> {
+        let message = self.pool.message(entry);
+        let row = MessageRow {
+            attempts: message.attempts,
+            name_len: message.name_len as u64,
+            body_len: message.body_len as u64,
+            caller: message.caller.map(|caller| caller.0),
+            id: message.id.map(|id| id.0),
+        };
+        Message { row, text: self.store.map(|_| (self.pool.name(entry), self.pool.body(entry))) }
+    }
+
+    fn group(&self, group: usize) -> Result<(), String> {
+        let setting = &self.pool.settings.groups[group];
+        let state = &self.pool.groups[group];
+        let tables = &self.tables;
+        let row = tables.group(group);
+        let mut expected = [0; 37];
+        let name = &setting.name;
+        let ceiling = self.pool.settings.ceiling(group) as u64;
+        expected[..5].copy_from_slice(&[
+            ceiling,
+            setting.eval as u64,
+            setting.timeout,
+            setting.retry,
+            name.len() as u64,
+        ]);
+        name.iter().zip(&mut expected[5..]).for_each(|(byte, cell)| *cell = u64::from(*byte));
+        same(&format!("group {group}"), row, expected)?;
+
+        let keys = |keys: &[u8]| keys.iter().map(|key| usize::from(*key)).collect::<Vec<_>>();
+        let plain = |keys: &std::collections::VecDeque<usize>| keys.iter().copied().collect::<Vec<_>>();
+        same(&format!("keys given of group {group}"), usize::from(tables.given(group)), state.actors.slots.len())?;
+        same(&format!("free keys of group {group}"), keys(tables.free(group)), state.actors.free.clone())?;
+        same(&format!("ready of group {group}"), keys(tables.ready(group)), plain(&state.ready.keys))?;
+        same(&format!("idle of group {group}"), keys(tables.idle(group)), plain(&state.idle.keys))?;
+        same(&format!("waiting of group {group}"), keys(tables.waiting(group)), plain(&state.waiting.keys))?;
+        state.actors.keys().into_iter().try_for_each(|key| self.actor(group, key))
+    }
+
+    fn actor(&self, group: usize, key: usize) -> Result<(), String> {
+        let actor = self.pool.groups[group].actors.get(key).unwrap();
+        let what = |part: &str| format!("{part} of actor {group}.{key} (slot {})", slot(group, key));
+        let eval = self.pool.settings.groups[group].eval;
+        same(&what("the row"), self.tables.actor(group, key), actor_row(actor, eval))?;
+        self.list(&what("mailbox"), list::mailbox(group, key), actor.mailbox.iter().copied())?;
+        let hand = actor.in_flight.or(actor.run.as_ref().map(|run| run.message));
+        self.list(&what("hands"), list::hand(group, key), hand.into_iter())
+    }
+}
+
+fn actor_row(actor: &Actor, eval: bool) -> ActorRow {
+    ActorRow {
+        eval,
+        started: actor.started,
+        ran: actor.ran,
+        idle: actor.idle,
+        runnable: actor.runnable,
+        scheduled: actor.scheduled,
+        blocked: actor.blocked,
+        consumed: actor.consumed,
+        wake_at: actor.wake_at,
+        run: actor.run.as_ref().map(|run| run.deadline),
+    }
+}
+
+fn same<T: PartialEq + std::fmt::Debug>(what: &str, found: T, expected: T) -> Result<(), String> {
+    if found == expected { Ok(()) } else { Err(format!("{what}: {found:?}, not {expected:?}")) }
+}

@@ -1,0 +1,3 @@
+pub mod Said
+pub mod Entry
+pub mod Replay

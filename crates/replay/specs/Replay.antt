@@ -1,0 +1,137 @@
+-- What `replay` makes of a script, the lent log and store, and the output: the script's calls decoded, the pool's own definitions run over them one after the other,
+-- each with what the one before left (`callOf`, crates/rail/specs/Rail), and an entry written for each.
+use mathlib.Core.Bool.{Bool, true, false}
+use mathlib.Core.List.{List, [], _∷_}
+use Prim.Native.Nat.{ℕ, zero, suc, _+_, _-_}
+use lib.Dec.{eqb, ltb}
+use lib.ListN.{length, take, replicate}
+use Rattle.text.specs.Bytes.{part}
+use Rattle.lists.specs.Links.{pick, Table}
+use Rattle.wire.specs.Number.{numbers}
+use Rattle.wire.specs.Pour.{Poured, poured, pour}
+use Rattle.wire.specs.Script.{headerOf, groupsInto, callAt}
+use Rattle.wire.specs.declared.script.Header.{Header}
+use Rattle.wire.specs.declared.script.HeaderRead.{HeaderRead}
+use Rattle.wire.specs.declared.script.HeaderRead.the-variants as header
+use Rattle.wire.specs.declared.script.Kind.{Kind}
+use Rattle.wire.specs.declared.script.Kind.the-variants as kind
+use Rattle.wire.specs.declared.script.CallAt.{CallAt}
+use Rattle.wire.specs.declared.script.CallRead.{CallRead}
+use Rattle.wire.specs.declared.script.CallRead.the-variants as call
+use Rattle.door.specs.Open.{PoolOpened, openOf}
+use Rattle.rail.specs.Rail.{Call, admit, turn, reply, sync, close, State, Did, callOf, openState, accepted}
+use Rattle.replay.specs.Entry.{pourEntry}
+
+-- ---- calls
+
+abbrev pub heardAs : Kind → List ℕ → List ℕ → Call
+heardAs (kind.Admit who) name body = admit name body who
+heardAs kind.Turn name body = turn
+heardAs (kind.Reply r) name body = reply r name body
+heardAs kind.Sync name body = sync
+heardAs kind.Close name body = close
+
+-- a call, with its texts
+abbrev pub heard : List ℕ → CallAt → Call
+heard s c = heardAs (c .kind) (part s (c .name) (c .body)) (part s (c .body) (c .end))
+
+-- the calls up to the script's end, or up to where it is malformed
+pub data Calls : Type 0 where
+  ended : Calls
+  malformed : Calls
+  next : Call → Calls → Calls
+
+abbrev pub endOf : CallRead → ℕ
+endOf call.Malformed = 0
+endOf (call.Next c) = c .end
+
+abbrev pub follows : List ℕ → CallRead → Calls → Calls
+follows s call.Malformed rest = malformed
+follows s (call.Next c) rest = next (heard s c) rest
+
+-- the calls from p on: at most so many, which is enough where it is at least the number of bytes from p on
+unfoldable pub callsAt : ℕ → List ℕ → ℕ → Calls
+callsAt zero s p = ended
+callsAt (suc most) s p = pick (ltb p (length s)) (follows s (callAt s p) (callsAt most s (endOf (callAt s p)))) ended
+
+-- ---- a list of calls
+
+-- log and store after a script, and the output
+pub record Played : Type 0 where
+  pub bytes : List ℕ
+  pub store : List ℕ
+  pub poured : Poured
+
+abbrev pub played : List ℕ → List ℕ → Poured → Played
+played bytes store d = record { bytes = bytes; store = store; poured = d }
+
+abbrev pub stopped : State → Poured → Played
+stopped s d = played (s .bytes) (s .store) d
+
+-- the number that is returned, where none stands yet
+unfoldable pub coded : Poured → ℕ → Poured
+coded d n = pick (eqb (d .code) 0) (poured (d .out) (d .at) n) d
+
+-- each call is made and its entry written, while the output has room; 1: the script is malformed from here on
+unfoldable pub play : ℕ → State → Poured → Calls → Played
+play show s d ended = stopped s d
+play show s d malformed = stopped s (coded d 1)
+play show s d (next c cs) = pick (eqb (d .code) 0) (play show (callOf s c .state) (pourEntry show d (callOf s c)) cs) (stopped s d)
+
+-- ---- a script
+
+-- what is lent to the pool beside log and store is blank
+unfoldable pub blank : ℕ → ℕ → Table
+blank rows cells = replicate rows (replicate cells 0)
+
+-- the groups' settings
+abbrev pub givenIn : List ℕ → ℕ → Table
+givenIn s groups = take groups (groupsInto groups s 88 (blank 16 37))
+
+-- the file is the log's first n bytes, if it fits
+unfoldable pub placed : List ℕ → ℕ → ℕ → List ℕ → List ℕ
+placed s from n bytes = pour (poured bytes 0 0) (part s from (from + n)) .out
+
+abbrev pub didOpen : PoolOpened → Did
+didOpen o = record { state = openState o (blank 128 12); answer = o .told .answer }
+
+-- the opening's entry; then, if it was accepted, the calls
+unfoldable pub playOpened : ℕ → List ℕ → ℕ → Did → Poured → Played
+playOpened show s start did d =
+    pick (accepted (did .answer)) (play show (did .state) (pourEntry show d did) (callsAt (length s) s start)) (stopped (did .state) (pourEntry show d did))
+
+abbrev pub playFrom : List ℕ → Header → List ℕ → List ℕ → Poured → Played
+playFrom s h bytes store d =
+    playOpened (h .show) s (h .file + h .n)
+    (didOpen
+    (openOf (h .settings) (givenIn s (h .groups)) (placed s (h .file) (h .n) bytes) (h .n) store (blank 256 3) (blank 8 37) (blank 262 4) (blank 256 7) (blank 34 65) (blank 128 12)))
+    d
+
+-- 1: the header is malformed; 3: the lent log or store has another length than the script says
+abbrev pub playHeaded : List ℕ → HeaderRead → List ℕ → List ℕ → Poured → Played
+playHeaded s header.Malformed bytes store d = played bytes store (coded d 1)
+playHeaded s (header.Fields h) bytes store d =
+    pick (eqb (length bytes) (h .long)) (pick (eqb (length store) (h .stored)) (playFrom s h bytes store d) (played bytes store (coded d 3))) (played bytes store (coded d 3))
+
+unfoldable pub playScript : List ℕ → List ℕ → List ℕ → Poured → Played
+playScript s bytes store d = playHeaded s (headerOf s) bytes store d
+
+-- ---- the exported function
+
+-- log, store and output after it, and the number returned
+pub record Replayed : Type 0 where
+  pub bytes : List ℕ
+  pub store : List ℕ
+  pub out : List ℕ
+  pub code : ℕ
+
+abbrev pub replayed : List ℕ → List ℕ → List ℕ → ℕ → Replayed
+replayed bytes store out code = record { bytes = bytes; store = store; out = out; code = code }
+
+-- the first 8 bytes count those behind them
+abbrev pub counted : Played → Replayed
+counted p = replayed (p .bytes) (p .store) (pour (poured (p .poured .out) 0 0) (numbers ((p .poured .at - 8) ∷ [])) .out) (p .poured .code)
+
+-- 2, and nothing is touched, where not even the count has room
+unfoldable pub replayOf : List ℕ → List ℕ → List ℕ → List ℕ → Replayed
+replayOf s bytes store out = pick (ltb (length out) 8) (replayed bytes store out 2) (counted (playScript s bytes store (poured out 8 0)))

@@ -1,0 +1,162 @@
+// An entry of the output: the answer and the counters; the message that the answer shows; and, as far as they are asked for, the log, the tables and the store.
+ghost use mathlib.Core.Path.{_≡_};
+ghost use lib.ListN.{take, drop};
+ghost use Rattle.replay.specs.Entry.{entryNumbers, baseOf, pourTexts, nameIn, bodyIn, pourMessage, pourLog, pourTables, pourStore, pourSaid, pourEntry};
+ghost use Rattle.wire.specs.Pour.{pour};
+ghost use Rattle.wire.specs.Number.{numbers};
+use crate::said;
+use crate::said::Said;
+use actor::message;
+use front::state::Answer;
+use front::state::Pool;
+use lists::Found;
+use wire::pour;
+use wire::pour::Done;
+
+// Where the store's entry begins.
+fn base_of(e: usize) -> usize
+    ensures { λ r. ⌜ r ≡ baseOf e ⌝ }
+{
+    if e < 256 {
+        return 160 * e;
+    }
+    40960
+}
+
+// The n bytes from a on, or as many as there are.
+fn range(s: &[u8], a: usize, n: usize) -> &[u8]
+    ensures { λ r. ⌜ now r ≡ take n (drop a (now (s .entry))) ⌝ }
+{
+    if s.len() <= a {
+        return &s[..0];
+    }
+    if n < s.len() - a {
+        let end = a + n;
+        return &s[a..end];
+    }
+    &s[a..]
+}
+
+fn pour_texts(out: &mut [u8], d: Done, name: &[u8], body: &[u8]) -> Done
+    ensures { λ r. ⌜ record { out = now (out .exit); at = r .at; code = r .code } ≡ pourTexts (record { out = now (out .entry); at = d .at; code = d .code }) (now (name .entry)) (now (body .entry)) ⌝ }
+{
+    let lengths = [1, name.len() as u64, body.len() as u64];
+    let a = pour::pour_numbers(out, d, &lengths);
+    let b = pour::pour_bytes(out, a, name);
+    pour::pour_bytes(out, b, body)
+}
+
+// The message that an answer shows.
+fn pour_message(out: &mut [u8], d: Done, m: Found, rows: &[[u64; 7]], store: &[u8]) -> Done
+    ensures { λ r. ⌜ record { out = now (out .exit); at = r .at; code = r .code } ≡ pourMessage (record { out = now (out .entry); at = d .at; code = d .code }) m (now (rows .entry)) (now (store .entry)) ⌝ }
+{
+    match m {
+        Found::Nothing => {
+            let none = [0];
+            pour::pour_numbers(out, d, &none)
+        }
+        Found::Entry(e) => {
+            let row = message::message_at(rows, e);
+            let base = base_of(e);
+            let name = range(store, base, row.name as usize);
+            let body = range(store, base + 32, row.body as usize);
+            pour_texts(out, d, name, body)
+        }
+    }
+}
+
+// The file.
+fn pour_log(out: &mut [u8], d: Done, show: u64, log: &[u8], size: usize) -> Done
+    ensures { λ r. ⌜ record { out = now (out .exit); at = r .at; code = r .code } ≡ pourLog show (record { out = now (out .entry); at = d .at; code = d .code }) (now (log .entry)) size ⌝ }
+{
+    if show < 1 {
+        return d;
+    }
+    pour::pour_bytes(out, d, range(log, 0, size))
+}
+
+fn pour_tables(
+    out: &mut [u8],
+    d: Done,
+    show: u64,
+    records: &[[u64; 3]],
+    groups: &[[u64; 37]],
+    links: &[[u64; 4]],
+    rows: &[[u64; 7]],
+    lists: &[[u8; 65]],
+    actors: &[[u64; 12]],
+) -> Done
+    ensures { λ r. ⌜ record { out = now (out .exit); at = r .at; code = r .code } ≡ pourTables show (record { out = now (out .entry); at = d .at; code = d .code }) (now (records .entry)) (now (groups .entry)) (now (links .entry)) (now (rows .entry)) (now (lists .entry)) (now (actors .entry)) ⌝ }
+{
+    if show < 2 {
+        return d;
+    }
+    let a = pour::pour_records(out, d, records);
+    let b = pour::pour_groups(out, a, groups);
+    let c = pour::pour_links(out, b, links);
+    let e = pour::pour_messages(out, c, rows);
+    let f = pour::pour_keys(out, e, lists);
+    pour::pour_actors(out, f, actors)
+}
+
+fn pour_store(out: &mut [u8], d: Done, show: u64, store: &[u8]) -> Done
+    ensures { λ r. ⌜ record { out = now (out .exit); at = r .at; code = r .code } ≡ pourStore show (record { out = now (out .entry); at = d .at; code = d .code }) (now (store .entry)) ⌝ }
+{
+    if show < 3 {
+        return d;
+    }
+    pour::pour_bytes(out, d, store)
+}
+
+// The answer and the counters.
+fn pour_head(out: &mut [u8], d: Done, s: Said, pool: Pool) -> Done
+    ensures { λ r. ⌜ record { out = now (out .exit); at = r .at; code = r .code } ≡ pour (record { out = now (out .entry); at = d .at; code = d .code }) (numbers (entryNumbers s pool)) ⌝ }
+{
+    let turn = pool.turn;
+    let counters = turn.log;
+    let counts = turn.counts;
+    let losses = counts.losses;
+    let numbers = [
+        s.kind,
+        s.a,
+        s.b,
+        s.c,
+        counters.next,
+        counters.live as u64,
+        counters.size as u64,
+        said::flag(counters.dirty),
+        counters.count as u64,
+        counts.queued,
+        losses.dead,
+        losses.crashes,
+    ];
+    pour::pour_numbers(out, d, &numbers)
+}
+
+pub(crate) fn pour_entry(
+    out: &mut [u8],
+    d: Done,
+    show: u64,
+    answer: Answer,
+    pool: Pool,
+    log: &[u8],
+    records: &[[u64; 3]],
+    store: &[u8],
+    groups: &[[u64; 37]],
+    links: &[[u64; 4]],
+    rows: &[[u64; 7]],
+    lists: &[[u8; 65]],
+    actors: &[[u64; 12]],
+) -> Done
+    ensures { λ r. ⌜ record { out = now (out .exit); at = r .at; code = r .code } ≡ pourEntry show (record { out = now (out .entry); at = d .at; code = d .code }) (record { state = record { pool = pool; bytes = now (log .entry); records = now (records .entry); store = now (store .entry); groups = now (groups .entry); links = now (links .entry); rows = now (rows .entry); keys = now (lists .entry); actors = now (actors .entry) }; answer = answer }) ⌝ }
+{
+    let s = said::said_of(answer);
+    let message = s.message;
+    let turn = pool.turn;
+    let size = turn.log.size;
+    let a = pour_head(out, d, s, pool);
+    let b = pour_message(out, a, message, rows, store);
+    let c = pour_log(out, b, show, log, size);
+    let e = pour_tables(out, c, show, records, groups, links, rows, lists, actors);
+    pour_store(out, e, show, store)
+}

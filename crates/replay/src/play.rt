@@ -1,0 +1,306 @@
+// A script: its header, the opening, and its calls one after the other.
+ghost use mathlib.Core.Path.{_≡_};
+ghost use mathlib.Core.Bool.{true};
+ghost use Prim.Native.Nat.{_+_, _≤_};
+ghost use lib.ListN.{length, take};
+ghost use Rattle.rail.specs.Rail.{callOf, accepted};
+ghost use Rattle.door.specs.Open.{openOf};
+ghost use Rattle.replay.specs.Replay.{heard, callsAt, play, blank, placed, didOpen, playOpened, playScript};
+use crate::entry;
+use door::admit;
+use door::open;
+use front::state::Answer;
+use front::state::Pool;
+use front::state::Told;
+use pool::calls;
+use setup::settings::Settings;
+use wire::pour;
+use wire::pour::Done;
+use wire::script;
+use wire::script::CallAt;
+use wire::script::CallRead;
+use wire::script::HeaderRead;
+use wire::script::Kind;
+
+// One call.
+fn step(
+    script: &[u8],
+    call: CallAt,
+    pool: Pool,
+    log: &mut [u8],
+    records: &mut [[u64; 3]],
+    store: &mut [u8],
+    groups: &[[u64; 37]],
+    links: &mut [[u64; 4]],
+    rows: &mut [[u64; 7]],
+    lists: &mut [[u8; 65]],
+    actors: &mut [[u64; 12]],
+) -> Told
+    requires { ⌜ (call .name ≤ call .body) × (call .body ≤ call .end) × (call .end ≤ length (now script)) ⌝ }
+    ensures { λ r. ⌜ record { state = record { pool = r .pool; bytes = now (log .exit); records = now (records .exit); store = now (store .exit); groups = now (groups .entry); links = now (links .exit); rows = now (rows .exit); keys = now (lists .exit); actors = now (actors .exit) }; answer = r .answer } ≡ callOf (record { pool = pool; bytes = now (log .entry); records = now (records .entry); store = now (store .entry); groups = now (groups .entry); links = now (links .entry); rows = now (rows .entry); keys = now (lists .entry); actors = now (actors .entry) }) (heard (now (script .entry)) call) ⌝ }
+{
+    let kind = call.kind;
+    let from = call.name;
+    let mid = call.body;
+    let end = call.end;
+    match kind {
+        Kind::Admit(caller) => admit::admit(
+            pool,
+            log,
+            records,
+            store,
+            links,
+            rows,
+            &script[from..mid],
+            &script[mid..end],
+            caller,
+        ),
+        Kind::Turn => calls::turn(
+            pool,
+            log,
+            records,
+            store,
+            groups,
+            links,
+            rows,
+            lists,
+            actors,
+        ),
+        Kind::Reply(reply) => calls::reply(
+            pool,
+            log,
+            records,
+            store,
+            groups,
+            links,
+            rows,
+            lists,
+            actors,
+            reply,
+            &script[from..mid],
+            &script[mid..end],
+        ),
+        Kind::Sync => calls::sync(pool, links, rows),
+        Kind::Close => calls::close(pool, links, rows),
+    }
+}
+
+// The calls from `start` on.
+fn run_calls(
+    script: &[u8],
+    start: usize,
+    show: u64,
+    first: Pool,
+    log: &mut [u8],
+    records: &mut [[u64; 3]],
+    store: &mut [u8],
+    groups: &[[u64; 37]],
+    links: &mut [[u64; 4]],
+    rows: &mut [[u64; 7]],
+    lists: &mut [[u8; 65]],
+    actors: &mut [[u64; 12]],
+    out: &mut [u8],
+    d: Done,
+) -> Done
+    ensures { λ r. ⌜ record { bytes = now (log .exit); store = now (store .exit); poured = record { out = now (out .exit); at = r .at; code = r .code } } ≡ play show (record { pool = first; bytes = now (log .entry); records = now (records .entry); store = now (store .entry); groups = now (groups .entry); links = now (links .entry); rows = now (rows .entry); keys = now (lists .entry); actors = now (actors .entry) }) (record { out = now (out .entry); at = d .at; code = d .code }) (callsAt (length (now (script .entry))) (now (script .entry)) start) ⌝ }
+{
+    let mut pool = first;
+    let mut p = start;
+    let mut e = d;
+    while e.code == 0 {
+        if script.len() <= p {
+            return e;
+        }
+        let read = script::read_call(script, p);
+        match read {
+            CallRead::Malformed => {
+                return Done { at: e.at, code: 1 };
+            }
+            CallRead::Next(call) => {
+                let end = call.end;
+                let told = step(
+                    script,
+                    call,
+                    pool,
+                    log,
+                    records,
+                    store,
+                    groups,
+                    links,
+                    rows,
+                    lists,
+                    actors,
+                );
+                let after = told.pool;
+                let answer = told.answer;
+                let next = entry::pour_entry(
+                    out,
+                    e,
+                    show,
+                    answer,
+                    after,
+                    log,
+                    records,
+                    store,
+                    groups,
+                    links,
+                    rows,
+                    lists,
+                    actors,
+                );
+                pool = after;
+                e = next;
+                p = end;
+            }
+        }
+    }
+    e
+}
+
+fn is_accepted(a: Answer) -> bool
+    ensures { λ r. ⌜ r ≡ accepted a ⌝ }
+{
+    match a {
+        Answer::Refused(_) => false,
+        Answer::Open(_) => true,
+        Answer::Ended(_, _) => true,
+    }
+}
+
+// The opening, and what follows it.
+fn run_opened(
+    script: &[u8],
+    start: usize,
+    show: u64,
+    settings: Settings,
+    given: &[[u64; 37]],
+    n: usize,
+    log: &mut [u8],
+    records: &mut [[u64; 3]],
+    store: &mut [u8],
+    groups: &mut [[u64; 37]],
+    links: &mut [[u64; 4]],
+    rows: &mut [[u64; 7]],
+    lists: &mut [[u8; 65]],
+    actors: &mut [[u64; 12]],
+    out: &mut [u8],
+    d: Done,
+) -> Done
+    requires { ⌜ now actors ≡ blank 128 12 ⌝ }
+    ensures { λ r. ⌜ record { bytes = now (log .exit); store = now (store .exit); poured = record { out = now (out .exit); at = r .at; code = r .code } } ≡ playOpened show (now (script .entry)) start (didOpen (openOf settings (now (given .entry)) (now (log .entry)) n (now (store .entry)) (now (records .entry)) (now (groups .entry)) (now (links .entry)) (now (rows .entry)) (now (lists .entry)) (now (actors .entry)))) (record { out = now (out .entry); at = d .at; code = d .code }) ⌝ }
+{
+    let told = open::open(
+        settings,
+        given,
+        log,
+        n,
+        store,
+        records,
+        groups,
+        links,
+        rows,
+        lists,
+        actors,
+    );
+    let pool = told.pool;
+    let answer = told.answer;
+    let e = entry::pour_entry(
+        out,
+        d,
+        show,
+        answer,
+        pool,
+        log,
+        records,
+        store,
+        groups,
+        links,
+        rows,
+        lists,
+        actors,
+    );
+    let goes_on = is_accepted(answer);
+    if goes_on {
+        return run_calls(
+            script,
+            start,
+            show,
+            pool,
+            log,
+            records,
+            store,
+            groups,
+            links,
+            rows,
+            lists,
+            actors,
+            out,
+            e,
+        );
+    }
+    e
+}
+
+// The file into the log's first bytes, if it fits.
+fn place_file(log: &mut [u8], script: &[u8], from: usize, n: usize)
+    requires { ⌜ from + n ≤ length (now script) ⌝ }
+    ensures { λ r. ⌜ now (log .exit) ≡ placed (now (script .entry)) from n (now (log .entry)) ⌝ }
+{
+    let end = from + n;
+    pour::pour_bytes(log, Done { at: 0, code: 0 }, &script[from..end]);
+}
+
+// A whole script. What is lent beside log and store is blank.
+pub(crate) fn play(
+    script: &[u8],
+    log: &mut [u8],
+    store: &mut [u8],
+    out: &mut [u8],
+    given: &mut [[u64; 37]],
+    records: &mut [[u64; 3]],
+    groups: &mut [[u64; 37]],
+    links: &mut [[u64; 4]],
+    rows: &mut [[u64; 7]],
+    lists: &mut [[u8; 65]],
+    actors: &mut [[u64; 12]],
+) -> Done
+    requires { ⌜ (now given ≡ blank 16 37) × (now records ≡ blank 256 3) × (now groups ≡ blank 8 37) × (now links ≡ blank 262 4) × (now rows ≡ blank 256 7) × (now lists ≡ blank 34 65) × (now actors ≡ blank 128 12) ⌝ }
+    ensures { λ r. ⌜ record { bytes = now (log .exit); store = now (store .exit); poured = record { out = now (out .exit); at = r .at; code = r .code } } ≡ playScript (now (script .entry)) (now (log .entry)) (now (store .entry)) (record { out = now (out .entry); at = 8; code = 0 }) ⌝ }
+{
+    let read = script::read_header(script);
+    match read {
+        HeaderRead::Malformed => Done { at: 8, code: 1 },
+        HeaderRead::Fields(h) => {
+            let n = h.n;
+            let file = h.file;
+            let count = h.groups;
+            let show = h.show;
+            let settings = h.settings;
+            if log.len() == h.long {
+                if store.len() == h.stored {
+                    script::read_groups(script, count, given);
+                    place_file(log, script, file, n);
+                    return run_opened(
+                        script,
+                        file + n,
+                        show,
+                        settings,
+                        &given[..count],
+                        n,
+                        log,
+                        records,
+                        store,
+                        groups,
+                        links,
+                        rows,
+                        lists,
+                        actors,
+                        out,
+                        Done { at: 8, code: 0 },
+                    );
+                }
+            }
+            Done { at: 8, code: 3 }
+        }
+    }
+}

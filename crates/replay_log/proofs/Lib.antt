@@ -1,5 +1,0 @@
-pub mod NumberLaws
-pub mod ScriptLaws
-pub mod StepLaws
-pub mod OutputLaws
-pub mod ReplayLaws

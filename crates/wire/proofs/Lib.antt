@@ -1,0 +1,3 @@
+pub mod NumberLaws
+pub mod PourLaws
+pub mod ScriptLaws

@@ -1,0 +1,3 @@
+pub mod Number
+pub mod Pour
+pub mod Script

@@ -1,0 +1,34 @@
+-- The output: texts one behind the other, each whole, while the lent slice has room.
+use mathlib.Core.Bool.{Bool, true, false}
+use mathlib.Core.List.{List, [], _∷_}
+use Prim.Native.Nat.{ℕ, _+_}
+use lib.Dec.{eqb, leb}
+use lib.ListN.{length}
+use Rattle.text.specs.Bytes.{write}
+use Rattle.lists.specs.Links.{pick, Table}
+use Rattle.wire.specs.Number.{numbers}
+
+-- the output, how far it is written, and the number that is returned: 0 so far
+pub record Poured : Type 0 where
+  pub out : List ℕ
+  pub at : ℕ
+  pub code : ℕ
+
+abbrev pub poured : List ℕ → ℕ → ℕ → Poured
+poured out at code = record { out = out; at = at; code = code }
+
+-- a text goes out whole behind what stands; 2: it has no room, and nothing goes out any more
+unfoldable pub pour : Poured → List ℕ → Poured
+pour d text =
+    pick (eqb (d .code) 0)
+    (pick (leb (d .at + length text) (length (d .out))) (poured (write (d .out) (d .at) text) (d .at + length text) 0) (poured (d .out) (d .at) 2))
+    d
+
+-- rows of numbers, and rows of bytes
+unfoldable pub pourRows : Poured → Table → Poured
+pourRows d [] = d
+pourRows d (row ∷ rows) = pourRows (pour d (numbers row)) rows
+
+unfoldable pub pourKeys : Poured → Table → Poured
+pourKeys d [] = d
+pourKeys d (row ∷ rows) = pourKeys (pour d row) rows
