@@ -11,7 +11,7 @@ use compare::tally::Tally;
 use compare::{cuts, diff, differences, met, port, property, recorded};
 use std::process::ExitCode;
 
-const COUNT: u64 = 10_000;
+const COUNT: u64 = 15_000;
 const SEED: u64 = 1;
 /// Cases from which on every point must be met.
 const ALL_POINTS: u64 = 10_000;
