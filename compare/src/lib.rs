@@ -9,6 +9,7 @@ pub mod met;
 pub mod model;
 pub mod output;
 pub mod port;
+pub mod program;
 pub mod rng;
 pub mod scratch;
 pub mod script;

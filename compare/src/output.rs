@@ -1,7 +1,7 @@
 //! What a run of the port gives (docs/PROTOCOL.md): an entry for the opening, then one for each call, read from bytes
 //! with every byte accounted for. An entry borrows the bytes that it was read from.
 use crate::model::log::Order;
-use crate::model::pool::{self, Outcome, Question};
+use crate::model::pool::{self, Outcome, Pool, Question};
 use crate::script::{SHOW_LOG, SHOW_STORE, SHOW_TABLES};
 use crate::tables::{self, Tables};
 use crate::wire::{NUMBER, Reader};
@@ -144,6 +144,19 @@ fn outcome(number: u64) -> Option<Outcome> {
 pub struct Shown<'a> {
     pub name: &'a [u8],
     pub body: &'a [u8],
+}
+
+impl<'a> Shown<'a> {
+    /// The message that the plain program's answer shows.
+    pub fn of(answer: &pool::Answer, pool: &'a Pool) -> Option<Shown<'a>> {
+        let pool::Answer::Open(Some(question)) = answer else { return None };
+        let message = match question {
+            Question::Push { message, .. } => Some(*message),
+            Question::Run { source, .. } => *source,
+            _ => None,
+        };
+        message.map(|message| Shown { name: pool.name(message), body: pool.body(message) })
+    }
 }
 
 #[derive(Clone, Copy)]

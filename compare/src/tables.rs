@@ -1,6 +1,8 @@
 //! The tables that an entry shows, row by row: open records, groups, links, messages, lists of keys, actors.
 //! They are read where they lie; a row's place is decided by the lengths alone.
 use crate::limits::{GROUPS_MAX, MESSAGES};
+use crate::model::log::{self, LogId};
+use crate::model::pool::{Actor, Message, Settings};
 use crate::wire::NUMBER;
 
 /// Rows of each table, and numbers of a row.
@@ -90,6 +92,62 @@ pub struct ActorRow {
     pub wake_at: Option<u64>,
     /// The deadline of an eval run.
     pub run: Option<u64>,
+}
+
+impl OpenRecord {
+    /// The open records of a log's bytes.
+    pub fn all(log: &[u8]) -> Vec<OpenRecord> {
+        let row = |(id, from, to): (LogId, usize, usize)| OpenRecord {
+            id: id.0,
+            at: from as u64,
+            length: (to - from) as u64,
+        };
+        log::open_records(log).into_iter().map(row).collect()
+    }
+}
+
+impl MessageRow {
+    pub fn of(message: &Message) -> MessageRow {
+        MessageRow {
+            attempts: message.attempts,
+            name_len: message.name_len as u64,
+            body_len: message.body_len as u64,
+            caller: message.caller.map(|caller| caller.0),
+            id: message.id.map(|id| id.0),
+        }
+    }
+}
+
+impl ActorRow {
+    pub fn of(actor: &Actor, eval: bool) -> ActorRow {
+        ActorRow {
+            eval,
+            started: actor.started,
+            ran: actor.ran,
+            idle: actor.idle,
+            runnable: actor.runnable,
+            scheduled: actor.scheduled,
+            blocked: actor.blocked,
+            consumed: actor.consumed,
+            wake_at: actor.wake_at,
+            run: actor.run.as_ref().map(|run| run.deadline),
+        }
+    }
+}
+
+/// A group's row, by its settings.
+pub fn group_row(settings: &Settings, group: usize) -> [u64; GROUP] {
+    let setting = &settings.groups[group];
+    let mut row = [0; GROUP];
+    row[0] = settings.ceiling(group) as u64;
+    row[1] = setting.eval as u64;
+    row[2] = setting.timeout;
+    row[3] = setting.retry;
+    row[4] = setting.name.len() as u64;
+    for (cell, byte) in row[5..].iter_mut().zip(&setting.name) {
+        *cell = *byte as u64;
+    }
+    row
 }
 
 /// The tables of one entry.

@@ -4,6 +4,11 @@ use std::time::Instant;
 /// Failures that are shown; the rest are counted only.
 const SHOWN: u64 = 10;
 
+/// Two values must be the same; an error in words.
+pub fn same<T: PartialEq + std::fmt::Debug>(what: &str, found: T, expected: T) -> Result<(), String> {
+    if found == expected { Ok(()) } else { Err(format!("{what}: {found:?}, not {expected:?}")) }
+}
+
 pub struct Tally {
     passed: u64,
     failed: u64,
@@ -40,8 +45,7 @@ impl Tally {
 
     /// One check that two values are the same, as a sentence.
     pub fn equal<T: PartialEq + std::fmt::Debug>(&mut self, what: &str, found: T, expected: T) {
-        let result = if found == expected { Ok(()) } else { Err(format!("{what}: {found:?}, not {expected:?}")) };
-        self.check(result);
+        self.check(same(what, found, expected));
     }
 
     /// A count that the report shows beside the checks.

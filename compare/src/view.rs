@@ -20,21 +20,7 @@ pub struct RunView {
 }
 
 /// `vm` is the number of the Boot that made a fixed actor's interpreter, 0 for an eval one.
-#[derive(Clone, PartialEq, Eq, Debug)]
-pub struct ActorView {
-    pub vm: u64,
-    pub started: bool,
-    pub run: Option<RunView>,
-    pub mailbox: Vec<MessageView>,
-    pub ran: bool,
-    pub idle: bool,
-    pub runnable: bool,
-    pub scheduled: bool,
-    pub wake_at: Option<u64>,
-    pub blocked: bool,
-    pub in_flight: Option<MessageView>,
-    pub consumed: bool,
-}
+pub type ActorView = Actor<MessageView, RunView>;
 
 #[derive(Clone, PartialEq, Eq, Debug)]
 pub struct GroupView {

@@ -1,7 +1,6 @@
 //! bench [RUNS]: times of the port beside the Rust, medians of RUNS runs, and what each holds in memory, as tables.
 //!
-//! The Rust is compiled here once more, over stand-ins that answer from a list of replies and compare nothing. It names
-//! `host` and `pack` at the crate's root.
+//! The Rust is compiled here once more, over stand-ins that answer from a list of replies and compare nothing.
 use compare::bench::port_side::{Calls, Runner};
 use compare::bench::table::{Opened, Row};
 use compare::bench::writes::Writes;
@@ -19,17 +18,16 @@ extern crate slab;
 #[path = "../bench/held.rs"]
 mod held;
 #[cfg(oracle)]
-#[path = "../bench/rust/host.rs"]
-mod host;
-#[cfg(oracle)]
 #[path = "../bench/rust/oracle.rs"]
 mod oracle;
 #[cfg(oracle)]
-#[path = "../bench/rust/pack.rs"]
-mod pack;
-#[cfg(oracle)]
 #[path = "../bench/rust/side.rs"]
 mod rust_side;
+// The files that the comparison has too name these at the crate's root.
+#[cfg(oracle)]
+use compare::{model, view};
+#[cfg(oracle)]
+use oracle::{host, pack};
 
 const RUNS: usize = 501;
 

@@ -8,9 +8,10 @@ use compare::diff::seen::Seen;
 use compare::lent::Lent;
 use compare::scratch::Scratch;
 use compare::tally::Tally;
-use compare::{cuts, diff, differences, met, port, property, recorded};
+use compare::{cuts, diff, differences, met, port, program, property, recorded};
 use std::process::ExitCode;
 
+const USAGE: &str = "differ [COUNT [SEED]]\n       differ selftest\n       differ CASE 0 show";
 const COUNT: u64 = 15_000;
 const SEED: u64 = 1;
 /// Cases from which on every point must be met.
@@ -25,24 +26,17 @@ const BYTES_A_CASE: u64 = 200;
 
 fn main() -> ExitCode {
     let arguments: Vec<String> = std::env::args().skip(1).collect();
-    let number = |at: usize, default| arguments.get(at).map_or(Some(default), |text| text.parse().ok());
     #[cfg(oracle)]
     compare::oracle::run::silence();
     let passed = match arguments.iter().map(String::as_str).collect::<Vec<_>>()[..] {
         ["selftest"] => port::on_large_stack(selftest_alone),
         [case, "0", "show"] if case.parse::<u64>().is_ok() => port::on_large_stack(|| show(case.parse().unwrap())),
-        [] | [_] | [_, _] => match (number(0, COUNT), number(1, SEED)) {
-            (Some(count), Some(seed)) => port::on_large_stack(|| run(count, seed)),
-            _ => return usage(),
+        _ => match program::numbers([COUNT, SEED]) {
+            Some([count, seed]) => port::on_large_stack(|| run(count, seed)),
+            None => return program::usage(USAGE),
         },
-        _ => return usage(),
     };
-    if passed { ExitCode::SUCCESS } else { ExitCode::FAILURE }
-}
-
-fn usage() -> ExitCode {
-    eprintln!("usage: differ [COUNT [SEED]]\n       differ selftest\n       differ CASE 0 show");
-    ExitCode::from(2)
+    program::ended(passed)
 }
 
 fn run(count: u64, seed: u64) -> bool {

@@ -2,7 +2,7 @@
 //! lists in proportion; before them the recorded answers and the differences. The last line is `N passed, M failed`; the program fails if M
 //! is above 0.
 use compare::tally::Tally;
-use compare::{cuts, differences, port, property, recorded};
+use compare::{cuts, differences, port, program, property, recorded};
 use std::process::ExitCode;
 
 const COUNT: u64 = 2_000;
@@ -11,11 +11,8 @@ const SEED: u64 = 1;
 const LISTS_A_CUT_ONE: u64 = 20;
 
 fn main() -> ExitCode {
-    let arguments: Vec<String> = std::env::args().skip(1).collect();
-    let number = |at: usize, default| arguments.get(at).map_or(Some(default), |text| text.parse().ok());
-    let (Some(count), Some(seed), true) = (number(0, COUNT), number(1, SEED), arguments.len() <= 2) else {
-        eprintln!("usage: property [COUNT [SEED]]");
-        return ExitCode::from(2);
+    let Some([count, seed]) = program::numbers([COUNT, SEED]) else {
+        return program::usage("property [COUNT [SEED]]");
     };
     println!("property {count} {seed}");
     let passed = port::on_large_stack(|| {
@@ -26,5 +23,5 @@ fn main() -> ExitCode {
         cuts::run(&mut tally, count / LISTS_A_CUT_ONE, seed);
         tally.finish()
     });
-    if passed { ExitCode::SUCCESS } else { ExitCode::FAILURE }
+    program::ended(passed)
 }

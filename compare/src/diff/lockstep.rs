@@ -9,7 +9,7 @@ use crate::generate::case::{self, Case};
 use crate::lent::{LOG_FILL, STORE_FILL};
 use crate::limits::{GROUPS_MAX, MESSAGES, STORE_BODY, STORE_ENTRY};
 use crate::met::{Counting, counting};
-use crate::model::log::{self, Order};
+use crate::model::log::Order;
 use crate::model::pool::{self, At, Call, Event, Pool, Question};
 use crate::output::{Answer, Entry, Output, Shown};
 use crate::tables::{self, ActorRow, MessageRow, OpenRecord, Tables, list};
@@ -137,7 +137,7 @@ impl Lockstep {
     /// One entry after the plain program made the same call.
     fn entry(&mut self, answer: &pool::Answer, entry: &Entry, seen: &mut Seen) -> Result<(), String> {
         same("answer", entry.answer, Answer::of(answer))?;
-        self.shown(answer, entry)?;
+        same("the message shown", entry.shown, Shown::of(answer, &self.pool))?;
         let pool = &self.pool;
         let counters = (pool.counters.next, pool.counters.live as u64, pool.counters.size as u64);
         same("next, live, size", (entry.next, entry.live, entry.size), counters)?;
@@ -154,16 +154,6 @@ impl Lockstep {
             Some(store) => same_bytes("the store", store, &self.store),
             None => Ok(()),
         }
-    }
-
-    fn shown(&self, answer: &pool::Answer, entry: &Entry) -> Result<(), String> {
-        let message = match *answer {
-            pool::Answer::Open(Some(Question::Push { message, .. })) => Some(message),
-            pool::Answer::Open(Some(Question::Run { source, .. })) => source,
-            _ => None,
-        };
-        let shown = message.map(|e| Shown { name: self.pool.name(e), body: self.pool.body(e) });
-        same("the message shown", entry.shown, shown)
     }
 
     /// Every list of messages has the same messages in the same order.
@@ -219,7 +209,7 @@ impl Lockstep {
         let bytes = entry.log.ok_or("no log")?;
         let before = self.records.clone();
         if bytes != self.log {
-            self.records = open_records(bytes);
+            self.records = OpenRecord::all(bytes);
             self.log = bytes.to_vec();
         }
         let records = &self.records;
@@ -261,7 +251,7 @@ impl Lockstep {
 
     fn group(&self, tables: &Tables, g: usize) -> Result<(), String> {
         let group = &self.pool.groups[g];
-        same("the settings", tables.group(g), self.group_row(g))?;
+        same("the settings", tables.group(g), tables::group_row(&self.pool.settings, g))?;
         same("the keys", tables.live(g), group.actors.keys())?;
         keys("the free keys", tables.free(g), group.actors.free.iter())?;
         same("the keys given", tables.given(g) as usize, group.actors.slots.len())?;
@@ -269,24 +259,10 @@ impl Lockstep {
         keys("idle", tables.idle(g), group.idle.keys.iter())?;
         keys("waiting", tables.waiting(g), group.waiting.keys.iter())?;
         for key in group.actors.keys() {
-            let actor = actor_row(group.actors.get(key).unwrap(), self.pool.settings.groups[g].eval);
+            let actor = ActorRow::of(group.actors.get(key).unwrap(), self.pool.settings.groups[g].eval);
             same("an actor", (key, tables.actor(g, key)), (key, actor))?;
         }
         Ok(())
-    }
-
-    fn group_row(&self, g: usize) -> [u64; 37] {
-        let group = &self.pool.settings.groups[g];
-        let mut row = [0; 37];
-        row[0] = self.pool.settings.ceiling(g) as u64;
-        row[1] = group.eval as u64;
-        row[2] = group.timeout;
-        row[3] = group.retry;
-        row[4] = group.name.len() as u64;
-        for (cell, byte) in row[5..].iter_mut().zip(&group.name) {
-            *cell = *byte as u64;
-        }
-        row
     }
 
     /// After the last call: the whole log, with the bytes behind its size, and the whole store.
@@ -320,14 +296,7 @@ impl Pairs<'_> {
 
     fn pair(&mut self, entry: usize, e: usize) -> Result<(), String> {
         let message = self.pool.message(e);
-        let expected = MessageRow {
-            attempts: message.attempts,
-            name_len: message.name_len as u64,
-            body_len: message.body_len as u64,
-            caller: message.caller.map(|caller| caller.0),
-            id: message.id.map(|id| id.0),
-        };
-        same("its row", self.tables.message(entry), expected)?;
+        same("its row", self.tables.message(entry), MessageRow::of(message))?;
         match self.pairs[entry] {
             Some(before) if before != e => Err("it is another message of the same row".into()),
             Some(_) => Ok(()),
@@ -345,30 +314,6 @@ impl Pairs<'_> {
 fn keys<'a>(what: &str, port: &[u8], expected: impl Iterator<Item = &'a usize>) -> Result<(), String> {
     let expected: Vec<u8> = expected.map(|key| *key as u8).collect();
     same(what, port, &expected)
-}
-
-fn actor_row(actor: &pool::Actor, eval: bool) -> ActorRow {
-    ActorRow {
-        eval,
-        started: actor.started,
-        ran: actor.ran,
-        idle: actor.idle,
-        runnable: actor.runnable,
-        scheduled: actor.scheduled,
-        blocked: actor.blocked,
-        consumed: actor.consumed,
-        wake_at: actor.wake_at,
-        run: actor.run.as_ref().map(|run| run.deadline),
-    }
-}
-
-fn open_records(log: &[u8]) -> Vec<OpenRecord> {
-    let row = |(id, from, to): (log::LogId, usize, usize)| OpenRecord {
-        id: id.0,
-        at: from as u64,
-        length: (to - from) as u64,
-    };
-    log::open_records(log).into_iter().map(row).collect()
 }
 
 fn marked(event: &Event) -> Option<u64> {

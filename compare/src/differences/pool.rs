@@ -28,6 +28,13 @@ fn held_to(run: &Run, opening: &Opening, trace: &Trace, words: &str) -> String {
     }
 }
 
+/// The same over the trace of a list, with its events changed.
+fn held_to_changed(run: &Run, list: &List, change: impl FnMut(&mut Event), words: &str) -> String {
+    let mut trace = beside::traced(list).expect("inside the domain");
+    trace.events.iter_mut().for_each(change);
+    held_to(run, &list.opening, &trace, words)
+}
+
 fn closed(run: &mut Run) {
     let rust = Rust::open(run, AMPLE, b"");
     let (inbox, intake) = rust.inbox();
@@ -69,20 +76,17 @@ fn long_send(run: &mut Run) {
     list.calls.push(send(BODY_MAX + 1));
     making.call(send(BODY_MAX));
     making.answered();
-    let mut trace = beside::traced(&making.list).expect("inside the domain");
     let longer = |body: &mut Vec<u8>| {
         if body.len() == BODY_MAX {
             body.push(b'b');
         }
     };
-    for event in &mut trace.events {
-        match event {
-            Event::Answer(Reply::Send(_, body)) => longer(body),
-            Event::TurnEnd { pool, .. } => pool.pending.iter_mut().for_each(|message| longer(&mut message.body)),
-            _ => {}
-        }
-    }
-    let rust = held_to(run, &making.list.opening, &trace, "pending");
+    let change = |event: &mut Event| match event {
+        Event::Answer(Reply::Send(_, body)) => longer(body),
+        Event::TurnEnd { pool, .. } => pool.pending.iter_mut().for_each(|message| longer(&mut message.body)),
+        _ => {}
+    };
+    let rust = held_to_changed(run, &making.list, change, "pending");
     run.differ(
         "a sent body of 129 bytes",
         "Sends, answered by it",
@@ -98,13 +102,12 @@ fn late_clock(run: &mut Run) {
     let mut list = making.list.clone();
     list.calls.push(Call::Reply(Reply::Clock(CLOCK_MAX + 1)));
     making.answered();
-    let mut trace = beside::traced(&making.list).expect("inside the domain");
-    for event in &mut trace.events {
+    let change = |event: &mut Event| {
         if let Event::Answer(Reply::Clock(clock)) = event {
             *clock = CLOCK_MAX + 1;
         }
-    }
-    let rust = held_to(run, &making.list.opening, &trace, "the turn ends");
+    };
+    let rust = held_to_changed(run, &making.list, change, "the turn ends");
     run.differ(
         "a clock of 2^63",
         "turn; Clock, answered by it",

@@ -1,83 +1,20 @@
 //! Stand-ins for the interpreter and its host. Each call that 01 names is put as a question to the script.
+pub use super::parts::{Host, Project, Runtime, Sink, Status, TICK_NS, driver, linear_cap};
+use super::parts::{clock, count, ran, sends, status, yes};
 use super::script::ask;
 use super::standins::anyhow::{Error, Result};
 use super::standins::compiler::embed::Limits;
 use crate::met;
-use crate::model::pool::{Reply, Status as Ran};
+use crate::model::pool::Status as Ran;
 use crate::trace::Asked;
 use std::cell::{Cell, RefCell};
-use std::collections::HashMap;
 use std::rc::Rc;
-use std::sync::Arc;
-
-/// The build puts a getter wherever the Rust reads this.
-pub const TICK_NS: u64 = 1;
-pub type Sink = Box<dyn Fn(&str)>;
-
-pub enum Status {
-    Done,
-    Exit(i32),
-    Preempted,
-    PendingEvent,
-    PendingHostCall,
-    Error(String),
-}
-
-pub mod driver {
-    pub fn suspend_message(on: &str) -> String {
-        format!("stuck in {on}")
-    }
-
-    pub fn stdout_sink() -> super::Sink {
-        Box::new(|_: &str| {})
-    }
-}
 
 pub fn now_ns() -> u64 {
-    match ask(Asked::Clock) {
-        Reply::Clock(clock) => clock,
-        other => panic!("a clock is answered {other:?}"),
-    }
+    clock(ask(Asked::Clock))
 }
-
-pub fn linear_cap(memory: usize) -> usize {
-    memory
-}
-
-pub struct Runtime;
-
-impl Runtime {
-    pub fn new() -> Result<Arc<Runtime>> {
-        Ok(Arc::new(Runtime))
-    }
-
-    pub fn start_ticker(&self) {}
-}
-
-#[derive(Default)]
-pub struct Project {
-    dir: String,
-    pub manifest: Option<String>,
-    pub ceiling: Option<Vec<String>>,
-}
-
-impl Project {
-    pub fn disk(dir: &str, _manifest: Option<&str>) -> Project {
-        Project { dir: dir.to_string(), ..Project::default() }
-    }
-
-    pub fn bundle(_files: HashMap<String, Vec<u8>>, _dir: &str, _sandboxed: bool) -> Project {
-        Project::default()
-    }
-}
-
-pub struct Host;
 
 impl Host {
-    pub fn new(_: Arc<Runtime>) -> Result<Rc<Host>> {
-        Ok(Rc::new(Host))
-    }
-
     /// A group's shared instance: the folder is the group's number.
     pub fn instance(&self, _: Sink, project: Project, _: Option<u64>, _: usize) -> Result<Rc<RefCell<Instance>>> {
         let group = project.dir.trim_end_matches('/').parse().unwrap();
@@ -135,21 +72,6 @@ impl Instance {
             }
             None => false,
         }
-    }
-}
-
-fn yes(reply: Reply) -> bool {
-    match reply {
-        Reply::Yes => true,
-        Reply::No => false,
-        other => panic!("yes or no is answered {other:?}"),
-    }
-}
-
-fn count(reply: Reply) -> usize {
-    match reply {
-        Reply::Count(count) => count as usize,
-        other => panic!("a count is answered {other:?}"),
     }
 }
 
@@ -216,25 +138,12 @@ impl Vm {
     }
 
     fn run(&mut self, start: bool, source: Option<Vec<u8>>) -> Result<Status> {
-        let Reply::Ran(ran) = ask(Asked::Run { group: self.group, vm: self.number, start, source }) else {
-            panic!("a run is answered by how it came back");
-        };
+        let ran = ran(ask(Asked::Run { group: self.group, vm: self.number, start, source }));
         met_ran(self.eval, start, ran);
-        match ran {
-            Ran::Done => Ok(Status::Done),
-            Ran::Exit => Ok(Status::Exit(3)),
-            Ran::Preempted => Ok(Status::Preempted),
-            Ran::Event => Ok(Status::PendingEvent),
-            Ran::HostCall => Ok(Status::PendingHostCall),
-            Ran::Error => {
-                self.failed();
-                Ok(Status::Error("raised".into()))
-            }
-            Ran::Broke => {
-                self.failed();
-                Err(Error("broke".into()))
-            }
+        if matches!(ran, Ran::Error | Ran::Broke) {
+            self.failed();
         }
+        status(ran)
     }
 
     pub fn start(&mut self, source: &str, _: Option<&str>) -> Result<Status> {
@@ -274,15 +183,7 @@ impl Vm {
     }
 
     pub fn take_sends(&mut self) -> Vec<(String, String)> {
-        let text = |bytes| String::from_utf8(bytes).expect("a text inside the domain");
-        let mut sent = Vec::new();
-        loop {
-            match ask(Asked::Sends { group: self.group, vm: self.number }) {
-                Reply::Send(name, body) => sent.push((text(name), text(body))),
-                Reply::End => return sent,
-                other => panic!("sends are answered {other:?}"),
-            }
-        }
+        sends(|| ask(Asked::Sends { group: self.group, vm: self.number }))
     }
 }
 

@@ -1,44 +1,19 @@
-//! The Rust under comparison, as its files stand (the build takes them from where they lie), over stand-ins for the
-//! interpreter that put every call as a question to a script.
+//! The Rust under comparison over stand-ins for the interpreter that put every call as a question to a script.
 //!
-//! Each file of the Rust is a module here, with a `view` beside it that may look at its private parts. `host`, `pack` and
-//! `standins` are what the Rust reaches for outside its own files.
+//! `files` are its own files, `opening` opens it. `host` (with `parts`), `pack` and `standins` are what the Rust reaches
+//! for outside its own files. But for `host`, `run` and `script`, the program `bench` compiles the same once more.
 #![allow(clippy::all)]
 
 pub mod constants;
+// As bench takes it: the views lie beside it.
+#[path = "files.rs"]
+mod files;
 pub mod host;
+pub mod opening;
 pub mod pack;
+pub mod parts;
 pub mod run;
 pub mod script;
 pub mod standins;
 
-#[allow(dead_code)]
-pub mod config {
-    use crate::oracle::standins::{compiler, mio};
-    include!(concat!(env!("OUT_DIR"), "/config.rs"));
-}
-
-#[allow(dead_code)]
-pub mod pool {
-    include!(concat!(env!("OUT_DIR"), "/pool.rs"));
-}
-
-#[allow(dead_code)]
-pub mod server {
-    include!(concat!(env!("OUT_DIR"), "/server.rs"));
-    pub mod view;
-}
-
-#[allow(dead_code, unused_imports)]
-pub mod actor {
-    use crate::oracle::standins::compiler;
-    include!(concat!(env!("OUT_DIR"), "/actor.rs"));
-    pub mod view;
-}
-
-#[allow(dead_code)]
-pub mod scheduler {
-    use crate::oracle::standins::{anyhow, compiler};
-    include!(concat!(env!("OUT_DIR"), "/scheduler.rs"));
-    pub mod view;
-}
+pub use files::*;

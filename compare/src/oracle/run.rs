@@ -1,19 +1,18 @@
 //! Runs the Rust over a file and a trace.
-use super::config::{ActorConfig, Group, Out};
-use super::scheduler::Scheduler;
+use super::host;
+use super::opening::{self, Opened};
 use super::script::{self, Script, Stopped};
-use super::server::{self, Stats, Wal};
-use super::{constants, host};
+use super::server::Stats;
 use crate::met;
 use crate::met::{Counting, counting};
-use crate::model::pool::{GroupSetting, Settings};
+use crate::model::pool::Settings;
 use crate::trace::{Event, Trace};
 use std::cell::Cell;
 use std::panic::{self, AssertUnwindSafe};
 use std::path::Path;
 use std::rc::Rc;
+use std::sync::Arc;
 use std::sync::mpsc::channel;
-use std::sync::{Arc, Mutex};
 
 thread_local! {
     static RUNNING: Cell<bool> = const { Cell::new(false) };
@@ -48,18 +47,12 @@ pub fn run(settings: &Settings, file: &[u8], trace: &Trace, path: &Path) -> Resu
 }
 
 fn over(settings: &Settings, file: &[u8], trace: &Trace, path: &Path) {
-    constants::set(settings);
     host::reset();
     std::fs::write(path, file).expect("the log's file is written");
-    let (wal, recovered) = Wal::open(path).expect("the Rust opens its log");
-    let wal = Arc::new(Mutex::new(wal));
-    let (inbox, intake) = server::inbox(wal.clone());
-    let intake = Rc::new(intake);
-    let groups = settings.groups.iter().enumerate().map(|(number, group)| group_of(number, group)).collect();
-    let config = ActorConfig { groups, max_actors: settings.max_actors };
-    let mut pool = Scheduler::new(config, host::Runtime::new().ok().unwrap()).unwrap();
     let stats = Arc::new(Stats::default());
-    pool.begin(recovered, wal.clone(), stats.clone());
+    let dir = |number| format!("{number}/");
+    let Opened { scheduler: mut pool, inbox, intake, wal } = opening::open(settings, path, dir, Some(stats.clone()));
+    let intake = Rc::new(intake);
     let (to, told) = channel();
     script::set(Some(Script {
         events: trace.events.clone().into_iter(),
@@ -84,23 +77,5 @@ fn over(settings: &Settings, file: &[u8], trace: &Trace, path: &Path) {
         first = false;
         let end = Event::TurnEnd { busy, waiters, pool: pool.view(&stats), log: script::log_now() };
         script::must_be(end, "a turn's end");
-    }
-}
-
-fn group_of(number: usize, setting: &GroupSetting) -> Group {
-    Group {
-        name: String::from_utf8(setting.name.clone()).expect("a name inside the domain"),
-        source: String::new(),
-        dir: format!("{number}/"),
-        manifest: None,
-        replicas: setting.replicas,
-        limits: Default::default(),
-        preempt: 0,
-        out: Out::Null,
-        eval: setting.eval,
-        timeout: setting.timeout,
-        ceiling: Vec::new(),
-        retry: setting.retry as usize,
-        inbox: Vec::new(),
     }
 }

@@ -1,11 +1,10 @@
 //! docs/PROTOCOL.md as a plain program: what `replay` must make of any bytes. The pool is 01 as a plain program; what it
 //! does not decide (the rows of the tables, which entry of the store a text has) is left open.
-use super::judge::shown;
 use crate::limits::{NAME_MAX, refusal};
 use crate::model::log;
 use crate::model::log::CallerId;
 use crate::model::pool::{self, Call, GroupSetting, Pool, Reply, Settings, Status};
-use crate::output::Answer;
+use crate::output::{Answer, Shown};
 use crate::port::{LENGTHS, MALFORMED, NO_ROOM, OK};
 use crate::script::{SHOW_LOG, SHOW_STORE, SHOW_TABLES};
 use crate::wire::{NUMBER, Reader, put};
@@ -78,7 +77,7 @@ impl Pour {
             }
         }
         self.numbers(&numbers);
-        match pool.and_then(|pool| shown(answer, pool)) {
+        match pool.and_then(|pool| Shown::of(answer, pool)) {
             None => self.numbers(&[0]),
             Some(shown) => {
                 self.numbers(&[1, shown.name.len() as u64, shown.body.len() as u64]);

@@ -4,10 +4,10 @@ use super::state::Sides;
 use crate::lent::{Lent, STORE_FILL};
 use crate::limits::{STORE, STORE_BODY, STORE_ENTRY};
 use crate::model::log;
-use crate::model::pool::{self, Call, Pool, Question, Reply};
+use crate::model::pool::{self, Call, Pool, Reply};
 use crate::output::{Answer, Entry, Output, Shown};
 use crate::tables::{Tables, list};
-use crate::tally::Tally;
+use crate::tally::{Tally, same};
 use crate::wire::NUMBER;
 
 /// What was met, for the report.
@@ -113,7 +113,7 @@ pub fn list(lent: &mut Lent, list: &List, show: u64, seen: &mut Seen) -> Result<
 /// An entry's answer, message, counters, counts, log and tables.
 fn entry(found: &Entry, answer: &pool::Answer, pool: &Pool) -> Result<(), String> {
     same("answer", found.answer, Answer::of(answer))?;
-    same("message", found.shown, shown(answer, pool))?;
+    same("message", found.shown, Shown::of(answer, pool))?;
     let counters = &pool.counters;
     let file = &pool.log[..counters.size];
     same("next", found.next, counters.next)?;
@@ -131,17 +131,6 @@ fn entry(found: &Entry, answer: &pool::Answer, pool: &Pool) -> Result<(), String
         Some(tables) => Sides { tables, store: found.store, pool }.compare(),
         None => Ok(()),
     }
-}
-
-/// The message that the plain program's answer shows.
-pub fn shown<'a>(answer: &pool::Answer, pool: &'a Pool) -> Option<Shown<'a>> {
-    let pool::Answer::Open(Some(question)) = answer else { return None };
-    let message = match question {
-        Question::Push { message, .. } => Some(*message),
-        Question::Run { source, .. } => *source,
-        _ => None,
-    };
-    message.map(|message| Shown { name: pool.name(message), body: pool.body(message) })
 }
 
 /// An entry's bytes without its answer and the message that it shows: the counters, then log, tables and store.
@@ -203,8 +192,4 @@ fn only_one_entry(tables: &Tables, old: &[u8], new: &[u8], (name, body): (&[u8],
     } else {
         Err("the store is not the old one with the text in an entry that was free".into())
     }
-}
-
-fn same<T: PartialEq + std::fmt::Debug>(what: &str, found: T, expected: T) -> Result<(), String> {
-    if found == expected { Ok(()) } else { Err(format!("{what}: {found:?}, not {expected:?}")) }
 }

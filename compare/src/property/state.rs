@@ -1,9 +1,9 @@
 //! The tables that the port shows beside the plain program's state: every list of messages, by what the messages are
 //! (which entry of the store one has is free), every actor, and the lists of keys.
 use crate::limits::MESSAGES;
-use crate::model::log;
-use crate::model::pool::{Actor, Pool};
-use crate::tables::{ActorRow, MessageRow, OpenRecord, Tables, list, slot, text};
+use crate::model::pool::Pool;
+use crate::tables::{ActorRow, MessageRow, OpenRecord, Tables, group_row, list, slot, text};
+use crate::tally::same;
 
 /// A message wherever it lies: attempts, caller, id, and its text where the store is shown.
 #[derive(PartialEq, Eq, Debug)]
@@ -50,10 +50,7 @@ impl<'a> Sides<'a> {
     /// The table of open records says what the log's bytes say.
     fn records(&self) -> Result<(), String> {
         let file = &self.pool.log[..self.pool.counters.size];
-        let expected: Vec<OpenRecord> = log::open_records(file)
-            .into_iter()
-            .map(|(id, from, to)| OpenRecord { id: id.0, at: from as u64, length: (to - from) as u64 })
-            .collect();
+        let expected = OpenRecord::all(file);
         same("the table of open records", self.tables.records(expected.len() as u64), expected)
     }
 
@@ -68,35 +65,14 @@ impl<'a> Sides<'a> {
     }
 
     fn expected(&self, entry: usize) -> Message<'a> {
-        let message = self.pool.message(entry);
-        let row = MessageRow {
-            attempts: message.attempts,
-            name_len: message.name_len as u64,
-            body_len: message.body_len as u64,
-            caller: message.caller.map(|caller| caller.0),
-            id: message.id.map(|id| id.0),
-        };
+        let row = MessageRow::of(self.pool.message(entry));
         Message { row, text: self.store.map(|_| (self.pool.name(entry), self.pool.body(entry))) }
     }
 
     fn group(&self, group: usize) -> Result<(), String> {
-        let setting = &self.pool.settings.groups[group];
         let state = &self.pool.groups[group];
         let tables = &self.tables;
-        let row = tables.group(group);
-        let mut expected = [0; 37];
-        let name = &setting.name;
-        let ceiling = self.pool.settings.ceiling(group) as u64;
-        expected[..5].copy_from_slice(&[
-            ceiling,
-            setting.eval as u64,
-            setting.timeout,
-            setting.retry,
-            name.len() as u64,
-        ]);
-        name.iter().zip(&mut expected[5..]).for_each(|(byte, cell)| *cell = u64::from(*byte));
-        same(&format!("group {group}"), row, expected)?;
-
+        same(&format!("group {group}"), tables.group(group), group_row(&self.pool.settings, group))?;
         let keys = |keys: &[u8]| keys.iter().map(|key| usize::from(*key)).collect::<Vec<_>>();
         let plain = |keys: &std::collections::VecDeque<usize>| keys.iter().copied().collect::<Vec<_>>();
         same(&format!("keys given of group {group}"), usize::from(tables.given(group)), state.actors.slots.len())?;
@@ -111,28 +87,9 @@ impl<'a> Sides<'a> {
         let actor = self.pool.groups[group].actors.get(key).unwrap();
         let what = |part: &str| format!("{part} of actor {group}.{key} (slot {})", slot(group, key));
         let eval = self.pool.settings.groups[group].eval;
-        same(&what("the row"), self.tables.actor(group, key), actor_row(actor, eval))?;
+        same(&what("the row"), self.tables.actor(group, key), ActorRow::of(actor, eval))?;
         self.list(&what("mailbox"), list::mailbox(group, key), actor.mailbox.iter().copied())?;
         let hand = actor.in_flight.or(actor.run.as_ref().map(|run| run.message));
         self.list(&what("hands"), list::hand(group, key), hand.into_iter())
     }
-}
-
-fn actor_row(actor: &Actor, eval: bool) -> ActorRow {
-    ActorRow {
-        eval,
-        started: actor.started,
-        ran: actor.ran,
-        idle: actor.idle,
-        runnable: actor.runnable,
-        scheduled: actor.scheduled,
-        blocked: actor.blocked,
-        consumed: actor.consumed,
-        wake_at: actor.wake_at,
-        run: actor.run.as_ref().map(|run| run.deadline),
-    }
-}
-
-fn same<T: PartialEq + std::fmt::Debug>(what: &str, found: T, expected: T) -> Result<(), String> {
-    if found == expected { Ok(()) } else { Err(format!("{what}: {found:?}, not {expected:?}")) }
 }

@@ -4,6 +4,7 @@
 use super::decoder::{Expected, expected};
 use super::list::{List, Opening, Size};
 use super::{files, settings, texts};
+use crate::lent::{LOG_FILL, STORE_FILL};
 use crate::limits::{LOG_MAX, LOG_MIN, STORE};
 use crate::port;
 use crate::rng::Rng;
@@ -14,9 +15,7 @@ use crate::wire::NUMBER;
 /// Stands round every lent slice.
 const GUARD: u8 = 0xA7;
 const GUARDS: usize = 64;
-/// What stands in the slices before a run.
-const LOG: u8 = 0xEE;
-const STORE_BYTE: u8 = 0xCC;
+/// What stands in the output before a run.
 const OUT: u8 = 0x5A;
 /// The longest slice that is lent here.
 const LONGEST: usize = 100_000;
@@ -87,8 +86,8 @@ impl Guarded {
 impl Wild {
     /// One script, in lent slices of the lengths that it names, or of others, and in an output of any length.
     fn script(&mut self, script: &[u8], rng: &mut Rng) -> Result<(), String> {
-        let log = vec![LOG; lent_length(script, 2, rng, LOG_MAX)];
-        let store = vec![STORE_BYTE; lent_length(script, 3, rng, STORE)];
+        let log = vec![LOG_FILL; lent_length(script, 2, rng, LOG_MAX)];
+        let store = vec![STORE_FILL; lent_length(script, 3, rng, STORE)];
         let mut expects = expected(script, &log, &store, usize::MAX);
         let room = match rng.below(8) {
             0 => rng.below(2 * NUMBER as u64) as usize,

@@ -1,38 +1,19 @@
-//! The Rust, as its files stand (the build takes them from where they lie), over stand-ins that only answer.
-#![allow(clippy::all)]
+//! The Rust as the comparison has it, of which a part is used here, over a host and a script that only answer.
+#![allow(clippy::all, dead_code)]
 
-#[path = "constants.rs"]
+#[path = "../../oracle/constants.rs"]
 pub mod constants;
-#[path = "script.rs"]
+#[path = "../../oracle/files.rs"]
+mod files;
+pub mod host;
+#[path = "../../oracle/opening.rs"]
+pub mod opening;
+#[path = "../../oracle/pack.rs"]
+pub mod pack;
+#[path = "../../oracle/parts.rs"]
+pub mod parts;
 pub mod script;
-#[path = "standins.rs"]
+#[path = "../../oracle/standins.rs"]
 pub mod standins;
 
-#[allow(dead_code)]
-pub mod config {
-    use crate::oracle::standins::{compiler, mio};
-    include!(concat!(env!("OUT_DIR"), "/config.rs"));
-}
-
-#[allow(dead_code)]
-pub mod pool {
-    include!(concat!(env!("OUT_DIR"), "/pool.rs"));
-}
-
-#[allow(dead_code)]
-pub mod server {
-    include!(concat!(env!("OUT_DIR"), "/server.rs"));
-}
-
-#[allow(dead_code, unused_imports)]
-pub mod actor {
-    use crate::oracle::standins::compiler;
-    include!(concat!(env!("OUT_DIR"), "/actor.rs"));
-}
-
-#[allow(dead_code)]
-pub mod scheduler {
-    use crate::oracle::standins::{anyhow, compiler};
-    include!(concat!(env!("OUT_DIR"), "/scheduler.rs"));
-    mod turns;
-}
+pub use files::*;

@@ -1,18 +1,7 @@
 //! The replies to the Rust's questions, in order. Nothing is compared.
 use super::config::Message;
+use crate::model::pool::Reply;
 use std::cell::RefCell;
-
-/// How a run came back, as the list has it.
-pub use compare::model::pool::Status as Ran;
-
-pub enum Reply {
-    Yes(bool),
-    Clock(u64),
-    Count(usize),
-    Ran(Ran),
-    Send(String, String),
-    End,
-}
 
 thread_local! {
     static REPLIES: RefCell<std::vec::IntoIter<Reply>> = RefCell::new(Vec::new().into_iter());

@@ -15,7 +15,7 @@ pub struct Message {
 }
 
 /// An eval run between or inside steps.
-#[derive(Clone, PartialEq, Eq, Debug)]
+#[derive(Clone, PartialEq, Eq, Debug, Default)]
 pub struct EvalRun {
     pub message: Entry,
     pub deadline: u64,
@@ -23,9 +23,10 @@ pub struct EvalRun {
     pub vm: u64,
 }
 
+/// An actor over its messages and its eval run; the comparison has others in their places.
 #[derive(Clone, PartialEq, Eq, Debug, Default)]
-pub struct Actor {
-    pub mailbox: VecDeque<Entry>,
+pub struct Actor<M = Entry, R = EvalRun> {
+    pub mailbox: VecDeque<M>,
     pub started: bool,
     pub ran: bool,
     pub idle: bool,
@@ -33,9 +34,9 @@ pub struct Actor {
     pub scheduled: bool,
     pub wake_at: Option<u64>,
     pub blocked: bool,
-    pub in_flight: Option<Entry>,
+    pub in_flight: Option<M>,
     pub consumed: bool,
-    pub run: Option<EvalRun>,
+    pub run: Option<R>,
     /// For the comparison: the number of its Boot (fixed only).
     pub vm: u64,
 }

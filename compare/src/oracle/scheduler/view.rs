@@ -8,10 +8,10 @@ use std::sync::{Arc, Mutex};
 
 impl Scheduler {
     /// As its serving begins: the left messages are pending.
-    pub fn begin(&mut self, recovered: Vec<Message>, wal: Arc<Mutex<Wal>>, stats: Arc<Stats>) {
+    pub fn begin(&mut self, recovered: Vec<Message>, wal: Arc<Mutex<Wal>>, stats: Option<Arc<Stats>>) {
         self.pending.extend(recovered);
         self.wal = Some(wal);
-        self.set_stats(Some(stats));
+        self.set_stats(stats);
     }
 
     /// One round of its serving, up to the test of busy; the first seeds before it. Gives busy and waiters.
