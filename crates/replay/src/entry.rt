@@ -1,7 +1,7 @@
 // An entry of the output: the answer and the counters; the message that the answer shows; and, as far as they are asked for, the log, the tables and the store.
 ghost use mathlib.Core.Path.{_≡_};
 ghost use lib.ListN.{take, drop};
-ghost use Rattle.replay.specs.Entry.{entryNumbers, baseOf, pourTexts, nameIn, bodyIn, pourMessage, pourLog, pourTables, pourStore, pourSaid, pourEntry};
+ghost use Rattle.replay.specs.Entry.{entryNumbers, baseOf, pourTexts, pourMessage, pourLog, pourTables, pourStore, pourEntry};
 ghost use Rattle.wire.specs.Pour.{pour};
 ghost use Rattle.wire.specs.Number.{numbers};
 use crate::said;
