@@ -1,7 +1,8 @@
 -- What the log reader makes of a log.
+use mathlib.Core.Path.{_≡_}
 use mathlib.Core.List.{List, [], _∷_}
 use Prim.Native.Nat.{ℕ}
-use lib.ListN.{replicate}
+use lib.ListN.{length, replicate}
 use Rattle.log.specs.Log.{numberOf}
 use Rattle.log.specs.Opened.{Opened, openOf}
 use Rattle.log.specs.declared.Order.the-variants.{Append, Replace, Flush}
@@ -28,3 +29,10 @@ freshly log n = openOf log n (replicate 40960 0) (replicate 256 (0 ∷ 0 ∷ 0 �
 
 abbrev pub reopenOf : List ℕ → ℕ → Reopening
 reopenOf log n = record { log = freshly log n .log; answer = answerOf (freshly log n .step .answer) }
+
+-- an answer that opening gives of a log of 65,536 bytes, whatever was read into it
+pub record OfSomeFile (r : Reopened) : Type 0 where
+  pub log : List ℕ
+  pub n : ℕ
+  pub long : length log ≡ 65536
+  pub is : r ≡ reopenOf log n .answer

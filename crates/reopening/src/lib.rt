@@ -1,7 +1,8 @@
 // The log reader: opens a log of 65,536 bytes, with a store and tables of its own, and gives the new log or the number of the refusal.
 // `reopen` is that on a slice (specs/Reopened); `reopen_fd` reads the file from a descriptor and prints the outcome.
 ghost use mathlib.Core.Path.{_≡_};
-ghost use Rattle.reopening.specs.Reopened.{reopenOf, answerOf};
+ghost use lib.ListN.{length};
+ghost use Rattle.reopening.specs.Reopened.{reopenOf, answerOf, OfSomeFile};
 use libc::STDOUT_FILENO;
 use log::Answer;
 use log::Order;
@@ -55,17 +56,22 @@ fn print(log: &[u8], r: Reopened) {
     }
 }
 
-// Reads a file into a space of one byte more than the log has, so that a longer file is seen.
-fn reopen_in(space: &mut [u8], fd: i32) {
+// Reads a file into a space of one byte more than the log has, so that a longer file is seen, and prints the outcome.
+fn reopen_in(space: &mut [u8], fd: i32) -> Reopened
+    requires { ⌜ length (now space) ≡ 65537 ⌝ }
+    ensures { λ r. ⌜ OfSomeFile r ⌝ }
+{
     let n = io::read_full(fd, space);
-    if 65536 < space.len() {
-        let r = reopen(&mut space[..65536], n);
-        print(space, r);
-    }
+    let r = reopen(&mut space[..65536], n);
+    print(space, r);
+    r
 }
 
-// Reads a file of at most 65,536 bytes and prints the new log, or `refused=N`; a longer one is refused, since the log cannot hold it.
-pub fn reopen_fd(fd: i32) {
+// Reads a file of at most 65,536 bytes, prints the new log, or `refused=N`, and says which; a longer one is refused, since the log cannot hold it. C's `read` promises no
+// bytes, so all that can be said is that some bytes were reopened.
+pub fn reopen_fd(fd: i32) -> Reopened
+    ensures { λ r. ⌜ OfSomeFile r ⌝ }
+{
     let mut space = [0u8; 65537];
-    reopen_in(&mut space, fd);
+    reopen_in(&mut space, fd)
 }

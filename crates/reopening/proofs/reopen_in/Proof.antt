@@ -1,8 +1,8 @@
--- The log is all but the last byte of the space.
-use mathlib.Core.Path.{sym}
-use native.Mathlib.Omega.{arith}
-use borrow.Author.Needs.{needs}
+-- The log is all but the last byte of the space; what was read into it is some bytes.
 use lib.Seq.{length-take-le}
+use native.Mathlib.Omega.{arith}
+use mathlib.Core.Path.{sym, ap}
+use borrow.Author.Needs.{needs}
 use Rattle.reopening.proofs.reopen_in.Statement.{statement}
 use Rattle.reopening.proofs.reopen_in.Tie as tie
 
@@ -13,10 +13,7 @@ slice-relend-prefix-reopen : tie.Need-slice-relend-prefix-reopen
 slice-relend-prefix-reopen c = search needs
 
 slice-aggregate-reopen : tie.Need-slice-aggregate-reopen
-slice-aggregate-reopen c =
-    let read-full = c .before .before .before .before .read-full in
-    let if1 = c .before .if1 in
-    sym (length-take-le 65536 (read-full .last .1 .0) (omega (arith, if1 .taken)))
+slice-aggregate-reopen c = sym (length-take-le 65536 (c .before .before .before .read-full .last .1 .0) (omega (arith, c .before .before .before .before .before .before .pre, c .before .before .before .read-full .kept .1 .0)))
 
 reopen-requires : tie.Need-reopen-requires
 reopen-requires c κs = search needs
@@ -28,13 +25,7 @@ same-length : tie.Need-same-length
 same-length c = search needs
 
 returns : tie.Need-returns
-returns c = search needs
-
-same-length-2 : tie.Need-same-length-2
-same-length-2 c = search needs
-
-returns-2 : tie.Need-returns-2
-returns-2 c = search needs
+returns c = record { log = _; n = _; long = length-take-le 65536 (c .before .before .before .before .before .before .before .before .read-full .last .1 .0) (omega (arith, c .before .before .before .before .before .before .before .before .before .before .before .pre, c .before .before .before .before .before .before .before .before .read-full .kept .1 .0)); is = ap (λ x. x .answer) (c .before .before .before .before .reopen .ensures) }
 
 pub reopen-in-spec : {M : Type 1} → statement M
 reopen-in-spec =
@@ -46,6 +37,4 @@ reopen-in-spec =
     reopen-requires
     print-requires
     same-length
-    returns
-    same-length-2
-    returns-2)
+    returns)
