@@ -1,1 +1,3 @@
 -- Laws of the door.
+pub mod Local
+pub mod AdmitLaws

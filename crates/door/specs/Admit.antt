@@ -66,6 +66,21 @@ loggedBy p store t rows name body d (logged.Ordered o) = inboxed p d o (keepOf s
 loggedBy p store t rows name body d logged.Nothing = turnedAway p (d .wal .bytes) (d .wal .table) store t rows refusal.NoRoom
 loggedBy p store t rows name body d (logged.Refused r) = turnedAway p (d .wal .bytes) (d .wal .table) store t rows (logRefusal r)
 
+-- the same without the log: what becomes of the message by the log's answer and the counters after it
+pub record Answered : Type 0 where
+  pub store : List ℕ
+  pub links : Table
+  pub rows : Table
+  pub told : Told
+
+abbrev pub answeredIn : Pool → Counters → Order → Kept → Answered
+answeredIn p n o k = record { store = k .store; links = k .links; rows = k .rows; told = shown (withDisk p n (disk.Waits o what.Record)) (k .links) (k .rows) }
+
+abbrev pub answeredOf : Pool → Counters → of-log.Answer → List ℕ → Table → Table → List ℕ → List ℕ → Answered
+answeredOf p n (logged.Ordered o) store t rows name body = answeredIn p n o (keepOf store t rows name body caller.Nobody (id.As (nextId (p .turn .log))) INBOX)
+answeredOf p n logged.Nothing store t rows name body = record { store = store; links = t; rows = rows; told = refusedBy p refusal.NoRoom }
+answeredOf p n (logged.Refused r) store t rows name body = record { store = store; links = t; rows = rows; told = refusedBy p (logRefusal r) }
+
 abbrev pub loggedDid : Pool → List ℕ → Table → Table → List ℕ → List ℕ → Did → Admitted
 loggedDid p store t rows name body d = loggedBy p store t rows name body d (d .answer)
 

@@ -1,6 +1,6 @@
 // A message from outside: logged if nobody waits for its outcome, then queued in the inbox.
 ghost use mathlib.Core.Path.{_≡_};
-ghost use Rattle.door.specs.Admit.{admitCheck, admitLogged, admitFit, admitFree, admitOf};
+ghost use Rattle.door.specs.Admit.{admitCheck, answeredOf, admitLogged, admitFit, admitFree, admitOf};
 use actor::message::Caller;
 use actor::message::Logged;
 use front::state;
@@ -8,6 +8,7 @@ use front::state::Check;
 use front::state::Pool;
 use front::state::Refusal;
 use front::state::Told;
+use log::Counters;
 use log::LogId;
 use log::wal;
 use setup::entry;
@@ -40,7 +41,52 @@ fn admit_check(pool: Pool, links: &[[u64; 4]], name: usize, body: usize) -> Chec
     }
 }
 
-// Logged under the next id, then in the inbox.
+// What the log answered, acted on: in the inbox under the id that was the next, with the counters as they are now; or turned away.
+fn admit_answered(
+    pool: Pool,
+    counters: Counters,
+    answer: log::Answer,
+    store: &mut [u8],
+    links: &mut [[u64; 4]],
+    rows: &mut [[u64; 7]],
+    name: &[u8],
+    body: &[u8],
+) -> Told
+    ensures { λ r. ⌜ record { store = now (store .exit); links = now (links .exit); rows = now (rows .exit); told = r } ≡ answeredOf pool counters answer (now (store .entry)) (now (links .entry)) (now (rows .entry)) (now (name .entry)) (now (body .entry)) ⌝ }
+{
+    match answer {
+        log::Answer::Ordered(order) => {
+            let turn = pool.turn;
+            let before = turn.log;
+            let id = LogId(before.next);
+            entry::keep(
+                store,
+                links,
+                rows,
+                name,
+                body,
+                Caller::Nobody,
+                Logged::As(id),
+                lists::INBOX,
+            );
+            let disk = Disk::Waits(order, What::Record);
+            let p = state::with_disk(pool, counters, disk);
+            state::shown_now(p, links, rows)
+        }
+        log::Answer::Nothing => state::refused(pool, Refusal::NoRoom),
+        log::Answer::Refused(r) => state::refused(pool, state::log_refusal(r)),
+    }
+}
+
+// The log's counters, as the pool has them.
+fn counters_of(pool: Pool) -> Counters
+    ensures { λ r. ⌜ r ≡ pool .turn .log ⌝ }
+{
+    let turn = pool.turn;
+    turn.log
+}
+
+// Logged under the next id, then in the inbox: the log changes the pool's counters, lent to it by `&mut`.
 fn admit_logged(
     pool: Pool,
     log: &mut [u8],
@@ -53,31 +99,9 @@ fn admit_logged(
 ) -> Told
     ensures { λ r. ⌜ record { bytes = now (log .exit); records = now (records .exit); store = now (store .exit); links = now (links .exit); rows = now (rows .exit); told = r } ≡ admitLogged pool (now (log .entry)) (now (records .entry)) (now (store .entry)) (now (links .entry)) (now (rows .entry)) (now (name .entry)) (now (body .entry)) ⌝ }
 {
-    let turn = pool.turn;
-    let counters = turn.log;
-    let id = LogId(counters.next);
-    let s = wal::append(log, records, counters, name, body);
-    let more = s.counters;
-    let answer = s.answer;
-    match answer {
-        log::Answer::Ordered(order) => {
-            entry::keep(
-                store,
-                links,
-                rows,
-                name,
-                body,
-                Caller::Nobody,
-                Logged::As(id),
-                lists::INBOX,
-            );
-            let disk = Disk::Waits(order, What::Record);
-            let p = state::with_disk(pool, more, disk);
-            state::shown_now(p, links, rows)
-        }
-        log::Answer::Nothing => state::refused(pool, Refusal::NoRoom),
-        log::Answer::Refused(r) => state::refused(pool, state::log_refusal(r)),
-    }
+    let mut counters = counters_of(pool);
+    let answer = wal::append_in(&mut counters, log, records, name, body);
+    admit_answered(pool, counters, answer, store, links, rows, name, body)
 }
 
 // A caller's message is not logged.

@@ -2,3 +2,8 @@
 pub mod Routing
 pub mod Ticking
 pub mod Turn
+pub mod Living
+pub mod LivingSteps
+pub mod LivingRouting
+pub mod LivingTicking
+pub mod LivingTurn

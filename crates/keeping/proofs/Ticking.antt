@@ -69,10 +69,10 @@ calm-ok (at.WakePoll g k clock left) t calm = calm
 calm-ok (at.Ready g clock pops) t calm = calm
 calm-ok (at.Fixed c a) t calm = absurd calm
 calm-ok (at.Eval c a) t calm = absurd calm
-calm-ok (at.StepEnd c s) t calm = calm
-calm-ok (at.Sends c s) t calm = calm
-calm-ok (at.Settle c s) t calm = calm
-calm-ok (at.Crash c) t calm = calm
+calm-ok (at.StepEnd c s) t calm = absurd calm
+calm-ok (at.Sends c s) t calm = absurd calm
+calm-ok (at.Settle c s) t calm = absurd calm
+calm-ok (at.Crash c) t calm = absurd calm
 calm-ok (at.AskTrap c) t calm = calm
 calm-ok (at.Trap c) t calm = calm
 calm-ok (at.Trapped c k) t calm = calm
@@ -206,13 +206,13 @@ ready-ok t keys actors q b g clock pops =
 
 -- ---- a step ends
 
-end-calm : (c : Cursor) (s : Step) (m : Mode) → Calm (settling.endBy c s m)
-end-calm c s mode.Fixed = omega arith
-end-calm c s mode.Eval = omega arith
+end-ok : (t : Table) (c : Cursor) (s : Step) (m : Mode) → AtOk (settling.endBy c s m) t
+end-ok t c s mode.Fixed = omega arith
+end-ok t c s mode.Eval = omega arith
 
-pub step-end-calm : (actors : Table) (c : Cursor) (s : Step) → Calm (stepEnd actors c s)
+pub step-end-ok : (t actors : Table) (c : Cursor) (s : Step) → AtOk (stepEnd actors c s) t
 unfolding stepEnd
-step-end-calm actors c s = end-calm c s (actorAt actors (slotOn c) .mode)
+step-end-ok t actors c s = end-ok t c s (actorAt actors (slotOn c) .mode)
 
 let-go-keeps : (t rows : Table) (slot : ℕ) (consumed : Bool) (q : ℕ) → Sound t rows q
     → Keeps t rows (settling.letGo t rows slot consumed q .links) rows (settling.letGo t rows slot consumed q .queued)
@@ -234,13 +234,13 @@ settle-keeps t rows keys actors c (end.Blocked until) q sound = same-keeps t row
 settle-keeps t rows keys actors c end.Yield q sound = same-keeps t rows q sound
 settle-keeps t rows keys actors c end.Failed q sound = release-keeps t rows keys actors c q sound
 
-pub settle-calm : (t rows keys actors : Table) (c : Cursor) (s : Step) (q : ℕ) → Calm (settleOf t rows keys actors c s q .settled .at)
+pub settle-ok : (r t rows keys actors : Table) (c : Cursor) (s : Step) (q : ℕ) → AtOk (settleOf t rows keys actors c s q .settled .at) r
 unfolding settleOf
-settle-calm t rows keys actors c end.Done q = omega arith
-settle-calm t rows keys actors c end.Waiting q = omega arith
-settle-calm t rows keys actors c (end.Blocked until) q = omega arith
-settle-calm t rows keys actors c end.Yield q = omega arith
-settle-calm t rows keys actors c end.Failed q = omega arith
+settle-ok r t rows keys actors c end.Done q = omega arith
+settle-ok r t rows keys actors c end.Waiting q = omega arith
+settle-ok r t rows keys actors c (end.Blocked until) q = omega arith
+settle-ok r t rows keys actors c end.Yield q = omega arith
+settle-ok r t rows keys actors c end.Failed q = omega arith
 
 -- ---- a message crashed
 

@@ -79,10 +79,10 @@ go-keeps (at.Ready g clock pops) n limits store groups t rows keys actors sound 
     }
 go-keeps (at.Fixed c a) n limits store groups t rows keys actors sound ok = goes-to t rows n sound keys actors (at.Fixed c a) ok
 go-keeps (at.Eval c a) n limits store groups t rows keys actors sound ok = goes-to t rows n sound keys actors (at.Eval c a) ok
-go-keeps (at.StepEnd c s) n limits store groups t rows keys actors sound ok = goes-calm t rows n sound _ _ _ (tick.step-end-calm actors c s)
+go-keeps (at.StepEnd c s) n limits store groups t rows keys actors sound ok = goes-to t rows n sound _ _ _ (tick.step-end-ok t actors c s)
 go-keeps (at.Sends c s) n limits store groups t rows keys actors sound ok = goes-to t rows n sound keys actors (at.Sends c s) ok
 go-keeps (at.Settle c s) n limits store groups t rows keys actors sound ok =
-    calm-goes _ (tick.settle-keeps t rows keys actors c s (n .queued) sound) (tick.settle-calm t rows keys actors c s (n .queued))
+    record { keeps = tick.settle-keeps t rows keys actors c s (n .queued) sound; ok = tick.settle-ok _ t rows keys actors c s (n .queued) }
 go-keeps (at.Crash c) n limits store groups t rows keys actors sound ok =
     calm-goes _ (tick.crash-keeps groups t rows c (n .losses) (n .queued) sound) (omega arith)
 go-keeps (at.AskTrap c) n limits store groups t rows keys actors sound ok = goes-calm t rows n sound keys actors (at.Trap c) (omega arith)
@@ -98,27 +98,27 @@ module _ {t rows : Table} (g : GoneActors) where
   calm-resumes : Keeps t rows (g .links) rows (g .went .counts .queued) → Calm (g .went .at) → ResumeKeeps t rows g
   calm-resumes keeps calm = record { keeps = keeps; ok = tick.calm-ok (g .went .at) (g .links) calm }
 
--- the clock, and the end of what was sent, begin no step of an actor
+-- the clock begins no step of an actor, and nor does the end of what was sent
 clock-calm : (c : ClockIn) → Calm (clockBy c)
 clock-calm (clock.Of ns) = omega arith
 clock-calm clock.Other = omega arith
 
-clock-reply-calm : (r : Reply) → Calm (clockReply r)
+pub clock-reply-calm : (r : Reply) → Calm (clockReply r)
 unfolding clockReply
 clock-reply-calm r = clock-calm (clockIn r)
 
-sends-reply-calm : (c : Cursor) (s : Step) (r : Reply) → Calm (sendsReply c s r)
+sends-reply-ok : (t : Table) (c : Cursor) (s : Step) (r : Reply) → AtOk (sendsReply c s r) t
 unfolding sendsReply
-sends-reply-calm c s reply.Yes = omega arith
-sends-reply-calm c s reply.No = omega arith
-sends-reply-calm c s (reply.Clock ns) = omega arith
-sends-reply-calm c s (reply.Count n) = omega arith
-sends-reply-calm c s (reply.Ran x) = omega arith
-sends-reply-calm c s reply.Message = omega arith
-sends-reply-calm c s reply.End = omega arith
-sends-reply-calm c s reply.Told = omega arith
-sends-reply-calm c s reply.Stored = omega arith
-sends-reply-calm c s reply.Failed = omega arith
+sends-reply-ok t c s reply.Yes = omega arith
+sends-reply-ok t c s reply.No = omega arith
+sends-reply-ok t c s (reply.Clock ns) = omega arith
+sends-reply-ok t c s (reply.Count n) = omega arith
+sends-reply-ok t c s (reply.Ran x) = omega arith
+sends-reply-ok t c s reply.Message = omega arith
+sends-reply-ok t c s reply.End = omega arith
+sends-reply-ok t c s reply.Told = omega arith
+sends-reply-ok t c s reply.Stored = omega arith
+sends-reply-ok t c s reply.Failed = omega arith
 
 -- the next point of a step: it is still of an actor that there can be, or the step ended
 module _ (t : Table) (c : Cursor) (slot-is : slotAt (c .group) (c .key) < 128) where
@@ -177,7 +177,7 @@ resume-keeps (at.Ready g clock pops) n limits groups t rows keys actors r sound 
 resume-keeps (at.Fixed c a) n limits groups t rows keys actors r sound ok = fixed-resumes t rows n sound keys actors c a r ok
 resume-keeps (at.Eval c a) n limits groups t rows keys actors r sound ok = eval-resumes t rows n sound limits groups keys actors c a r ok
 resume-keeps (at.StepEnd c s) n limits groups t rows keys actors r sound ok = resumes-to t rows n sound keys actors (at.StepEnd c s) ok
-resume-keeps (at.Sends c s) n limits groups t rows keys actors r sound ok = resumes-calm t rows n sound keys actors _ (sends-reply-calm c s r)
+resume-keeps (at.Sends c s) n limits groups t rows keys actors r sound ok = resumes-to t rows n sound keys actors _ (sends-reply-ok t c s r)
 resume-keeps (at.Settle c s) n limits groups t rows keys actors r sound ok = resumes-to t rows n sound keys actors (at.Settle c s) ok
 resume-keeps (at.Crash c) n limits groups t rows keys actors r sound ok = resumes-to t rows n sound keys actors (at.Crash c) ok
 resume-keeps (at.AskTrap c) n limits groups t rows keys actors r sound ok = resumes-to t rows n sound keys actors (at.AskTrap c) ok

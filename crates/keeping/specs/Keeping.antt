@@ -6,7 +6,7 @@ use Rattle.group.specs.declared.at.At.the-variants as at
 use Rattle.group.specs.Roster.{slotAt}
 use Rattle.places.specs.Places.{HandFull}
 
--- a point of a turn that is no step of an actor
+-- a point of a turn between the steps of actors: none is under way, and none has ended that is not settled
 abbrev pub Calm : At → Type 0
 Calm at.Rest = 0 ≤ 0
 Calm (at.Seed g) = 0 ≤ 0
@@ -21,10 +21,10 @@ Calm (at.WakePoll g k clock left) = 0 ≤ 0
 Calm (at.Ready g clock pops) = 0 ≤ 0
 Calm (at.Fixed c a) = ⊥
 Calm (at.Eval c a) = ⊥
-Calm (at.StepEnd c s) = 0 ≤ 0
-Calm (at.Sends c s) = 0 ≤ 0
-Calm (at.Settle c s) = 0 ≤ 0
-Calm (at.Crash c) = 0 ≤ 0
+Calm (at.StepEnd c s) = ⊥
+Calm (at.Sends c s) = ⊥
+Calm (at.Settle c s) = ⊥
+Calm (at.Crash c) = ⊥
 Calm (at.AskTrap c) = 0 ≤ 0
 Calm (at.Trap c) = 0 ≤ 0
 Calm (at.Trapped c k) = 0 ≤ 0

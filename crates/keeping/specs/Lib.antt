@@ -1,2 +1,3 @@
 -- Definitions and statements.
 pub mod Keeping
+pub mod Living

@@ -14,6 +14,8 @@ pub mod RowLaws
 pub mod FieldLaws
 pub mod SizeLaws
 pub mod ScanLaws
+pub mod Again
+pub mod PassLaws
 pub mod LeftLaws
 pub mod StoreLaws
 pub mod DecisionLaws

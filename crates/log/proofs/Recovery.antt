@@ -15,7 +15,7 @@ use Rattle.log.specs.declared.Answer.{Answer}
 use Rattle.log.specs.declared.Answer.the-variants.{Ordered, Nothing, Refused}
 use Rattle.log.specs.Opening.{Read, opened, opening, image}
 use Rattle.log.specs.Log.{Wal}
-use Rattle.log.specs.Opened.{sized, openedBy, openOf}
+use Rattle.log.specs.Opened.{Opened, sized, openedBy, openOf}
 use Rattle.log.specs.Recovery.{Call, didCall, Cut, World, waits, Event, run, begin, storedOrder, failedOrder, firmMoment, confirm, replacing, Recovers, Recoverable}
 use Rattle.log.specs.Stands.{Stands, Standing}
 use Rattle.log.proofs.OpenLaws.{sized-all, sized-true, open-accepts, image-fits, opened-long, opened-stands, opened-sent}
@@ -53,6 +53,7 @@ module _ (log : List ℕ) (n : ℕ) (store : List ℕ) (table left : List (List 
 -- a file that opening accepts, and that fits, is accepted in every lent log of the same length
 next-opening : (long : ℕ) (file : List ℕ) (moments : List (List Message)) → 16 ≤ long → long ≤ 65536 → ReadBack long file moments → Recovers long file moments
 next-opening long file moments least most b = record {
+  short = b .short;
   found = b .found;
   among = b .among;
   accepted = λ log store table left is begins st tb lf.
@@ -83,6 +84,10 @@ standing compactAt log n store table left r s ok events =
 -- The bytes at and after the new size keep their value: of an accepted opening, and of every call on such a log.
 pub opening-tail : (log : List ℕ) (ms : List Message) → length (image ms) ≤ length log → drop (length (image ms)) (write log 0 (image ms)) ≡ drop (length (image ms)) log
 opening-tail log ms h = drop-write log 0 (length (image ms)) (image ms) (omega arith) (omega arith)
+
+pub open-tail : (log : List ℕ) (n : ℕ) (store : List ℕ) (table left : List (List ℕ)) (r : Read) → sized (length log) n (length store) (length table) (length left) ≡ true → opening (take n log) ≡ opened r
+    → drop (openOf log n store table left .step .counters .size) (openOf log n store table left .log) ≡ drop (openOf log n store table left .step .counters .size) log
+open-tail log n store table left r s ok = subst (λ (o : Opened). drop (o .step .counters .size) (o .log) ≡ drop (o .step .counters .size) log) (sym (open-accepts log n store table left r s ok)) (opening-tail log (r .left) (image-fits log n store table left r s ok))
 
 pub call-tail : (compactAt : ℕ) (w : Wal) (ms : List Message) (c : Call) → Stands w ms → drop (didCall compactAt w c .wal .counters .size) (didCall compactAt w c .wal .bytes) ≡ drop (didCall compactAt w c .wal .counters .size) (w .bytes)
 call-tail compactAt w ms c s = by (didCall compactAt w c .wal) (didCall compactAt w c .answer) (acts compactAt w ms c s)

@@ -3,7 +3,7 @@ use mathlib.Core.Path.{_≡_}
 use mathlib.Core.Bool.{true, false}
 use mathlib.Core.Logic.{_⊎_}
 use mathlib.Core.List.{List, [], _∷_, _++_, List·Memᴰ}
-use Prim.Native.Nat.{ℕ, _-_}
+use Prim.Native.Nat.{ℕ, _-_, _≤_}
 use lib.ListN.{length, take, drop}
 use Rattle.text.specs.Format.{Message}
 use Rattle.text.specs.Bytes.{part}
@@ -162,10 +162,15 @@ abbrev pub walOf : Opened → Wal
 walOf o = record { bytes = o .log; table = o .table; counters = o .step .counters }
 
 -- the accepted opening of a file, which left these messages, with its replace not yet answered; the file given counts as confirmed
+abbrev pub statusOf : List ℕ → Answer → Status
+statusOf bytes (Ordered o) = waits (sent bytes o)
+statusOf bytes Nothing = settled
+statusOf bytes (Refused r) = settled
+
 unfoldable pub begin : Opened → List ℕ → List Message → World
 begin o file left = record {
   wal = walOf o;
-  disk = record { sure = file; since = []; status = waits (sent (o .log) (Replace (o .step .counters .size))) };
+  disk = record { sure = file; since = []; status = statusOf (o .log) (o .step .answer) };
   moments = left ∷ [];
   now = left;
   firm = 0;
@@ -174,6 +179,7 @@ begin o file left = record {
 -- the next opening of a file, in any lent log of this length that begins with it and with any store and tables of the right sizes, is accepted,
 -- and the messages left, handed back in rising id order, are those of one of the moments
 pub record Recovers (long : ℕ) (file : List ℕ) (moments : List (List Message)) : Type 0 where
+  pub short : length file ≤ long
   pub found : Read
   pub among : List·Memᴰ (found .left) moments
   pub accepted : (log store : List ℕ) (table left : List (List ℕ)) → length log ≡ long → take (length file) log ≡ file → length store ≡ 40960 → length table ≡ 256 → length left ≡ 256

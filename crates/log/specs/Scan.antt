@@ -7,13 +7,16 @@ use Prim.Native.Nat.{ℕ, suc, _+_, _-_, _*_, _^_, _≤_, _<_, max}
 use lib.Dec.{eqb, leb, ltb}
 use lib.ListN.{length, take, drop, getD}
 use Rattle.text.specs.Format.{Message}
-use Rattle.text.specs.Line.{Line, put, done, other, nameOf, bodyOf, lineAt}
-use Rattle.text.specs.Bytes.{write}
+use Rattle.text.specs.Line.{Line, readLine, put, done, other, nameOf, bodyOf, lineAt}
+use Rattle.text.specs.Bytes.{write, part}
 use Rattle.text.specs.declared.escape.Measure.{Measure}
 use Rattle.log.specs.declared.opening.Lengths.{Lengths}
 use Rattle.log.specs.declared.opening.Pass.{Pass}
 use Rattle.log.specs.declared.opening.Taken.{Taken}
 use Rattle.log.specs.declared.opening.Taken.the-variants.{Next, Over}
+use Rattle.log.specs.declared.opening.Passing.{Passing}
+use Rattle.lines.specs.declared.Line as reader
+use Rattle.lines.specs.declared.Line.the-variants.{At, End}
 use Rattle.log.specs.declared.opening.LeftRows.{LeftRows}
 use Rattle.log.specs.declared.opening.LeftRows.the-variants.{NoNext, Many, Rows}
 use Rattle.log.specs.declared.opening.Decision.{Decision}
@@ -83,6 +86,27 @@ LastId other = ⊥
 abbrev pub TookLine : ℕ → Pass → List (List ℕ) → Line → ℕ → Taken → List (List ℕ) → Type 0
 TookLine lo p table l at (Next q) table' = (q .count ≤ length table') × TookNext lo p table l at q table'
 TookLine lo p table l at Over table' = LastId l
+
+-- a pass that has read nothing yet, and whether one goes on after a line
+abbrev pub begun : Passing
+begun = record { taken = Next (record { count = 0; hi = 18446744073709551615; next = 0 }); on = true }
+
+abbrev pub going : Taken → Bool
+going (Next p) = true
+going Over = false
+
+-- what the reader handed back can be taken in, and was
+abbrev pub CanTake : ℕ → List ℕ → List (List ℕ) → Taken → reader.Line → Type 0
+CanTake lo file table (Next p) (At a e) = (p .count ≤ length table) × (0 < length table) × RowsRise lo (passRows p table) (p .hi) × (a ≤ e) × (e ≤ length file)
+CanTake lo file table (Next p) End = Unit {0}
+CanTake lo file table Over (At a e) = Unit {0}
+CanTake lo file table Over End = Unit {0}
+
+abbrev pub TookTurn : ℕ → List ℕ → List (List ℕ) → Taken → reader.Line → Passing → List (List ℕ) → Type 0
+TookTurn lo file table (Next p) (At a e) r table' = TookLine lo p table (readLine (part file a e)) a (r .taken) table' × (r .on ≡ going (r .taken))
+TookTurn lo file table (Next p) End r table' = (r .taken ≡ Next p) × (r .on ≡ false) × (table' ≡ table)
+TookTurn lo file table Over (At a e) r table' = (r .taken ≡ Over) × (r .on ≡ false) × (table' ≡ table)
+TookTurn lo file table Over End r table' = (r .taken ≡ Over) × (r .on ≡ false) × (table' ≡ table)
 
 -- the messages left by ids: below lo, the rows, and from hi on
 pub record Window (file : List ℕ) (lo hi : ℕ) (these : List (List ℕ)) : Type 0 where

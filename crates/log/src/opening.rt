@@ -8,7 +8,7 @@ ghost use Rattle.text.specs.Bytes.{write};
 ghost use Rattle.text.specs.Line.{readLine, nameOf, bodyOf, lineAt};
 ghost use Rattle.log.specs.Opening.{readFile, allFit, image};
 ghost use Rattle.log.specs.Opened.{sized, stored, leftRow, noCounters, openedBy, openOf};
-ghost use Rattle.log.specs.Scan.{messagesOf, RowsRise, PlaceOf, holds, lenOf, Took, passRows, removeRow, TookLine, Scanned, LeftIn, Accepted, Decided, fitLine, fitLeft, fromStore, imaged, lengthsOf};
+ghost use Rattle.log.specs.Scan.{messagesOf, RowsRise, PlaceOf, holds, lenOf, Took, passRows, removeRow, TookLine, CanTake, TookTurn, going, begun, Scanned, LeftIn, Accepted, Decided, fitLine, fitLeft, fromStore, imaged, lengthsOf};
 ghost use Rattle.log.specs.Log.{row};
 ghost use Rattle.log.specs.declared.Answer.the-variants.{Refused};
 use crate::Answer;
@@ -23,7 +23,8 @@ use crate::table::open_row;
 use crate::table::set_row;
 use lines::Line;
 use lines::line_at;
-use lines::turn_from;
+use lines::next;
+use lines::reader;
 use text::escape::Measure;
 use text::escape::copy_field;
 use text::escape::field_fits;
@@ -43,6 +44,12 @@ pub(crate) struct Pass {
 pub(crate) enum Taken {
     Next(Pass),
     Over,
+}
+
+// Where a pass over the file stands: what it has taken in, and whether it goes on.
+pub(crate) struct Passing {
+    pub taken: Taken,
+    pub on: bool,
 }
 
 // The rows of the messages left.
@@ -207,29 +214,64 @@ fn pass_line(rows: &mut [[u64; 3]], p: Pass, lo: u64, line: &[u8], at: usize) ->
     }
 }
 
-// One pass over the file: the rows of the messages left with ids from lo on, as far as the table goes, and the next id.
-fn scan(rows: &mut [[u64; 3]], file: &[u8], lo: u64) -> Taken
-    requires { ⌜ (0 < length (now rows)) × (lo < 2 ^ 64 - 1) ⌝ }
-    ensures { λ r. ⌜ Scanned (now (file .entry)) lo r (now (rows .exit)) ⌝ }
+// A pass that has read nothing yet.
+fn begin() -> Passing
+    ensures { λ r. ⌜ r ≡ begun ⌝ }
 {
-    let mut p = Pass {
+    let none = Pass {
         count: 0,
         hi: 18446744073709551615,
         next: 0,
     };
-    let mut at: usize = 0;
-    loop {
-        let t = turn_from(file, at);
-        let line = t.line;
-        let Line::At(from, to) = line else {
-            return Taken::Next(p);
-        };
-        let Taken::Next(q) = pass_line(rows, p, lo, &file[from..to], from) else {
-            return Taken::Over;
-        };
-        p = q;
-        at = t.at;
+    let taken = Taken::Next(none);
+    Passing { taken, on: true }
+}
+
+fn goes_on(t: Taken) -> bool
+    ensures { λ r. ⌜ r ≡ going t ⌝ }
+{
+    match t {
+        Taken::Next(_) => true,
+        Taken::Over => false,
     }
+}
+
+// What the reader hands back, taken in.
+fn take_line(rows: &mut [[u64; 3]], file: &[u8], lo: u64, s: Passing, line: Line) -> Passing
+    requires { ⌜ CanTake lo (now file) (now rows) (s .taken) line ⌝ }
+    ensures { λ r. ⌜ TookTurn lo (now (file .entry)) (now (rows .entry)) (s .taken) line r (now (rows .exit)) ⌝ }
+{
+    let taken = s.taken;
+    let Taken::Next(p) = taken else {
+        return Passing {
+            taken: Taken::Over,
+            on: false,
+        };
+    };
+    let Line::At(from, to) = line else {
+        let same = Taken::Next(p);
+        return Passing {
+            taken: same,
+            on: false,
+        };
+    };
+    let t = pass_line(rows, p, lo, &file[from..to], from);
+    let on = goes_on(t);
+    Passing { taken: t, on }
+}
+
+// One pass over the file, by one reader: the rows of the messages left with ids from lo on, as far as the table goes, and the next id.
+fn scan(rows: &mut [[u64; 3]], file: &[u8], lo: u64) -> Taken
+    requires { ⌜ (0 < length (now rows)) × (lo < 2 ^ 64 - 1) ⌝ }
+    ensures { λ r. ⌜ Scanned (now (file .entry)) lo r (now (rows .exit)) ⌝ }
+{
+    let mut lines = reader(file, 0);
+    let mut s = begin();
+    while s.on {
+        let line = next(&mut lines);
+        s = take_line(rows, file, lo, s, line);
+    }
+    s.taken
 }
 
 // The rows of the messages left: one pass where the file never has more than 257 open records, else further ones from where the last left off.

@@ -37,6 +37,7 @@ use Rattle.setup.specs.Entry.{Kept, newRow, keepAt, keepFound, keepOf}
 use Rattle.places.specs.Places.{Sound, Desk, Comes}
 use Rattle.places.proofs.Moves.{desk-inbox, comes}
 use Rattle.keeping.specs.Keeping.{AtOk}
+use Rattle.keeping.proofs.Living.{Less, less-lives, at-less, first-less}
 use Rattle.turn.specs.declared.state.What.the-variants as what
 use Rattle.turn.specs.declared.state.Limits.{Limits}
 use Rattle.turn.specs.declared.state.Disk.{Disk}
@@ -45,13 +46,13 @@ use Rattle.front.specs.declared.state.Pool.{Pool}
 use Rattle.front.specs.declared.state.Refusal.the-variants as refusal
 use Rattle.front.specs.declared.state.Check.{Check}
 use Rattle.front.specs.declared.state.Check.the-variants as check
-use Rattle.front.specs.State.{lengthCheck, logRefusal, withDisk}
+use Rattle.front.specs.State.{lengthCheck, logRefusal, withDisk, shown}
 use Rattle.door.specs.Admit as one
 use Rattle.door.specs.Admit.{INBOX, roomCheck}
-use Rattle.rail.specs.Rail.{Call, admit, State, didAdmit, callOf, World, walOf}
+use Rattle.rail.specs.Rail.{Call, admit, State, didAdmit, callOf, World, walOf, orderedFor}
 use Rattle.rail.specs.Invariant.{Agrees, Ledger, Working, still, Steady}
 use Rattle.rail.proofs.Ids.{count-snoc, now-count}
-use Rattle.rail.proofs.After.{workIn, Ends, turned, took, runs-steady, call-sound, shown-rule}
+use Rattle.rail.proofs.After.{workIn, Ends, turned, took, rest-steady, call-sound, shown-rule}
 
 -- ---- the checks
 
@@ -115,6 +116,7 @@ at-kept (at.Doomed c left) t r same ok = ok
 pub record Arrives (a : At) (t rows : Table) (q : ℕ) (id : Logged) (k : Kept) : Type 0 where
   pub comes : Comes t rows (k .links) (k .rows) q id
   pub ok : AtOk a (k .links)
+  pub less : Less t (k .links)
 
 module _ (a : At) (store : List ℕ) (t rows : Table) (q : ℕ) (sound : Sound t rows q) (ok : AtOk a t) (name body : List ℕ) (who : Caller) (id : Logged) (to : ℕ)
     (desk : Desk to) (low : to < HAND) where
@@ -130,6 +132,7 @@ module _ (a : At) (store : List ℕ) (t rows : Table) (q : ℕ) (sound : Sound t
       (record {
         comes = comes t rows q sound to (newRow (length name) (length body) who id) desk (omega (arith, eqb-false (lenOf t FREE) 0 room));
         ok = at-kept a t (moveFirst t FREE to) hand-kept ok;
+        less = first-less t (sound .good) FREE to low;
       })
 
 -- the state with a message more
@@ -153,6 +156,8 @@ unlogged-works long j s k works came = record {
   sound = came .comes .sound;
   ids = λ x. omega (arith, came .comes .more x, works .ids x);
   ok = came .ok;
+  lives = less-lives (s .links) (k .links) (s .keys) (s .actors) (came .less) (works .lives);
+  here = at-less (s .links) (k .links) (came .less) (s .keys) (s .actors) (s .pool .turn .at) (works .here);
   wal = works .wal;
   agrees = works .agrees;
   journal = works .journal;
@@ -210,29 +215,33 @@ recorded-tail v ms name body stands fit =
     (call-tail 0 v ms (disk.append name body) stands)
 
 -- the next id is not logged
-next-new : (j : disk.World) (logged done : List ℕ) (x : ℕ) → Ledger j logged done → x ≡ j .wal .counters .next → count x logged ≡ 0
-next-new j logged done x old is = go (ℕ-discrete (count x logged) 0)
+next-new : (j : disk.World) (top : ℕ) (logged done : List ℕ) (x : ℕ) → Ledger j top logged done → x ≡ j .wal .counters .next → count x logged ≡ 0
+next-new j top logged done x old is = go (ℕ-discrete (count x logged) 0)
   where
     go : Dec (count x logged ≡ 0) → count x logged ≡ 0
     go (yes e) = e
     go (no e) = absurd (omega (arith, old .below x (omega arith)))
 
 -- one id more is logged
-recorded-ledger : (j j′ : disk.World) (logged done : List ℕ) (m : Message) → Ledger j logged done → m .id ≡ j .wal .counters .next
-    → j′ .now ≡ j .now ++ (m ∷ []) → j′ .wal .counters .next ≡ j .wal .counters .next + 1 → Ledger j′ (logged ++ (m .id ∷ [])) done
-recorded-ledger j j′ logged done m old new now next = record {
+recorded-ledger : (j j′ : disk.World) (top : ℕ) (logged done : List ℕ) (m : Message) → Ledger j top logged done → m .id ≡ j .wal .counters .next
+    → j′ .now ≡ j .now ++ (m ∷ []) → j′ .wal .counters .next ≡ j .wal .counters .next + 1 → Ledger j′ (top + 1) (logged ++ (m .id ∷ [])) done
+recorded-ledger j j′ top logged done m old new now next = record {
+  next-is = omega (arith, old .next-is);
   adds = λ x. rw (now, now-count x m (j .now), count-snoc x (m .id) logged) (omega (arith, old .adds x));
   once = λ x. rw (count-snoc x (m .id) logged) (once x (eqb (m .id) x) refl);
   below = λ x some. below x (rw (count-snoc x (m .id) logged) at some) (eqb (m .id) x) refl;
 }
   where
     once : (x : ℕ) (b : Bool) → eqb (m .id) x ≡ b → count x logged + pick (eqb (m .id) x) 1 0 ≤ 1
-    once x true e = rw e (omega (arith, next-new j logged done x old (sym (eqb-true (m .id) x e) ∙ new)))
+    once x true e = rw e (omega (arith, next-new j top logged done x old (sym (eqb-true (m .id) x e) ∙ new)))
     once x false e = rw e (omega (arith, old .once x))
 
     below : (x : ℕ) → 0 < count x logged + pick (eqb (m .id) x) 1 0 → (b : Bool) → eqb (m .id) x ≡ b → x < j′ .wal .counters .next
     below x there true e = omega (arith, eqb-true (m .id) x e)
     below x there false e = omega (arith, old .below x (omega (arith, rw e at there)))
+
+abbrev withNext : World → ℕ → World
+withNext w n = record { state = w .state; journal = w .journal; next = n; logged = w .logged; done = w .done }
 
 -- ---- admit
 
@@ -258,8 +267,8 @@ module _ (long : ℕ) (limits : Limits) (w : World) (steady : Steady long limits
     unfolding one.admitFit
     called-ends who =
         shown-rule (λ told. Ends long limits w c (didAdmit s (one.admittedBy (s .bytes) (s .records) k told))) p (k .links) (k .rows)
-        (λ a ok. took ok refl (runs-steady long limits c w (withKept s k) j refl
-        (still free (unlogged-works long j s k (steady .works) (arrives room (caller.From who) id.Never))) (steady .ledger) (steady .limits-are)))
+        (λ a ok. took ok refl (rest-steady long limits c w (withKept s k) j refl
+        free ((unlogged-works long j s k (steady .works) (arrives room (caller.From who) id.Never))) (steady .ledger) (steady .limits-are)))
       where
         c : Call
         c = admit name body (caller.From who)
@@ -292,25 +301,35 @@ module _ (long : ℕ) (limits : Limits) (w : World) (steady : Steady long limits
 
       inboxed-ends : (o : Order) → d .answer ≡ logged.Ordered o → d .wal .counters .next ≡ v .counters .next + 1
           → Ends long limits w c (didAdmit s (one.inboxed p d o k))
-      unfolding disk.issue
+      unfolding disk.issue shown
       inboxed-ends o is next =
           let came = arrives room caller.Nobody (id.As (one.nextId (p .turn .log))) in
           let old : j .wal ≡ v = steady .works .wal in
           shown-rule (λ told. Ends long limits w c (didAdmit s (one.admittedBy (d .wal .bytes) (d .wal .table) k told)))
           (withDisk p (d .wal .counters) (order.Waits o what.Record)) (k .links) (k .rows)
-          (λ a ok. took ok (recorded-tail v (j .now) name body standing fit-new) (record {
+          (λ a ok. took ok (recorded-tail v (j .now) name body standing fit-new)
+          (subst (λ n. Steady long limits (orderedFor c (withNext w n) after j o what.Record)) (sym top) (record {
             works = record {
               sound = came .comes .sound;
               ids = λ x. omega (arith, came .comes .more x, steady .works .ids x, now-count x (log.newMessage v name body) (j .now));
               ok = came .ok;
+              lives = less-lives (s .links) (k .links) (s .keys) (s .actors) (came .less) (steady .works .lives);
+              here = at-less (s .links) (k .links) (came .less) (s .keys) (s .actors) (p .turn .at) (steady .works .here);
               wal = refl;
               agrees = refl;
               journal = recorded-sound long j v name body o (steady .works .journal) settled old fit-new is;
             };
-            ledger = recorded-ledger j (recorded j v name body o) (w .logged) (w .done) (log.newMessage v name body) (steady .ledger) (ap (λ u. u .counters .next) (sym old)) refl
-                (next ∙ ap (λ u. u .counters .next + 1) (sym old));
+            ledger = recorded-ledger j (recorded j v name body o) (v .counters .next) (w .logged) (w .done) (log.newMessage v name body) (subst (λ n. Ledger j n (w .logged) (w .done)) top (steady .ledger))
+                (ap (λ u. u .counters .next) (sym old)) refl (next ∙ ap (λ u. u .counters .next + 1) (sym old));
             limits-are = steady .limits-are;
-          }))
+          })))
+        where
+          -- the world's next id is the log's
+          top : w .next ≡ v .counters .next
+          top = steady .ledger .next-is ∙ ap (λ u. u .counters .next) (steady .works .wal)
+
+          after : State
+          after = didAdmit s (one.inboxed p d o k) .state
 
       logged-ends : Ends long limits w c (didAdmit s (one.admitLogged p (s .bytes) (s .records) (s .store) (s .links) (s .rows) name body))
       unfolding one.admitLogged

@@ -10,6 +10,10 @@ use lib.ListN.{drop}
 use Rattle.lists.specs.Links.{Table}
 use Rattle.lists.specs.Family.{count}
 use Rattle.log.specs.Opening.{remove}
+use Rattle.log.specs.declared.LogId.{LogId}
+use Rattle.turn.specs.declared.state.What.the-variants as what
+use Rattle.turn.specs.declared.state.Disk.{Disk}
+use Rattle.turn.specs.declared.state.Disk.the-variants as order
 use Rattle.log.specs.Recovery as disk
 use Rattle.log.proofs.RecoveryLaws as sound
 use Rattle.handing.specs.Handing.{idsOf}
@@ -23,7 +27,7 @@ use Rattle.front.specs.declared.state.Answer.the-variants as answer
 use Rattle.front.specs.declared.state.Told.{Told}
 use Rattle.front.specs.State.{shown, atRest}
 use Rattle.pool.specs.Run.{answeredOf}
-use Rattle.rail.specs.Rail.{Call, State, Did, World, walOf, moved, ordered, answered, accepted, stepDid}
+use Rattle.rail.specs.Rail.{Call, State, Did, World, walOf, moved, kindOf, Shown, nothing, shows, orderIn, tagOf, orderedFor, ordered, answered, accepted, stepDid}
 use Rattle.rail.proofs.Ids.{gone-same, gone-other, count-snoc}
 use Rattle.rail.specs.Invariant.{Ledger, Working, TailKept, Runs, still, marks, markedOff, Steady}
 
@@ -32,9 +36,10 @@ abbrev pub workIn : State → Work
 workIn s = record { turn = s .pool .turn; bytes = s .bytes; records = s .records; links = s .links; rows = s .rows; keys = s .keys; actors = s .actors }
 
 -- an id that was logged and not done is done
-marked-ledger : (j j′ : disk.World) (logged done : List ℕ) (id : ℕ) → Ledger j logged done → 0 < count id (idsOf (j .now))
-    → j′ .now ≡ remove id (j .now) → j′ .wal .counters .next ≡ j .wal .counters .next → Ledger j′ logged (done ++ (id ∷ []))
-marked-ledger j j′ logged done id old there now next = record {
+marked-ledger : (j j′ : disk.World) (top : ℕ) (logged done : List ℕ) (id : ℕ) → Ledger j top logged done → 0 < count id (idsOf (j .now))
+    → j′ .now ≡ remove id (j .now) → j′ .wal .counters .next ≡ j .wal .counters .next → Ledger j′ top logged (done ++ (id ∷ []))
+marked-ledger j j′ top logged done id old there now next = record {
+  next-is = old .next-is ∙ sym next;
   adds = λ x. rw now (adds x (ℕ-discrete x id));
   once = old .once;
   below = λ x some. omega (arith, old .below x some);
@@ -54,46 +59,74 @@ call-sound long j good settled c = subst (λ q. sound.Sound long (disk.step 0 q 
 
 -- ---- how a call ends
 
+-- the order that waits, as the pool has it
+abbrev pub orderOf : Disk → Shown
+orderOf order.Free = nothing
+orderOf (order.Waits o for) = shows o
+orderOf order.Failed = nothing
+
+-- the world by the pool's own order; the answer shows the same one (Shown)
+abbrev pub orderedIn : Call → World → State → disk.World → Disk → World
+orderedIn c w s j d = ordered c w s j (orderOf d) (tagOf d)
+
 module _ (long : ℕ) (limits : Limits) where
   pub data Ends (w : World) (c : Call) (d : Did) : Type 0 where
     turned : (r : Refusal) → d ≡ record { state = w .state; answer = answer.Refused r } → Ends w c d
     took : accepted (d .answer) ≡ true → TailKept (w .state .bytes) (workIn (d .state))
-        → Steady long limits (ordered c w (d .state) (answered (w .journal) c) (d .state .pool .turn .disk)) → Ends w c d
+        → Steady long limits (orderedIn c w (d .state) (answered (w .journal) c) (d .state .pool .turn .disk)) → Ends w c d
 
   -- with no order: the journal is the one that the work has beside it
-  pub calm-steady : (s : State) (j : disk.World) (logged done : List ℕ) → Working long j (workIn s) → Ledger j logged done → s .pool .limits ≡ limits
-      → Steady long limits (record { state = s; journal = moved j (walOf s); logged = logged; done = done })
-  calm-steady s j logged done works ledger is =
-      subst (λ v. Steady long limits (record { state = s; journal = moved j v; logged = logged; done = done })) (works .wal)
+  pub calm-steady : (s : State) (j : disk.World) (next : ℕ) (logged done : List ℕ) → Working long j (workIn s) → Ledger j next logged done → s .pool .limits ≡ limits
+      → Steady long limits (record { state = s; journal = moved j (walOf s); next = next; logged = logged; done = done })
+  calm-steady s j next logged done works ledger is =
+      subst (λ v. Steady long limits (record { state = s; journal = moved j v; next = next; logged = logged; done = done })) (works .wal)
       (record { works = works; ledger = ledger; limits-are = is })
 
   -- after a run, and after a call that runs nothing: the journal is the answered one
-  pub runs-steady : (c : Call) (w : World) (s : State) (j : disk.World) → answered (w .journal) c ≡ j → Runs long j (workIn s) → Ledger j (w .logged) (w .done)
-      → s .pool .limits ≡ limits → Steady long limits (ordered c w s (answered (w .journal) c) (s .pool .turn .disk))
+  pub rest-steady : (c : Call) (w : World) (s : State) (j : disk.World) → answered (w .journal) c ≡ j → s .pool .turn .disk ≡ order.Free → Working long j (workIn s) → Ledger j (w .next) (w .logged) (w .done)
+      → s .pool .limits ≡ limits → Steady long limits (orderedIn c w s (answered (w .journal) c) (s .pool .turn .disk))
+  rest-steady c w s j from free works ledger is =
+      subst (λ k. Steady long limits (orderedIn c w s k (s .pool .turn .disk))) (sym from)
+      (subst (λ d. Steady long limits (orderedIn c w s j d)) (sym free) (calm-steady s j (w .next) (w .logged) (w .done) works ledger is))
+
+  pub runs-steady : (c : Call) (w : World) (s : State) (j : disk.World) → ((id : LogId) → kindOf c (what.Mark id) ≡ what.Mark id) → answered (w .journal) c ≡ j → Runs long j (workIn s) → Ledger j (w .next) (w .logged) (w .done)
+      → s .pool .limits ≡ limits → Steady long limits (orderedIn c w s (answered (w .journal) c) (s .pool .turn .disk))
   unfolding disk.issue
-  runs-steady c w s j from runs ledger is = subst (λ k. Steady long limits (ordered c w s k (s .pool .turn .disk))) (sym from) (go runs)
+  runs-steady c w s j own from runs ledger is = subst (λ k. Steady long limits (orderedIn c w s k (s .pool .turn .disk))) (sym from) (go runs)
     where
-      go : Runs long j (workIn s) → Steady long limits (ordered c w s j (s .pool .turn .disk))
-      go (still free works) = subst (λ d. Steady long limits (ordered c w s j d)) (sym free) (calm-steady s j (w .logged) (w .done) works ledger is)
+      go : Runs long j (workIn s) → Steady long limits (orderedIn c w s j (s .pool .turn .disk))
+      go (still free works) = subst (λ d. Steady long limits (orderedIn c w s j d)) (sym free) (calm-steady s j (w .next) (w .logged) (w .done) works ledger is)
       go (marks o id waits there next tail works) =
-          subst (λ d. Steady long limits (ordered c w s j d)) (sym waits)
-          (record { works = works; ledger = marked-ledger j (markedOff j (workIn s) o id) (w .logged) (w .done) (id .0) ledger there refl next; limits-are = is })
+          subst (λ d. Steady long limits (orderedIn c w s j d)) (sym waits)
+          (subst (λ k. Steady long limits (orderedFor c w s j o k)) (sym (own id)) (record { works = works; ledger = marked-ledger j (markedOff j (workIn s) o id) (w .next) (w .logged) (w .done) (id .0) ledger there refl next; limits-are = is }))
 
   -- after a run the log's bytes at and after its size are those from before it
   pub runs-tail : (j : disk.World) (x : Work) (bytes : List ℕ) → j .wal .bytes ≡ bytes → Runs long j x → TailKept bytes x
   runs-tail j x bytes from (still free works) = ap (drop (x .turn .log .size)) (sym (ap (λ v. v .bytes) (works .wal)) ∙ from)
   runs-tail j x bytes from (marks o id waits there next tail works) = tail ∙ ap (drop (x .turn .log .size)) from
 
-  -- a world after a call that ended so
-  pub ends-steady : (w : World) (c : Call) (d : Did) → Steady long limits w → Ends w c d → Steady long limits (stepDid w c d)
-  ends-steady w c d steady (turned r is) =
-      subst (λ e. Steady long limits (stepDid w c e)) (sym is) (calm-steady (w .state) (w .journal) (w .logged) (w .done) (steady .works) (steady .ledger) (steady .limits-are))
-  ends-steady w c d steady (took ok tail after) = go (d .answer) refl
+  -- a world after a call that ended so, and whose answer shows the order that waits
+  pub ends-steady : (w : World) (c : Call) (d : Did) → Steady long limits w → (accepted (d .answer) ≡ true → orderIn (d .answer) ≡ orderOf (d .state .pool .turn .disk)) → Ends w c d
+      → Steady long limits (stepDid w c d)
+  ends-steady w c d steady shown-is (turned r is) =
+      subst (λ e. Steady long limits (stepDid w c e)) (sym is) (calm-steady (w .state) (w .journal) (w .next) (w .logged) (w .done) (steady .works) (steady .ledger) (steady .limits-are))
+  ends-steady w c d steady shown-is (took ok tail after) = go (d .answer) refl
     where
+      by : orderIn (d .answer) ≡ orderOf (d .state .pool .turn .disk)
+          → Steady long limits (ordered c w (d .state) (answered (w .journal) c) (orderIn (d .answer)) (tagOf (d .state .pool .turn .disk)))
+      by is = subst (λ o. Steady long limits (ordered c w (d .state) (answered (w .journal) c) o (tagOf (d .state .pool .turn .disk)))) (sym is) after
+
+      there : Steady long limits (ordered c w (d .state) (answered (w .journal) c) (orderIn (d .answer)) (tagOf (d .state .pool .turn .disk)))
+      there = by (shown-is ok)
+
       go : (a : Answer) → d .answer ≡ a → Steady long limits (stepDid w c d)
       go (answer.Refused r) e = let z : _≡_ {A = ℕ} 0 1 = cc in absurd (omega arith)
-      go (answer.Open a) e = rw e after
-      go (answer.Ended busy waiters) e = rw e after
+      go (answer.Open a) e =
+          subst (λ x. Steady long limits (stepDid w c (record { state = d .state; answer = x }))) (sym e)
+          (subst (λ x. Steady long limits (ordered c w (d .state) (answered (w .journal) c) (orderIn x) (tagOf (d .state .pool .turn .disk)))) e there)
+      go (answer.Ended busy waiters) e =
+          subst (λ x. Steady long limits (stepDid w c (record { state = d .state; answer = x }))) (sym e)
+          (subst (λ x. Steady long limits (ordered c w (d .state) (answered (w .journal) c) (orderIn x) (tagOf (d .state .pool .turn .disk)))) e there)
 
 -- ---- an answer is no refusal
 

@@ -9,6 +9,7 @@ use Rattle.front.specs.declared.state.Answer.the-variants as answer
 use Rattle.rail.specs.Rail.{Call, admit, turn, reply, sync, close, Did, callOf, World, step, run}
 use Rattle.rail.specs.Invariant.{Steady}
 use Rattle.rail.proofs.After.{Ends, turned, took, ends-steady}
+use Rattle.rail.proofs.Shown.{order-shown}
 use Rattle.rail.proofs.Admit.{admit-ends}
 use Rattle.rail.proofs.Replies.{turn-ends, reply-ends, sync-ends, close-ends}
 
@@ -22,7 +23,7 @@ call-ends long limits w close steady = close-ends long limits w steady
 
 pub call-steady : (long : ℕ) (limits : Limits) (w : World) (c : Call) → Steady long limits w → Steady long limits (step w c)
 unfolding step
-call-steady long limits w c steady = ends-steady long limits w c (callOf (w .state) c) steady (call-ends long limits w c steady)
+call-steady long limits w c steady = ends-steady long limits w c (callOf (w .state) c) steady (order-shown (w .state) c) (call-ends long limits w c steady)
 
 pub run-steady : (long : ℕ) (limits : Limits) (calls : List Call) (w : World) → Steady long limits w → Steady long limits (run w calls)
 unfolding run

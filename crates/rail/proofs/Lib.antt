@@ -5,6 +5,7 @@ pub mod Running
 pub mod After
 pub mod Admit
 pub mod Replies
+pub mod Shown
 pub mod Calls
 pub mod Opened
 pub mod Opening

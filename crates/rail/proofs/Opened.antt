@@ -50,13 +50,14 @@ both true b e = (refl, e)
 both false b e = (e, cc)
 
 -- the lists and the messages
-pub tables-are : (groups links rows keys actors : ℕ) → tablesSized groups links rows keys actors ≡ true → (links ≡ 262) × (rows ≡ 256)
+pub tables-are : (groups links rows keys actors : ℕ) → tablesSized groups links rows keys actors ≡ true → ((links ≡ 262) × (rows ≡ 256)) × ((keys ≡ 34) × (actors ≡ 128))
 unfolding tablesSized
 tables-are groups links rows keys actors e =
     let one = both (eqb groups 8) (pick (eqb links 262) (pick (eqb rows 256) (pick (eqb keys 34) (eqb actors 128) false) false) false) e in
     let two = both (eqb links 262) (pick (eqb rows 256) (pick (eqb keys 34) (eqb actors 128) false) false) (one .1) in
     let three = both (eqb rows 256) (pick (eqb keys 34) (eqb actors 128) false) (two .1) in
-    (eqb-true links 262 (two .0), eqb-true rows 256 (three .0))
+    let four = both (eqb keys 34) (eqb actors 128) (three .1) in
+    ((eqb-true links 262 (two .0), eqb-true rows 256 (three .0)), (eqb-true keys 34 (four .0), eqb-true actors 128 (four .1)))
 
 pub tables-true : (groups links rows keys actors : ℕ) → groups ≡ 8 → links ≡ 262 → rows ≡ 256 → keys ≡ 34 → actors ≡ 128
     → tablesSized groups links rows keys actors ≡ true
@@ -134,7 +135,7 @@ module _ (s : Settings) (given : Table) (bytes : List ℕ) (n : ℕ) (store : Li
   unfolding openPool
   to-pool t =
       ap (λ k. madeWith (t .found) (putLeft (startFrom 0 k) rows (logMade (t .found) .left) 0 (length (t .found .left))))
-      (tables-are (length groups) (length links) (length rows) (length keys) (length actors) (t .tables) .0)
+      (tables-are (length groups) (length links) (length rows) (length keys) (length actors) (t .tables) .0 .0)
 
   pub opens-as : (t : Taken) → openOf s given bytes n store records groups links rows keys actors ≡ opensAs (t .found)
   opens-as t = to-log t ∙ (ap byLog (open-accepts bytes n store records noLeft (t .found) (t .sizes) (t .reads)) ∙ to-pool t)

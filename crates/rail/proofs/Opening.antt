@@ -2,18 +2,26 @@
 use mathlib.Core.Path.{_≡_, refl, sym, ap, _∙_, subst}
 use mathlib.Core.Bool.{true}
 use mathlib.Core.List.{List, [], _∷_}
-use Prim.Native.Nat.{ℕ, _≤_}
+use Prim.Native.Nat.{ℕ, zero, suc, _+_, _*_, _≤_}
 use native.Mathlib.Omega.{arith}
 use lib.Dec.{leb}
-use lib.ListN.{length, take, drop}
-use Rattle.text.specs.Format.{Message}
-use Rattle.lists.specs.Links.{Table}
-use Rattle.lists.specs.Family.{count}
-use Rattle.log.specs.Opening.{allFit, opening}
+use lib.ListN.{length, take, drop, replicate, length-replicate}
+use Rattle.text.specs.Format.{Message, lines}
+use Rattle.lists.specs.Links.{Table, FREE, lenOf, moveFirst, startFrom}
+use Rattle.lists.specs.Family.{count, Good}
+use Rattle.lists.specs.KeyLists.{blankRow, keysAt}
+use Rattle.lists.proofs.Family.{length-view}
+use Rattle.lists.proofs.Moves.{move-first-good}
+use Rattle.lists.proofs.AtStart.{started}
+use Rattle.lists.proofs.Slabs.{sound-blank}
+use Rattle.setup.specs.Tables.{PENDING, putLeft}
+use Rattle.keeping.specs.Living.{stepHand, Lives}
+use Rattle.keeping.proofs.Living.{Less, less-same, less-then, less-at, first-less}
+use Rattle.log.specs.Opening.{allFit, opening, opened, Read, Rising, readFile, nothingRead}
 use Rattle.log.specs.Opened as log
 use Rattle.log.specs.Recovery as disk
 use Rattle.log.specs.Stands.{Stands}
-use Rattle.log.proofs.OpeningLaws.{and-right}
+use Rattle.log.proofs.OpeningLaws.{and-right, judge-opened, readLines-in-order}
 use Rattle.log.proofs.TabledLaws.{small-few}
 use Rattle.log.proofs.OpenLaws.{sized-all, sized-true, opened-stands}
 use Rattle.log.proofs.RecoveryLaws.{ReadBack, sound-reads}
@@ -22,24 +30,61 @@ use Rattle.handing.proofs.Handing.{hands}
 use Rattle.setup.specs.declared.settings.Settings.{Settings}
 use Rattle.setup.specs.Settings.{settingsFit}
 use Rattle.door.specs.Open.{PoolOpened, limitsFrom, noLeft, openOf}
-use Rattle.rail.specs.Rail.{World, accepted, leftBy, openState, walOf, begin, handedBack, Reopens}
+use Rattle.rail.specs.Rail.{World, accepted, leftBy, nextFrom, startStatus, orderIn, openState, walOf, begin, handedBack, Reopens}
 use Rattle.rail.specs.Invariant.{Working, Ledger, workOf, Steady}
 use Rattle.rail.proofs.Ids.{rising-once, rising-top}
 use Rattle.rail.proofs.Opened.{tables-are, tables-true, Taken, accepted-taken, opensAs, opens-as, start-sound}
 
 -- the world at the start, with the messages left by the file
-abbrev beginAt : PoolOpened → Table → List ℕ → List Message → World
-beginAt o actors file left = record {
+abbrev beginAt : PoolOpened → Table → List ℕ → ℕ → List Message → World
+beginAt o actors file next left = record {
   state = openState o actors;
   journal = record {
     wal = walOf (openState o actors);
-    disk = record { sure = file; since = []; status = disk.waits (disk.replacing (take (o .told .pool .turn .log .size) (o .bytes))) };
+    disk = record { sure = file; since = []; status = startStatus (o .bytes) (orderIn (o .told .answer)) };
     moments = left ∷ [];
     now = left;
     firm = 0;
   };
+  next = next;
   logged = idsOf left;
   done = [];
+}
+
+-- ---- nobody is there yet, and no mailbox or hand has a message
+
+put-less : (n : ℕ) (t rows left : Table) (i : ℕ) → Good t → Less t (putLeft t rows left i n .links)
+unfolding putLeft
+put-less zero t rows left i good = less-same t
+put-less (suc n) t rows left i good =
+    less-then t (moveFirst t FREE PENDING) _ (first-less t good FREE PENDING (omega arith)) (put-less n (moveFirst t FREE PENDING) _ left (suc i) (move-first-good t good FREE PENDING))
+
+start-empty : (rows left : Table) (n j : ℕ) → 5 ≤ j → lenOf (putLeft (startFrom 0 262) rows left 0 n .links) j ≡ 0
+start-empty rows left n j high =
+    omega (
+      arith,
+      less-at (startFrom 0 262) _ (put-less n (startFrom 0 262) rows left 0 (started .good)) j high,
+      length-view (startFrom 0 262) j,
+      ap length (started .others j (λ e. omega arith)),
+    )
+
+start-hand : (rows left : Table) (n : ℕ) → stepHand (putLeft (startFrom 0 262) rows left 0 n .links) ≤ 0
+start-hand rows left n = omega (arith, start-empty rows left n 5 (omega arith))
+
+blank-at : (n i : ℕ) → keysAt (replicate n blankRow) i ≡ blankRow
+blank-at zero i = refl
+blank-at (suc n) zero = refl
+blank-at (suc n) (suc i) = blank-at n i
+
+start-lives : (n : ℕ) (rows left : Table) (m : ℕ) (actors : Table) → n ≡ 34 → length actors ≡ 128
+    → Lives (putLeft (startFrom 0 262) rows left 0 m .links) (replicate n blankRow) actors
+start-lives n rows left m actors n-is long = record {
+  keys-are = length-replicate n blankRow ∙ n-is;
+  actors-are = long;
+  slabs = λ g g-is. rw (blank-at n (4 * g)) sound-blank;
+  dead = λ g k g-is k-is d. (start-empty rows left m (6 + 2 * (16 * g + k)) (omega arith), start-empty rows left m (7 + 2 * (16 * g + k)) (omega arith));
+  one = λ g k g-is k-is. omega (arith, start-empty rows left m (7 + 2 * (16 * g + k)) (omega arith));
+  runs = λ g k g-is k-is e f. start-empty rows left m (7 + 2 * (16 * g + k)) (omega arith);
 }
 
 -- an opening that the log takes
@@ -52,7 +97,7 @@ module _ (s : Settings) (given : Table) (bytes : List ℕ) (n : ℕ) (store : Li
   made = opensAs s given bytes n store records groups links rows keys actors (t .found)
 
   abbrev start : World
-  start = beginAt made actors (take n bytes) left
+  start = beginAt made actors (take n bytes) (t .found .next) left
 
   stands : Stands (disk.walOf (log.openedBy bytes store records noLeft (t .found))) left
   stands = opened-stands bytes n store records noLeft (t .found) (t .sizes) (t .reads)
@@ -61,7 +106,10 @@ module _ (s : Settings) (given : Table) (bytes : List ℕ) (n : ℕ) (store : Li
   given-back =
       let lent = sized-all (length bytes) n (length store) (length records) (length noLeft) (t .sizes) in
       let sizes = tables-are (length groups) (length links) (length rows) (length keys) (length actors) (t .tables) in
-      hands rows store left (sizes .1) (lent .store-is) (small-few left (stands .small)) (and-right (leb (length left) 256) (allFit left) (stands .small))
+      hands rows store left (sizes .0 .1) (lent .store-is) (small-few left (stands .small)) (and-right (leb (length left) 256) (allFit left) (stands .small))
+
+  sizes : ((length links ≡ 262) × (length rows ≡ 256)) × ((length keys ≡ 34) × (length actors ≡ 128))
+  sizes = tables-are (length groups) (length links) (length rows) (length keys) (length actors) (t .tables)
 
   start-works : Working (length bytes) (start .journal) (workOf start)
   unfolding disk.begin disk.sent
@@ -69,14 +117,17 @@ module _ (s : Settings) (given : Table) (bytes : List ℕ) (n : ℕ) (store : Li
     sound = given-back .sound;
     ids = given-back .same;
     ok = omega arith;
+    lives = start-lives (length keys) rows _ (length left) actors (sizes .1 .0) (sizes .1 .1);
+    here = start-hand rows _ (length left);
     wal = refl;
     agrees = refl;
     journal = start-sound bytes n store records noLeft (t .found) (t .sizes) (t .reads);
   }
 
-  start-ledger : Ledger (start .journal) (start .logged) (start .done)
+  start-ledger : Ledger (start .journal) (start .next) (start .logged) (start .done)
   unfolding count
   start-ledger = record {
+    next-is = refl;
     adds = λ x. omega arith;
     once = λ x. rising-once left 0 (t .found .next) x (stands .rising);
     below = λ x there. rising-top left 0 (t .found .next) x (stands .rising) there;
@@ -90,6 +141,11 @@ module _ (s : Settings) (given : Table) (bytes : List ℕ) (n : ℕ) (store : Li
 
   hands-back : handedBack (openOf s given bytes n store records groups links rows keys actors) ≡ left
   hands-back = ap handedBack (opens-as s given bytes n store records groups links rows keys actors t) ∙ given-back .back
+
+-- what an accepted file leaves has rising ids
+rising-left : (file : List ℕ) (r : Read) → opening file ≡ opened r → Rising 0 (r .left) (r .next)
+unfolding opening readFile
+rising-left file r ok = let g = judge-opened (readFile file) r ok in rw (g .same) at (readLines-in-order (lines file) nothingRead (omega arith))
 
 -- a file that opening accepts, and that fits: the next opening
 module _ (s : Settings) (given : Table) (long : ℕ) (file : List ℕ) (moments : List (List Message))
@@ -110,7 +166,9 @@ module _ (s : Settings) (given : Table) (long : ℕ) (file : List ℕ) (moments 
   next-opening : Reopens s given long file moments
   unfolding next-taken
   next-opening = record {
+    fits = back .short;
     found = back .found .left;
+    rises = (back .found .next, rising-left file (back .found) (back .accepted));
     among = back .among;
     accepts = λ bytes store records groups links rows keys actors is begins st re gr li ro ke ac.
         let taken = next-taken bytes store records groups links rows keys actors is begins st re gr li ro ke ac in
@@ -126,7 +184,7 @@ module _ (s : Settings) (given : Table) (bytes : List ℕ) (n : ℕ) (store : Li
   open-steady =
       let made = opensAs s given bytes n store records groups links rows keys actors (taken .found) in
       subst (λ o. Steady (length bytes) (limitsFrom s (length given)) (begin o actors (take n bytes))) (sym (opens-as s given bytes n store records groups links rows keys actors taken))
-      (subst (λ ms. Steady (length bytes) (limitsFrom s (length given)) (beginAt made actors (take n bytes) ms)) (sym (ap leftBy (taken .reads)))
+      (subst (λ r. Steady (length bytes) (limitsFrom s (length given)) (beginAt made actors (take n bytes) (nextFrom r) (leftBy r))) (sym (taken .reads))
       (start-steady s given bytes n store records groups links rows keys actors taken))
 
   -- whatever file a cut may leave, the next opening finds a moment no earlier than the last confirmed flush or replace

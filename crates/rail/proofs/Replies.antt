@@ -2,13 +2,14 @@
 use mathlib.Core.Path.{_≡_, refl, sym, ap, _∙_, subst}
 use mathlib.Core.Bool.{Bool, true, false}
 use mathlib.Core.List.{List}
-use Prim.Native.Nat.{ℕ}
+use Prim.Native.Nat.{ℕ, _≤_}
 use native.Mathlib.Omega.{arith}
 use lib.Dec.{eqb}
 use lib.ListN.{length, drop}
 use Rattle.lists.specs.Links.{Table, FREE, lenOf}
 use Rattle.log.specs.declared.Counters.{Counters}
 use Rattle.log.specs.declared.Order.{Order}
+use Rattle.log.specs.declared.LogId.{LogId}
 use Rattle.log.specs.declared.Order.the-variants.{Flush}
 use Rattle.log.specs.declared.Answer.the-variants as logged
 use Rattle.log.specs.declared.Stepped.{Stepped}
@@ -44,11 +45,15 @@ use Rattle.front.specs.State.{lengthCheck, withTurn, withDisk, shown, atRest}
 use Rattle.pool.specs.Run.{Ran, PENDING, runOf}
 use Rattle.pool.specs.Calls as one
 use Rattle.pool.specs.Calls.{firstPoint, begunOf, freed, withWent, closedPool, storedIn}
-use Rattle.rail.specs.Rail.{Call, turn, reply, sync, close, State, didRun, didReply, didTell, callOf, World, walOf, ordered, answered, answeredBy, orderAnswered}
+use Rattle.rail.specs.Rail.{Call, turn, reply, sync, close, State, didRun, didReply, didTell, callOf, World, walOf, kindOf, answered, answeredBy, orderAnswered}
 use Rattle.rail.specs.Invariant.{Agrees, Ledger, Working, Runs, still, Steady}
 use Rattle.keeping.proofs.Turn.{ResumeKeeps, resume-keeps}
+use Rattle.keeping.specs.Living.{stepHand, AtLives}
+use Rattle.keeping.proofs.LivingTurn.{resume-lives}
+use Rattle.group.specs.declared.at.At.{At}
+use Rattle.group.specs.declared.at.At.the-variants as at
 use Rattle.rail.proofs.Running.{run-runs}
-use Rattle.rail.proofs.After.{workIn, Ends, turned, took, calm-steady, runs-steady, runs-tail, call-sound, shown-rule, answered-rule}
+use Rattle.rail.proofs.After.{orderedIn, workIn, Ends, turned, took, calm-steady, rest-steady, runs-steady, runs-tail, call-sound, shown-rule, answered-rule}
 use Rattle.rail.proofs.Admit.{Arrives, kept-arrives, withKept, unlogged-works}
 
 -- the state with another pool
@@ -102,8 +107,8 @@ answered-settled : (j : disk.World) (x : StoredIn) → j .disk .status ≡ disk.
 answered-settled j x settled = ap (λ q. answeredBy j q x) settled
 
 -- a journal with the same messages and the same next id
-same-ledger : (j j′ : disk.World) (logged done : List ℕ) → Ledger j logged done → j′ .now ≡ j .now → j′ .wal .counters .next ≡ j .wal .counters .next → Ledger j′ logged done
-same-ledger j j′ logged done old now next = record { adds = λ x. rw now (old .adds x); once = old .once; below = λ x some. omega (arith, old .below x some) }
+same-ledger : (j j′ : disk.World) (top : ℕ) (logged done : List ℕ) → Ledger j top logged done → j′ .now ≡ j .now → j′ .wal .counters .next ≡ j .wal .counters .next → Ledger j′ top logged done
+same-ledger j j′ top logged done old now next = record { next-is = old .next-is ∙ sym next; adds = λ x. rw now (old .adds x); once = old .once; below = λ x some. omega (arith, old .below x some) }
 
 -- ---- sync
 
@@ -139,15 +144,15 @@ synced-sound long j v good settled is ordered = subst (λ u. log.syncOf (u .coun
 module _ (long : ℕ) (limits : Limits) (w : World) (c : Call) where
   -- nothing runs, and no order goes out
   rest-ends : (s : State) (j : disk.World) → s .bytes ≡ w .state .bytes → answered (w .journal) c ≡ j → s .pool .turn .disk ≡ order.Free → Working long j (workIn s)
-      → Ledger j (w .logged) (w .done) → s .pool .limits ≡ limits → Ends long limits w c (didTell s (shown (s .pool) (s .links) (s .rows)))
+      → Ledger j (w .next) (w .logged) (w .done) → s .pool .limits ≡ limits → Ends long limits w c (didTell s (shown (s .pool) (s .links) (s .rows)))
   rest-ends s j same from free works ledger is =
       shown-rule (λ told. Ends long limits w c (didTell s told)) (s .pool) (s .links) (s .rows)
-      (λ a ok. took ok (ap (drop (s .pool .turn .log .size)) same) (runs-steady long limits c w s j from (still free works) ledger is))
+      (λ a ok. took ok (ap (drop (s .pool .turn .log .size)) same) (rest-steady long limits c w s j from free works ledger is))
 
-  run-ends : (s : State) (j : disk.World) → s .bytes ≡ w .state .bytes → answered (w .journal) c ≡ j → s .pool .turn .disk ≡ order.Free → Working long j (workIn s)
-      → Ledger j (w .logged) (w .done) → s .pool .limits ≡ limits → Ends long limits w c (didRun s (runIn s))
+  run-ends : ((id : LogId) → kindOf c (what.Mark id) ≡ what.Mark id) → (s : State) (j : disk.World) → s .bytes ≡ w .state .bytes → answered (w .journal) c ≡ j → s .pool .turn .disk ≡ order.Free → Working long j (workIn s)
+      → Ledger j (w .next) (w .logged) (w .done) → s .pool .limits ≡ limits → Ends long limits w c (didRun s (runIn s))
   unfolding runOf
-  run-ends s j same from free works ledger is =
+  run-ends own s j same from free works ledger is =
       answered-rule
       (λ told. Ends long limits w c (didRun s (record {
         bytes = x .bytes;
@@ -160,7 +165,7 @@ module _ (long : ℕ) (limits : Limits) (w : World) (c : Call) where
       })))
       (withTurn (s .pool) (x .turn)) (x .links) (x .rows) (x .keys)
       (λ a ok. took ok (runs-tail long limits j x (w .state .bytes) (ap (λ v. v .bytes) (works .wal) ∙ same) runs)
-      (runs-steady long limits c w _ j from runs ledger is))
+      (runs-steady long limits c w _ j own from runs ledger is))
     where
       x : Work
       x = advanceOf (weightOf (s .pool .turn)) (record { limits = s .pool .limits; store = s .store; groups = s .groups }) (workIn s)
@@ -174,6 +179,35 @@ module _ (long : ℕ) (limits : Limits) (w : World) (c : Call) where
 first-ok : (t : Table) (seeded : Bool) → AtOk (firstPoint seeded) t
 first-ok t true = omega arith
 first-ok t false = omega arith
+
+first-lives : (t keys actors : Table) (seeded : Bool) → stepHand t ≤ 0 → AtLives (firstPoint seeded) t keys actors
+first-lives t keys actors true h = h
+first-lives t keys actors false h = h
+
+-- at rest the step's hand is empty
+rest-hand : (a : At) (t keys actors : Table) → atRest a ≡ true → AtLives a t keys actors → stepHand t ≤ 0
+unfolding atRest
+rest-hand at.Rest t keys actors e h = h
+rest-hand (at.Seed g) t keys actors e h = h
+rest-hand (at.SeedBoot g) t keys actors e h = h
+rest-hand (at.Intake left) t keys actors e h = h
+rest-hand (at.Route left) t keys actors e h = h
+rest-hand (at.RouteBoot g left) t keys actors e h = h
+rest-hand at.TickClock t keys actors e h = h
+rest-hand (at.Wake g clock) t keys actors e h = h
+rest-hand (at.WakeNext g clock left) t keys actors e h = h
+rest-hand (at.WakePoll g k clock left) t keys actors e h = h
+rest-hand (at.Ready g clock pops) t keys actors e h = h
+rest-hand (at.Fixed c a) t keys actors e h = let z : _≡_ {A = ℕ} 0 1 = cc in absurd (omega arith)
+rest-hand (at.Eval c a) t keys actors e h = let z : _≡_ {A = ℕ} 0 1 = cc in absurd (omega arith)
+rest-hand (at.StepEnd c s) t keys actors e h = let z : _≡_ {A = ℕ} 0 1 = cc in absurd (omega arith)
+rest-hand (at.Sends c s) t keys actors e h = let z : _≡_ {A = ℕ} 0 1 = cc in absurd (omega arith)
+rest-hand (at.Settle c s) t keys actors e h = let z : _≡_ {A = ℕ} 0 1 = cc in absurd (omega arith)
+rest-hand (at.Crash c) t keys actors e h = let z : _≡_ {A = ℕ} 0 1 = cc in absurd (omega arith)
+rest-hand (at.AskTrap c) t keys actors e h = h
+rest-hand (at.Trap c) t keys actors e h = h
+rest-hand (at.Trapped c k) t keys actors e h = h
+rest-hand (at.Doomed c left) t keys actors e h = h
 
 module _ (long : ℕ) (limits : Limits) (w : World) (steady : Steady long limits w) where
   abbrev s : State
@@ -194,11 +228,13 @@ module _ (long : ℕ) (limits : Limits) (w : World) (steady : Steady long limits
 
   -- ---- turn
 
-  begun-works : Working long j (workIn (withPool s (begunOf p)))
-  begun-works = record {
+  begun-works : atRest (p .turn .at) ≡ true → Working long j (workIn (withPool s (begunOf p)))
+  begun-works rests = record {
     sound = works .sound;
     ids = works .ids;
     ok = first-ok (s .links) (p .seeded);
+    lives = works .lives;
+    here = first-lives (s .links) (s .keys) (s .actors) (p .seeded) (rest-hand (p .turn .at) (s .links) (s .keys) (s .actors) rests (works .here));
     wal = works .wal;
     agrees = works .agrees;
     journal = works .journal;
@@ -209,7 +245,7 @@ module _ (long : ℕ) (limits : Limits) (w : World) (steady : Steady long limits
   unfolding one.turnFree
   turn-in-ends order.Free is =
       pick-rule (λ r. Ends long limits w turn (didRun s r)) (atRest (p .turn .at))
-      (λ e. run-ends long limits w turn (withPool s (begunOf p)) j refl refl is begun-works (steady .ledger) (steady .limits-are)) (λ e. turned refusal.InTurn refl)
+      (λ e. run-ends long limits w turn (λ id. refl) (withPool s (begunOf p)) j refl refl is (begun-works e) (steady .ledger) (steady .limits-are)) (λ e. turned refusal.InTurn refl)
   turn-in-ends (order.Waits o for) is = turned refusal.OrderWaits refl
   turn-in-ends order.Failed is = turned refusal.StoreFailed refl
 
@@ -220,7 +256,7 @@ module _ (long : ℕ) (limits : Limits) (w : World) (steady : Steady long limits
   -- ---- close and sync
 
   closed-works : Working long j (workIn (withPool s (closedPool p)))
-  closed-works = record { sound = works .sound; ids = works .ids; ok = works .ok; wal = works .wal; agrees = works .agrees; journal = works .journal }
+  closed-works = record { sound = works .sound; ids = works .ids; ok = works .ok; lives = works .lives; here = works .here; wal = works .wal; agrees = works .agrees; journal = works .journal }
 
   close-in-ends : (q : Disk) → p .turn .disk ≡ q → Ends long limits w close (didTell s (one.closeIn p (s .links) (s .rows) q))
   close-in-ends order.Free is = rest-ends long limits w close (withPool s (closedPool p)) j refl refl is closed-works (steady .ledger) (steady .limits-are)
@@ -244,11 +280,13 @@ module _ (long : ℕ) (limits : Limits) (w : World) (steady : Steady long limits
           sound = works .sound;
           ids = works .ids;
           ok = works .ok;
+          lives = works .lives;
+          here = works .here;
           wal = refl;
           agrees = refl;
           journal = synced-sound long j (walOf s) (works .journal) (settled free) (works .wal) is;
         };
-        ledger = same-ledger j (synced j (walOf s)) (w .logged) (w .done) (steady .ledger) refl (next ∙ ap (λ u. u .counters .next) (sym (works .wal)));
+        ledger = same-ledger j (synced j (walOf s)) (w .next) (w .logged) (w .done) (steady .ledger) refl (next ∙ ap (λ u. u .counters .next) (sym (works .wal)));
         limits-are = steady .limits-are;
       })))
 
@@ -284,14 +322,16 @@ module _ (long : ℕ) (limits : Limits) (w : World) (steady : Steady long limits
         sound = works .sound;
         ids = works .ids;
         ok = works .ok;
+        lives = works .lives;
+        here = works .here;
         wal = works .wal;
         agrees = confirmed-settled out (j .disk);
         journal = stored-sound long j out waiting (works .journal);
       }
 
-      freed-ledger : Ledger (disk.storedOrder j out) (w .logged) (w .done)
+      freed-ledger : Ledger (disk.storedOrder j out) (w .next) (w .logged) (w .done)
       unfolding disk.storedOrder
-      freed-ledger = same-ledger j (disk.storedOrder j out) (w .logged) (w .done) (steady .ledger) refl refl
+      freed-ledger = same-ledger j (disk.storedOrder j out) (w .next) (w .logged) (w .done) (steady .ledger) refl refl
 
       failed-works : Working long (disk.failedOrder j out) (workIn (withPool s (withDisk p (p .turn .log) order.Failed)))
       unfolding disk.failedOrder
@@ -299,14 +339,16 @@ module _ (long : ℕ) (limits : Limits) (w : World) (steady : Steady long limits
         sound = works .sound;
         ids = works .ids;
         ok = works .ok;
+        lives = works .lives;
+        here = works .here;
         wal = works .wal;
         agrees = (out, refl);
         journal = failed-sound long j out waiting (works .journal);
       }
 
-      failed-ledger : Ledger (disk.failedOrder j out) (w .logged) (w .done)
+      failed-ledger : Ledger (disk.failedOrder j out) (w .next) (w .logged) (w .done)
       unfolding disk.failedOrder
-      failed-ledger = same-ledger j (disk.failedOrder j out) (w .logged) (w .done) (steady .ledger) refl refl
+      failed-ledger = same-ledger j (disk.failedOrder j out) (w .next) (w .logged) (w .done) (steady .ledger) refl refl
 
       order-ends : (x : StoredIn) → storedIn r ≡ x
           → Ends long limits w c (didRun s (one.orderBy p (s .bytes) (s .records) (s .store) (s .groups) (s .links) (s .rows) (s .keys) (s .actors) x))
@@ -314,11 +356,11 @@ module _ (long : ℕ) (limits : Limits) (w : World) (steady : Steady long limits
       order-ends stored.Stored is =
           pick-rule (λ r. Ends long limits w c (didRun s r)) (atRest (p .turn .at))
           (λ e. rest-ends long limits w c (withPool s (freed p)) (disk.storedOrder j out) refl (from stored.Stored is) refl freed-works freed-ledger (steady .limits-are))
-          (λ e. run-ends long limits w c (withPool s (freed p)) (disk.storedOrder j out) refl (from stored.Stored is) refl freed-works freed-ledger (steady .limits-are))
+          (λ e. run-ends long limits w c (λ id. refl) (withPool s (freed p)) (disk.storedOrder j out) refl (from stored.Stored is) refl freed-works freed-ledger (steady .limits-are))
       order-ends stored.Failed is =
           shown-rule (λ told. Ends long limits w c (didTell s told)) (withDisk p (p .turn .log) order.Failed) (s .links) (s .rows)
-          (λ a ok. took ok refl (subst (λ k. Steady long limits (ordered c w (withPool s (withDisk p (p .turn .log) order.Failed)) k order.Failed)) (sym (from stored.Failed is))
-          (calm-steady long limits (withPool s (withDisk p (p .turn .log) order.Failed)) (disk.failedOrder j out) (w .logged) (w .done) failed-works failed-ledger (steady .limits-are))))
+          (λ a ok. took ok refl (subst (λ k. Steady long limits (orderedIn c w (withPool s (withDisk p (p .turn .log) order.Failed)) k order.Failed)) (sym (from stored.Failed is))
+          (calm-steady long limits (withPool s (withDisk p (p .turn .log) order.Failed)) (disk.failedOrder j out) (w .next) (w .logged) (w .done) failed-works failed-ledger (steady .limits-are))))
       order-ends stored.Other is = turned refusal.NoFit refl
 
     -- to the turn's question
@@ -362,10 +404,13 @@ module _ (long : ℕ) (limits : Limits) (w : World) (steady : Steady long limits
       resumed-works : Working long j (workIn resumed)
       resumed-works =
           let keeps : ResumeKeeps (s .links) (s .rows) gone = resume-keeps (p .turn .at) (p .turn .counts) (p .limits) (s .groups) (s .links) (s .rows) (s .keys) (s .actors) r (works .sound) (works .ok) in
+          let holds = resume-lives (p .turn .at) (p .turn .counts) (p .limits) (s .groups) (s .links) (s .rows) (s .keys) (s .actors) r (works .sound .good) (works .lives) (works .here) in
           record {
             sound = keeps .keeps .sound;
             ids = λ x. keeps .keeps .same x ∙ works .ids x;
             ok = keeps .ok;
+            lives = holds .lives;
+            here = holds .ok;
             wal = works .wal;
             agrees = works .agrees;
             journal = works .journal;
@@ -375,7 +420,7 @@ module _ (long : ℕ) (limits : Limits) (w : World) (steady : Steady long limits
       unfolding one.fitReply one.sentOf one.resumedOf
       fit-ends =
           pick-rule (λ x. Ends long limits w c (didReply s x)) (one.isMessage r) (λ e. sent-ends (one.sentCheck (s .links) (length name) (length body)) refl)
-          (λ e. run-ends long limits w c resumed j refl still-from free resumed-works (steady .ledger) (steady .limits-are))
+          (λ e. run-ends long limits w c (λ id. refl) resumed j refl still-from free resumed-works (steady .ledger) (steady .limits-are))
 
       asked-ends : (a : Asked)
           → Ends long limits w c (didReply s (one.askedReply p (s .bytes) (s .records) (s .store) (s .groups) (s .links) (s .rows) (s .keys) (s .actors) r name body a))

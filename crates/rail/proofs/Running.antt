@@ -36,6 +36,8 @@ use Rattle.handing.specs.Handing.{idsOf}
 use Rattle.rail.specs.Invariant.{Agrees, Working, TailKept, Runs, still, marks, markedOff}
 use Rattle.rail.proofs.Marks.{GoesOut, mark-goes, mark-sound, mark-tail, ids-marked}
 use Rattle.keeping.proofs.Turn.{go-keeps}
+use Rattle.keeping.proofs.Living.{Less, less-same, less-lives, at-less, first-less}
+use Rattle.keeping.proofs.LivingTurn.{go-lives}
 
 -- where marks go out no step of an actor is under way
 marking-ok : (a : At) (t : Table) → marksAt a ≡ true → AtOk a t
@@ -76,14 +78,19 @@ module _ (long : ℕ) (g : Given) (j : disk.World) (w : Work) (free : w .turn .d
   standing = subst (λ v. Stands v (j .now)) (works .wal) (log.sound-stands long j (works .journal) .stands)
 
   -- the point runs, with no order: every id stands as before
-  goes-on : (t : Table) (d : Disk) → d ≡ order.Free → Sound t (w .rows) (w .turn .counts .queued) → ((x : ℕ) → stands x t (w .rows) ≡ stands x (w .links) (w .rows)) → AtOk (w .turn .at) t
+  goes-on : (t : Table) (d : Disk) → d ≡ order.Free → Sound t (w .rows) (w .turn .counts .queued) → ((x : ℕ) → stands x t (w .rows) ≡ stands x (w .links) (w .rows)) → AtOk (w .turn .at) t → Less (w .links) t
       → Runs long j (workBy (w .bytes) (w .records) (w .turn .log) d (goOf (w .turn .at) (w .turn .counts) (g .limits) (g .store) (g .groups) t (w .rows) (w .keys) (w .actors)))
-  goes-on t d d-is sound same ok =
+  goes-on t d d-is sound same ok less =
       let went = go-keeps (w .turn .at) (w .turn .counts) (g .limits) (g .store) (g .groups) t (w .rows) (w .keys) (w .actors) sound ok in
+      let holds =
+      go-lives (w .turn .at) (w .turn .counts) (g .limits) (g .store) (g .groups) t (w .rows) (w .keys) (w .actors) (sound .good)
+      (less-lives (w .links) t (w .keys) (w .actors) less (works .lives)) (at-less (w .links) t less (w .keys) (w .actors) (w .turn .at) (works .here)) in
       still d-is (record {
         sound = went .keeps .sound;
         ids = λ x. went .keeps .same x ∙ (same x ∙ works .ids x);
         ok = went .ok;
+        lives = holds .lives;
+        here = holds .ok;
         wal = works .wal;
         agrees = rw d-is settles;
         journal = works .journal;
@@ -93,6 +100,9 @@ module _ (long : ℕ) (g : Given) (j : disk.World) (w : Work) (free : w .turn .d
   module _ (marking : marksAt (w .turn .at) ≡ true) (some : 0 < lenOf (w .links) OVER) where
     abbrev freed : Table
     freed = moveFirst (w .links) OVER FREE
+
+    shorter : Less (w .links) freed
+    shorter = first-less (w .links) (works .sound .good) OVER FREE (omega arith)
 
     gone : Goes (w .links) (w .rows) freed (w .rows) (w .turn .counts .queued) (messageAt (w .rows) (headOf (w .links) OVER) .id)
     gone = goes (w .links) (w .rows) (w .turn .counts .queued) (works .sound) some
@@ -125,6 +135,8 @@ module _ (long : ℕ) (g : Given) (j : disk.World) (w : Work) (free : w .turn .d
         sound = gone .sound;
         ids = λ x. omega (arith, less (logged.As id) is x, works .ids x, ids-marked (id .0) (w .turn .log .next) 0 (j .now) (standing .rising) there x);
         ok = marking-ok (w .turn .at) freed marking;
+        lives = less-lives (w .links) freed (w .keys) (w .actors) shorter (works .lives);
+        here = at-less (w .links) freed shorter (w .keys) (w .actors) (w .turn .at) (works .here);
         wal = refl;
         agrees = refl;
         journal = journal;
@@ -141,20 +153,20 @@ module _ (long : ℕ) (g : Given) (j : disk.World) (w : Work) (free : w .turn .d
     by-id : (l : Logged) → messageAt (w .rows) (headOf (w .links) OVER) .id ≡ l → Runs long j (markThen g w (markedLinks freed (markLogged (w .bytes) (w .records) (w .turn .log) limit l)))
     unfolding markLogged
     by-id (logged.As id) is = marks-it id is
-    by-id logged.Never is = goes-on freed order.Free refl (gone .sound) (λ x. omega (arith, less logged.Never is x)) (marking-ok (w .turn .at) freed marking)
+    by-id logged.Never is = goes-on freed order.Free refl (gone .sound) (λ x. omega (arith, less logged.Never is x)) (marking-ok (w .turn .at) freed marking) shorter
 
   first-runs : marksAt (w .turn .at) ≡ true → Runs long j (markThen g w (markFirst (w .bytes) (w .records) (w .links) (w .rows) (w .turn .log) limit))
   unfolding markFirst
   first-runs marking =
       pick-rule (λ (f : Found). Runs long j (markThen g w (markFound (w .bytes) (w .records) (w .links) (w .rows) (w .turn .log) limit f))) (eqb (lenOf (w .links) OVER) 0)
-      (λ e. goes-on (w .links) order.Free refl (works .sound) (λ x. refl) (works .ok))
+      (λ e. goes-on (w .links) order.Free refl (works .sound) (λ x. refl) (works .ok) (less-same (w .links)))
       (λ e. by-id marking (omega (arith, eqb-false (lenOf (w .links) OVER) 0 e)) (messageAt (w .rows) (headOf (w .links) OVER) .id) refl)
 
 pub step-runs : (long : ℕ) (g : Given) (j : disk.World) (w : Work) → w .turn .disk ≡ order.Free → Working long j w → Runs long j (stepOf g w)
 unfolding stepOf
 step-runs long g j w free works =
     pick-rule (Runs long j) (marksAt (w .turn .at)) (first-runs long g j w free works)
-    (λ e. goes-on long g j w free works (w .links) (w .turn .disk) free (works .sound) (λ x. refl) (works .ok))
+    (λ e. goes-on long g j w free works (w .links) (w .turn .disk) free (works .sound) (λ x. refl) (works .ok) (less-same (w .links)))
 
 -- while an order waits the turn stays where it is
 waits-stays : (n : ℕ) (g : Given) (w : Work) → isFree (w .turn .disk) ≡ false → advanceOf n g w ≡ w

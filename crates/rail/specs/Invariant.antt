@@ -17,6 +17,7 @@ use Rattle.turn.specs.declared.state.Limits.{Limits}
 use Rattle.turn.specs.Step.{Work}
 use Rattle.places.specs.Places.{stands, Sound}
 use Rattle.keeping.specs.Keeping.{AtOk}
+use Rattle.keeping.specs.Living.{Lives, AtLives}
 use Rattle.handing.specs.Handing.{idsOf}
 use Rattle.rail.specs.Rail.{World, walOf}
 
@@ -27,16 +28,20 @@ Agrees (order.Waits o for) status bytes = status ≡ disk.waits (disk.sent bytes
 Agrees order.Failed status bytes = (s : disk.Sent) × (status ≡ disk.lost s)
 
 -- the ids logged: each once, each below the next id, each open or done
-pub record Ledger (j : disk.World) (logged done : List ℕ) : Type 0 where
+pub record Ledger (j : disk.World) (next : ℕ) (logged done : List ℕ) : Type 0 where
+  -- the world's next id is the log's
+  pub next-is : next ≡ j .wal .counters .next
   pub adds : (x : ℕ) → count x (idsOf (j .now)) + count x done ≡ count x logged
   pub once : (x : ℕ) → count x logged ≤ 1
   pub below : (x : ℕ) → 0 < count x logged → x < j .wal .counters .next
 
--- a turn's work with the journal beside it: sound lists; each id stands as often as it is logged and not done; the log of the journal; the disk
+-- a turn's work with the journal beside it: sound lists; each id stands as often as it is logged and not done; who holds a message lives; the log of the journal; the disk
 pub record Working (long : ℕ) (j : disk.World) (w : Work) : Type 0 where
   pub sound : Sound (w .links) (w .rows) (w .turn .counts .queued)
   pub ids : (x : ℕ) → stands x (w .links) (w .rows) ≡ count x (idsOf (j .now))
   pub ok : AtOk (w .turn .at) (w .links)
+  pub lives : Lives (w .links) (w .keys) (w .actors)
+  pub here : AtLives (w .turn .at) (w .links) (w .keys) (w .actors)
   pub wal : j .wal ≡ state (w .bytes) (w .records) (w .turn .log)
   pub agrees : Agrees (w .turn .disk) (j .disk .status) (w .bytes)
   pub journal : log.Sound long j
@@ -70,5 +75,5 @@ workOf w = record {
 -- what holds after every list of calls
 pub record Steady (long : ℕ) (limits : Limits) (w : World) : Type 0 where
   pub works : Working long (w .journal) (workOf w)
-  pub ledger : Ledger (w .journal) (w .logged) (w .done)
+  pub ledger : Ledger (w .journal) (w .next) (w .logged) (w .done)
   pub limits-are : w .state .pool .limits ≡ limits

@@ -5,18 +5,24 @@ use mathlib.Core.Path.{_≡_}
 use mathlib.Core.Bool.{Bool, true, false}
 use mathlib.Core.Logic.{_⊎_}
 use mathlib.Core.List.{List, [], _∷_, _++_, List·Memᴰ}
-use Prim.Native.Nat.{ℕ, _<_}
+use Prim.Native.Nat.{ℕ, _+_, _*_, _<_, _≤_}
 use lib.ListN.{length, take, drop}
 use Rattle.text.specs.Format.{Message}
-use Rattle.log.specs.Opening.{Opening, opened, refused, opening, remove}
-use Rattle.log.specs.Log.{Wal, newMessage}
+use Rattle.log.specs.Opening.{Opening, opened, refused, opening, remove, Rising}
+use Rattle.log.specs.Log.{Wal}
 use Rattle.log.specs.Opened as log
+use Rattle.log.specs.declared.Order.{Order}
 use Rattle.log.specs.Recovery as disk
 use Rattle.lists.specs.Links.{Table}
-use Rattle.lists.specs.Family.{count}
+use Rattle.lists.specs.Family.{count, view}
 use Rattle.actor.specs.declared.message.Caller.{Caller}
 use Rattle.actor.specs.declared.question.Reply.{Reply}
+use Rattle.actor.specs.declared.question.Question.{Question}
+use Rattle.actor.specs.declared.question.Question.the-variants as ask
+use Rattle.actor.specs.declared.question.Asked.{Asked}
+use Rattle.actor.specs.declared.question.Asked.the-variants as asked
 use Rattle.places.specs.Places.{stands, mailTotal}
+use Rattle.keeping.specs.Living.{given}
 use Rattle.handing.specs.Handing.{handed, idsOf}
 use Rattle.setup.specs.declared.settings.Settings.{Settings}
 use Rattle.turn.specs.declared.state.What.{What}
@@ -141,10 +147,12 @@ abbrev pub walOf : State → Wal
 walOf s = record { bytes = s .bytes; table = s .records; counters = s .pool .turn .log }
 
 -- journal: the log, the disk, the moments, and the moment of the last confirmed flush or replace (crates/log/specs/Recovery).
+-- next: the next id, by the file at the opening, and one more with each record's order; the pool's own count is not looked at.
 -- logged: the ids logged or handed back; done: the ids marked; both as orders went out.
 pub record World : Type 0 where
   pub state : State
   pub journal : disk.World
+  pub next : ℕ
   pub logged : List ℕ
   pub done : List ℕ
 
@@ -165,15 +173,20 @@ bodyOf close = []
 
 -- an order with a new record adds its message, with the name and body given and the next id; an order for a mark takes off the message that it marks;
 -- any other order changes nothing
-abbrev pub effect : Wal → Call → What → List Message → List Message
-effect w c what.Record now = now ++ (newMessage w (nameOf c) (bodyOf c) ∷ [])
-effect w c (what.Mark id) now = remove (id .0) now
-effect w c what.Nothing now = now
+abbrev pub effect : ℕ → Call → What → List Message → List Message
+effect next c what.Record now = now ++ (record { id = next; name = nameOf c; body = bodyOf c } ∷ [])
+effect next c (what.Mark id) now = remove (id .0) now
+effect next c what.Nothing now = now
 
-abbrev pub loggedBy : Wal → What → List ℕ → List ℕ
-loggedBy w what.Record ids = ids ++ (w .counters .next ∷ [])
-loggedBy w (what.Mark id) ids = ids
-loggedBy w what.Nothing ids = ids
+abbrev pub nextBy : What → ℕ → ℕ
+nextBy what.Record next = next + 1
+nextBy (what.Mark id) next = next
+nextBy what.Nothing next = next
+
+abbrev pub loggedBy : ℕ → What → List ℕ → List ℕ
+loggedBy next what.Record ids = ids ++ (next ∷ [])
+loggedBy next (what.Mark id) ids = ids
+loggedBy next what.Nothing ids = ids
 
 abbrev pub doneBy : What → List ℕ → List ℕ
 doneBy what.Record ids = ids
@@ -184,16 +197,64 @@ doneBy what.Nothing ids = ids
 abbrev pub moved : disk.World → Wal → disk.World
 moved j wal = record { wal = wal; disk = j .disk; moments = j .moments; now = j .now; firm = j .firm }
 
--- the order that a call sent out, if any, is one more moment; its bytes are read from the log as it stands
-abbrev pub ordered : Call → World → State → disk.World → Disk → World
-ordered c w s j order.Free = record { state = s; journal = moved j (walOf s); logged = w .logged; done = w .done }
-ordered c w s j (order.Waits o for) = record {
+-- the order that an answer shows to the host, if any
+pub data Shown : Type 0 where
+  nothing : Shown
+  shows : Order → Shown
+
+abbrev pub orderAsked : Question → Shown
+orderAsked (ask.Boot g) = nothing
+orderAsked ask.Clock = nothing
+orderAsked (ask.Poll who) = nothing
+orderAsked (ask.Drain who) = nothing
+orderAsked (ask.Dispatch who) = nothing
+orderAsked (ask.Run who start message) = nothing
+orderAsked (ask.Push who message) = nothing
+orderAsked (ask.Sends who) = nothing
+orderAsked (ask.Trap g) = nothing
+orderAsked (ask.Trapped who) = nothing
+orderAsked (ask.Tell to outcome) = nothing
+orderAsked (ask.Store o) = shows o
+
+abbrev pub orderOpen : Asked → Shown
+orderOpen (asked.Open q) = orderAsked q
+orderOpen asked.Nothing = nothing
+
+abbrev pub orderIn : Answer → Shown
+orderIn (answer.Refused r) = nothing
+orderIn (answer.Open a) = orderOpen a
+orderIn (answer.Ended busy waiters) = nothing
+
+-- what the step's definition says that its order is for
+abbrev pub tagOf : Disk → What
+tagOf order.Free = what.Nothing
+tagOf (order.Waits o for) = for
+tagOf order.Failed = what.Nothing
+
+-- what an order is for, by the call that sent it out: an admission's is its record, a sync's nothing; within a turn, what the step's definition marks
+abbrev pub kindOf : Call → What → What
+kindOf (admit name body who) for = what.Record
+kindOf turn for = for
+kindOf (reply r name body) for = for
+kindOf sync for = what.Nothing
+kindOf close for = what.Nothing
+
+abbrev pub orderedFor : Call → World → State → disk.World → Order → What → World
+orderedFor c w s j o for = record {
   state = s;
-  journal = disk.issue j (walOf s) (effect (walOf (w .state)) c for (j .now)) (disk.sent (s .bytes) o);
-  logged = loggedBy (walOf (w .state)) for (w .logged);
+  journal = disk.issue j (walOf s) (effect (w .next) c for (j .now)) (disk.sent (s .bytes) o);
+  next = nextBy for (w .next);
+  logged = loggedBy (w .next) for (w .logged);
   done = doneBy for (w .done);
 }
-ordered c w s j order.Failed = record { state = s; journal = moved j (walOf s); logged = w .logged; done = w .done }
+
+abbrev pub unordered : World → State → disk.World → World
+unordered w s j = record { state = s; journal = moved j (walOf s); next = w .next; logged = w .logged; done = w .done }
+
+-- the order that a call's answer shows, if any, is one more moment; its bytes are read from the log as it stands
+abbrev pub ordered : Call → World → State → disk.World → Shown → What → World
+ordered c w s j nothing for = unordered w s j
+ordered c w s j (shows o) for = orderedFor c w s j o (kindOf c for)
 
 -- the order that waits is answered: stored, or failed; any other call leaves it
 abbrev pub orderAnswered : disk.World → disk.Sent → StoredIn → disk.World
@@ -215,9 +276,9 @@ answered j close = j
 
 -- a refused call adds nothing; an accepted one answers the order that waited, and may send out another
 abbrev pub stepBy : World → Call → State → Answer → World
-stepBy w c s (answer.Refused r) = record { state = s; journal = moved (w .journal) (walOf s); logged = w .logged; done = w .done }
-stepBy w c s (answer.Open a) = ordered c w s (answered (w .journal) c) (s .pool .turn .disk)
-stepBy w c s (answer.Ended busy waiters) = ordered c w s (answered (w .journal) c) (s .pool .turn .disk)
+stepBy w c s (answer.Refused r) = unordered w s (w .journal)
+stepBy w c s (answer.Open a) = ordered c w s (answered (w .journal) c) (orderOpen a) (tagOf (s .pool .turn .disk))
+stepBy w c s (answer.Ended busy waiters) = unordered w s (answered (w .journal) c)
 
 abbrev pub stepDid : World → Call → Did → World
 stepDid w c d = stepBy w c (d .state) (d .answer)
@@ -244,6 +305,16 @@ leftBy (refused r) = []
 abbrev pub leftOf : List ℕ → List Message
 leftOf file = leftBy (opening file)
 
+-- 1 + the largest record id seen, else 0
+abbrev pub nextFrom : Opening → ℕ
+nextFrom (opened r) = r .next
+nextFrom (refused r) = 0
+
+-- the order that the opening's answer shows is out
+abbrev pub startStatus : List ℕ → Shown → disk.Status
+startStatus bytes nothing = disk.settled
+startStatus bytes (shows o) = disk.waits (disk.sent bytes o)
+
 abbrev pub openState : PoolOpened → Table → State
 openState o actors = record {
   pool = o .told .pool;
@@ -257,17 +328,18 @@ openState o actors = record {
   actors = actors;
 }
 
--- the world at the start: the file given counts as confirmed, the opening's own replace is out, and the messages left are handed back
+-- the world at the start: the file given counts as confirmed, the order that its answer shows is out, and the messages left are handed back
 abbrev pub begin : PoolOpened → Table → List ℕ → World
 begin o actors file = record {
   state = openState o actors;
   journal = record {
     wal = walOf (openState o actors);
-    disk = record { sure = file; since = []; status = disk.waits (disk.replacing (take (o .told .pool .turn .log .size) (o .bytes))) };
+    disk = record { sure = file; since = []; status = startStatus (o .bytes) (orderIn (o .told .answer)) };
     moments = leftOf file ∷ [];
     now = leftOf file;
     firm = 0;
   };
+  next = nextFrom (opening file);
   logged = idsOf (leftOf file);
   done = [];
 }
@@ -286,18 +358,36 @@ Placed w x =
 -- the next opening of a file, with the same settings, in a lent log of the same length that begins with it, and any store and tables of the right sizes,
 -- is accepted, and hands back in rising id order the messages of one of these moments
 pub record Reopens (s : Settings) (given : Table) (long : ℕ) (file : List ℕ) (moments : List (List Message)) : Type 0 where
+  -- it fits a lent log of that length
+  pub fits : length file ≤ long
   pub found : List Message
+  -- the ids rise
+  pub rises : (high : ℕ) × Rising 0 found high
   pub among : List·Memᴰ found moments
   pub accepts : (bytes store : List ℕ) (records groups links rows keys actors : Table) → length bytes ≡ long → take (length file) bytes ≡ file → length store ≡ 40960
       → length records ≡ 256 → length groups ≡ 8 → length links ≡ 262 → length rows ≡ 256 → length keys ≡ 34 → length actors ≡ 128
       → (accepted (openOf s given bytes (length file) store records groups links rows keys actors .told .answer) ≡ true)
       × (handedBack (openOf s given bytes (length file) store records groups links rows keys actors) ≡ found)
 
+-- the messages in the mailbox and in the hand of the actor of key k in group g, slot 16 × g + k
+abbrev pub mailboxAt : Table → ℕ → ℕ → List ℕ
+mailboxAt t g k = view t (6 + 2 * (16 * g + k))
+
+abbrev pub handAt : Table → ℕ → ℕ → List ℕ
+handAt t g k = view t (7 + 2 * (16 * g + k))
+
+-- whoever has a message, in the mailbox or in the hand, lives: the key is given out in the group's slab. A hand holds at most one message
+abbrev pub Living : Table → Table → ℕ → ℕ → Type 0
+Living t keys g k = (0 < length (mailboxAt t g k) + length (handAt t g k) → given keys g k ≡ true) × (length (handAt t g k) ≤ 1)
+
 pub record Holds (s : Settings) (given : Table) (long : ℕ) (w : World) : Type 0 where
   -- each message logged or handed back
   pub placed : (x : ℕ) → 0 < count x (w .logged) → Placed w x
   -- queued is the sum of the mailbox lengths
   pub queued : w .state .pool .turn .counts .queued ≡ mailTotal (w .state .links)
+  -- nobody who is not there holds a message, in any of the 8 groups of 16 keys; and the step's hand holds at most one
+  pub living : (g k : ℕ) → g < 8 → k < 16 → Living (w .state .links) (w .state .keys) g k
+  pub hand : length (view (w .state .links) 5) ≤ 1
   -- wherever the power fails, whichever file the write rule allows: a moment up to the cut, no earlier than the last confirmed flush or replace
   pub safe : (file : List ℕ) → disk.Possible (w .journal .disk) file → Reopens s given long file (drop (w .journal .firm) (w .journal .moments))
 

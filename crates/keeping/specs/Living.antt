@@ -1,0 +1,100 @@
+-- Who holds messages: a slot whose mailbox or hand is not empty has a living actor, its key given out in its group's slab; a hand holds at most one message.
+use mathlib.Core.Path.{_≡_}
+use mathlib.Core.Bool.{Bool, true, false}
+use Prim.Native.Nat.{ℕ, _+_, _*_, _≤_, _<_}
+use lib.ListN.{length}
+use Rattle.lists.specs.Links.{Table, lenOf}
+use Rattle.lists.specs.KeyLists.{keysAt}
+use Rattle.lists.specs.Slabs as slab
+use Rattle.lists.specs.Slabs.{containsOf}
+use Rattle.actor.specs.declared.state.Mode.the-variants as mode
+use Rattle.actor.specs.Actors.{actorAt, hasRun}
+use Rattle.steps.specs.declared.step.Step.{Step}
+use Rattle.steps.specs.declared.step.Step.the-variants as end
+use Rattle.steps.specs.declared.fixed.FixedAt.{FixedAt}
+use Rattle.steps.specs.declared.fixed.FixedAt.the-variants as fixed
+use Rattle.steps.specs.declared.eval.EvalAt.{EvalAt}
+use Rattle.steps.specs.declared.eval.EvalAt.the-variants as eval
+use Rattle.group.specs.declared.at.At.{At}
+use Rattle.group.specs.declared.at.At.the-variants as at
+use Rattle.group.specs.declared.at.Cursor.{Cursor}
+use Rattle.group.specs.Roster.{slotAt, liveOf}
+
+-- how many messages are in the mailbox and in the hand of the actor of key k in group g, and in the step's hand
+abbrev pub mailLen : Table → ℕ → ℕ → ℕ
+mailLen t g k = lenOf t (6 + 2 * (16 * g + k))
+
+abbrev pub handLen : Table → ℕ → ℕ → ℕ
+handLen t g k = lenOf t (7 + 2 * (16 * g + k))
+
+abbrev pub stepHand : Table → ℕ
+stepHand t = lenOf t 5
+
+-- key k of group g is given out: an actor lives there
+abbrev pub given : Table → ℕ → ℕ → Bool
+given keys g k = containsOf (keysAt keys (4 * g)) k
+
+-- the invariant: the slabs are sound; who is not there holds nothing; a hand holds at most one message, and none of an eval actor that runs nothing
+pub record Lives (t keys actors : Table) : Type 0 where
+  pub keys-are : length keys ≡ 34
+  pub actors-are : length actors ≡ 128
+  pub slabs : (g : ℕ) → g < 8 → slab.Sound (keysAt keys (4 * g))
+  pub dead : (g k : ℕ) → g < 8 → k < 16 → given keys g k ≡ false → (mailLen t g k ≡ 0) × (handLen t g k ≡ 0)
+  pub one : (g k : ℕ) → g < 8 → k < 16 → handLen t g k ≤ 1
+  pub runs : (g k : ℕ) → g < 8 → k < 16 → actorAt actors (16 * g + k) .mode ≡ mode.Eval → hasRun (actorAt actors (16 * g + k) .run) ≡ false → handLen t g k ≡ 0
+
+-- ---- where a turn stands: the step's hand, and the hand of the step's actor
+
+-- a step ended: with its message over or in the step's hand its actor holds none
+abbrev pub EndHands : Cursor → Step → Table → Type 0
+EndHands c end.Done t = (stepHand t ≤ 0) × (handLen t (c .group) (c .key) ≤ 0)
+EndHands c end.Waiting t = stepHand t ≤ 0
+EndHands c (end.Blocked until) t = stepHand t ≤ 0
+EndHands c end.Yield t = stepHand t ≤ 0
+EndHands c end.Failed t = (stepHand t ≤ 1) × (handLen t (c .group) (c .key) ≤ 0)
+
+abbrev pub FixedHands : Cursor → FixedAt → Table → Type 0
+FixedHands c (fixed.Run start) t = stepHand t ≤ 0
+FixedHands c fixed.Drain t = (stepHand t ≤ 0) × (handLen t (c .group) (c .key) ≤ 0)
+FixedHands c fixed.Push t = (stepHand t ≤ 1) × (handLen t (c .group) (c .key) ≤ 0)
+FixedHands c fixed.Dispatch t = stepHand t ≤ 0
+FixedHands c (fixed.End e) t = EndHands c e t
+
+abbrev pub EvalHands : Cursor → EvalAt → Table → Type 0
+EvalHands c eval.Clock t = stepHand t ≤ 0
+EvalHands c eval.Boot t = (stepHand t ≤ 1) × (handLen t (c .group) (c .key) ≤ 0)
+EvalHands c eval.StartClock t = (stepHand t ≤ 1) × (handLen t (c .group) (c .key) ≤ 0)
+EvalHands c (eval.Run start) t = stepHand t ≤ 0
+EvalHands c eval.Dispatch t = stepHand t ≤ 0
+EvalHands c (eval.Tell o) t = stepHand t ≤ 1
+EvalHands c (eval.End e) t = EndHands c e t
+
+-- the actor of a step lives
+abbrev pub Lively : Table → Cursor → Type 0
+Lively keys c = liveOf keys (c .group) (c .key) ≡ true
+
+abbrev pub IsFixed : Table → Cursor → Type 0
+IsFixed actors c = actorAt actors (slotAt (c .group) (c .key)) .mode ≡ mode.Fixed
+
+abbrev pub AtLives : At → Table → Table → Table → Type 0
+AtLives at.Rest t keys actors = stepHand t ≤ 0
+AtLives (at.Seed g) t keys actors = stepHand t ≤ 0
+AtLives (at.SeedBoot g) t keys actors = stepHand t ≤ 0
+AtLives (at.Intake left) t keys actors = stepHand t ≤ 0
+AtLives (at.Route left) t keys actors = stepHand t ≤ 0
+AtLives (at.RouteBoot g left) t keys actors = stepHand t ≤ 0
+AtLives at.TickClock t keys actors = stepHand t ≤ 0
+AtLives (at.Wake g clock) t keys actors = stepHand t ≤ 0
+AtLives (at.WakeNext g clock left) t keys actors = stepHand t ≤ 0
+AtLives (at.WakePoll g k clock left) t keys actors = stepHand t ≤ 0
+AtLives (at.Ready g clock pops) t keys actors = stepHand t ≤ 0
+AtLives (at.Fixed c a) t keys actors = (Lively keys c × IsFixed actors c) × FixedHands c a t
+AtLives (at.Eval c a) t keys actors = Lively keys c × EvalHands c a t
+AtLives (at.StepEnd c s) t keys actors = EndHands c s t
+AtLives (at.Sends c s) t keys actors = EndHands c s t
+AtLives (at.Settle c s) t keys actors = EndHands c s t
+AtLives (at.Crash c) t keys actors = stepHand t ≤ 1
+AtLives (at.AskTrap c) t keys actors = stepHand t ≤ 0
+AtLives (at.Trap c) t keys actors = stepHand t ≤ 0
+AtLives (at.Trapped c k) t keys actors = stepHand t ≤ 0
+AtLives (at.Doomed c left) t keys actors = stepHand t ≤ 0
