@@ -49,10 +49,10 @@ use Rattle.front.specs.declared.state.Check.the-variants as check
 use Rattle.front.specs.State.{lengthCheck, logRefusal, withDisk, shown}
 use Rattle.door.specs.Admit as one
 use Rattle.door.specs.Admit.{INBOX, roomCheck}
-use Rattle.rail.specs.Rail.{Call, admit, State, didAdmit, callOf, World, walOf, orderedFor}
+use Rattle.rail.specs.Rail.{Call, admit, State, didAdmit, callOf, World, walOf, orderedFor, ordersIn, ofRecord}
 use Rattle.rail.specs.Invariant.{Agrees, Ledger, Working, still, Steady}
 use Rattle.rail.proofs.Ids.{count-snoc, now-count}
-use Rattle.rail.proofs.After.{workIn, Ends, turned, took, rest-steady, call-sound, shown-rule}
+use Rattle.rail.proofs.After.{workIn, orderOf, Ends, turned, took, rest-steady, call-sound, shown-rule}
 
 -- ---- the checks
 
@@ -267,7 +267,7 @@ module _ (long : ℕ) (limits : Limits) (w : World) (steady : Steady long limits
     unfolding one.admitFit
     called-ends who =
         shown-rule (λ told. Ends long limits w c (didAdmit s (one.admittedBy (s .bytes) (s .records) k told))) p (k .links) (k .rows)
-        (λ a ok. took ok refl (rest-steady long limits c w (withKept s k) j refl
+        (λ a ok. took ok refl (ap (λ d. ordersIn (orderOf d)) free) (rest-steady long limits c w (withKept s k) j refl
         free ((unlogged-works long j s k (steady .works) (arrives room (caller.From who) id.Never))) (steady .ledger) (steady .limits-are)))
       where
         c : Call
@@ -307,8 +307,8 @@ module _ (long : ℕ) (limits : Limits) (w : World) (steady : Steady long limits
           let old : j .wal ≡ v = steady .works .wal in
           shown-rule (λ told. Ends long limits w c (didAdmit s (one.admittedBy (d .wal .bytes) (d .wal .table) k told)))
           (withDisk p (d .wal .counters) (order.Waits o what.Record)) (k .links) (k .rows)
-          (λ a ok. took ok (recorded-tail v (j .now) name body standing fit-new)
-          (subst (λ n. Steady long limits (orderedFor c (withNext w n) after j o what.Record)) (sym top) (record {
+          (λ a ok. took ok (recorded-tail v (j .now) name body standing fit-new) refl
+          (subst (λ n. Steady long limits (orderedFor (withNext w n) after j o (ofRecord name body))) (sym top) (record {
             works = record {
               sound = came .comes .sound;
               ids = λ x. omega (arith, came .comes .more x, steady .works .ids x, now-count x (log.newMessage v name body) (j .now));

@@ -1,17 +1,18 @@
--- How a call ends: refused, with the state as it was, or accepted, with the invariant and the log's bytes behind its size kept; and what an order for a mark changes. Assumes nothing.
+-- How a call ends: refused, with the state as it was, or accepted, with the invariant and the log's bytes behind its
+-- size kept and an order that fits the call; and what an order for a mark changes. Assumes nothing.
 use mathlib.Core.Path.{_≡_, refl, sym, ap, _∙_, subst}
 use mathlib.Core.Bool.{true}
 use mathlib.Core.List.{List, [], _∷_, _++_}
-use Prim.Native.Nat.{ℕ, _+_, _<_}
+use Prim.Native.Nat.{ℕ, _+_, _≤_, _<_}
 use native.Mathlib.Omega.{arith}
 use native.Mathlib.Decide.{ℕ-discrete}
 use borrow.Author.Tests.{eq-eqb, ne-eqb}
-use lib.ListN.{drop}
+use lib.ListN.{length, drop}
+use Rattle.text.specs.Format.{Message}
 use Rattle.lists.specs.Links.{Table}
 use Rattle.lists.specs.Family.{count}
 use Rattle.log.specs.Opening.{remove}
-use Rattle.log.specs.declared.LogId.{LogId}
-use Rattle.turn.specs.declared.state.What.the-variants as what
+use Rattle.log.specs.declared.Order.{Order}
 use Rattle.turn.specs.declared.state.Disk.{Disk}
 use Rattle.turn.specs.declared.state.Disk.the-variants as order
 use Rattle.log.specs.Recovery as disk
@@ -27,8 +28,10 @@ use Rattle.front.specs.declared.state.Answer.the-variants as answer
 use Rattle.front.specs.declared.state.Told.{Told}
 use Rattle.front.specs.State.{shown, atRest}
 use Rattle.pool.specs.Run.{answeredOf}
-use Rattle.rail.specs.Rail.{Call, State, Did, World, walOf, moved, kindOf, Shown, nothing, shows, orderIn, tagOf, orderedFor, ordered, answered, accepted, stepDid}
+use Rattle.rail.specs.Rail.{Call, State, Did, World, walOf, moved, Shown, nothing, shows, ordersIn, orderIn}
+use Rattle.rail.specs.Rail.{ofMark, purposeOf, outOfPlaces, OrderFits, orderedFor, ordered, answered, accepted, stepDid}
 use Rattle.rail.proofs.Ids.{gone-same, gone-other, count-snoc}
+use Rattle.rail.proofs.Left.{none-out, marked-in, marked-out, marked-one}
 use Rattle.rail.specs.Invariant.{Ledger, Working, TailKept, Runs, still, marks, markedOff, Steady}
 
 -- the state as a turn's work
@@ -49,6 +52,11 @@ marked-ledger j j′ top logged done id old there now next = record {
     adds x (yes p) = rw p (omega (arith, gone-same id (j .now), rw (eq-eqb id id refl) at (count-snoc id id done), old .adds id, old .once id))
     adds x (no p) = omega (arith, gone-other id x (j .now) p, rw (ne-eqb id x (λ z. p (sym z))) at (count-snoc x id done), old .adds x)
 
+-- an id is open at most once
+open-once : (j : disk.World) {top : ℕ} {logged done : List ℕ} → Ledger j top logged done → (x : ℕ)
+    → count x (idsOf (j .now)) ≤ 1
+open-once j old x = omega (arith, old .adds x, old .once x)
+
 -- ---- a call of the log
 
 -- with no order out, a call of the log keeps what holds of the journal
@@ -67,12 +75,19 @@ orderOf order.Failed = nothing
 
 -- the world by the pool's own order; the answer shows the same one (Shown)
 abbrev pub orderedIn : Call → World → State → disk.World → Disk → World
-orderedIn c w s j d = ordered c w s j (orderOf d) (tagOf d)
+orderedIn c w s j d = ordered c w s j (orderOf d)
+
+-- a call whose orders are marks: it takes off as many messages as it has orders
+abbrev pub Marking : World → Call → Type 0
+Marking w c =
+    (purposeOf c ≡ ofMark)
+    × ((s : State) (o : Shown) → length (outOfPlaces s (w .journal .now)) ≡ ordersIn o → OrderFits w c s o)
 
 module _ (long : ℕ) (limits : Limits) where
   pub data Ends (w : World) (c : Call) (d : Did) : Type 0 where
     turned : (r : Refusal) → d ≡ record { state = w .state; answer = answer.Refused r } → Ends w c d
     took : accepted (d .answer) ≡ true → TailKept (w .state .bytes) (workIn (d .state))
+        → OrderFits w c (d .state) (orderOf (d .state .pool .turn .disk))
         → Steady long limits (orderedIn c w (d .state) (answered (w .journal) c) (d .state .pool .turn .disk)) → Ends w c d
 
   -- with no order: the journal is the one that the work has beside it
@@ -89,16 +104,59 @@ module _ (long : ℕ) (limits : Limits) where
       subst (λ k. Steady long limits (orderedIn c w s k (s .pool .turn .disk))) (sym from)
       (subst (λ d. Steady long limits (orderedIn c w s j d)) (sym free) (calm-steady s j (w .next) (w .logged) (w .done) works ledger is))
 
-  pub runs-steady : (c : Call) (w : World) (s : State) (j : disk.World) → ((id : LogId) → kindOf c (what.Mark id) ≡ what.Mark id) → answered (w .journal) c ≡ j → Runs long j (workIn s) → Ledger j (w .next) (w .logged) (w .done)
+  -- the world after the order of a mark, with these messages left and these ids done
+  abbrev offBy : World → State → disk.World → Order → List Message → List ℕ → World
+  offBy w s j o now ids = record {
+    state = s;
+    journal = disk.issue j (walOf s) now (disk.sent (s .bytes) o);
+    next = w .next;
+    logged = w .logged;
+    done = w .done ++ ids;
+  }
+
+  pub runs-steady : (c : Call) (w : World) (s : State) (j : disk.World) → Marking w c
+      → answered (w .journal) c ≡ j → Runs long j (workIn s) → Ledger j (w .next) (w .logged) (w .done)
       → s .pool .limits ≡ limits → Steady long limits (orderedIn c w s (answered (w .journal) c) (s .pool .turn .disk))
   unfolding disk.issue
-  runs-steady c w s j own from runs ledger is = subst (λ k. Steady long limits (orderedIn c w s k (s .pool .turn .disk))) (sym from) (go runs)
+  runs-steady c w s j own from runs ledger is =
+      subst (λ k. Steady long limits (orderedIn c w s k (s .pool .turn .disk))) (sym from) (go runs)
     where
       go : Runs long j (workIn s) → Steady long limits (orderedIn c w s j (s .pool .turn .disk))
-      go (still free works) = subst (λ d. Steady long limits (orderedIn c w s j d)) (sym free) (calm-steady s j (w .next) (w .logged) (w .done) works ledger is)
+      go (still free works) =
+          subst (λ d. Steady long limits (orderedIn c w s j d)) (sym free)
+          (calm-steady s j (w .next) (w .logged) (w .done) works ledger is)
       go (marks o id waits there next tail works) =
+          let off : Steady long limits (offBy w s j o (remove (id .0) (j .now)) (id .0 ∷ [])) =
+              record {
+                works = works;
+                ledger = marked-ledger j (markedOff j (workIn s) o id) (w .next) (w .logged) (w .done) (id .0) ledger there refl next;
+                limits-are = is;
+              } in
+          let left = marked-in s (id .0) (j .now) there (open-once j ledger (id .0)) (works .ids) in
+          let ids = marked-out s (id .0) (j .now) there (open-once j ledger (id .0)) (works .ids) in
           subst (λ d. Steady long limits (orderedIn c w s j d)) (sym waits)
-          (subst (λ k. Steady long limits (orderedFor c w s j o k)) (sym (own id)) (record { works = works; ledger = marked-ledger j (markedOff j (workIn s) o id) (w .next) (w .logged) (w .done) (id .0) ledger there refl next; limits-are = is }))
+          (subst (λ k. Steady long limits (orderedFor w s j o k)) (sym (own .0))
+          (subst (λ now. Steady long limits (offBy w s j o now (idsOf (outOfPlaces s (j .now))))) (sym left)
+          (subst (λ x. Steady long limits (offBy w s j o (remove (id .0) (j .now)) x)) (sym ids) off)))
+
+  -- nothing is marked: every message stands where it can be found
+  pub none-fits : (c : Call) (w : World) (s : State) (j : disk.World) → Marking w c → j .now ≡ w .journal .now
+      → Working long j (workIn s) → OrderFits w c s nothing
+  none-fits c w s j own same works =
+      own .1 s nothing
+      (ap length (subst (λ now. outOfPlaces s now ≡ []) same (none-out s (j .now) (works .ids))))
+
+  pub runs-fits : (c : Call) (w : World) (s : State) (j : disk.World) → Marking w c → j .now ≡ w .journal .now
+      → Runs long j (workIn s) → Ledger j (w .next) (w .logged) (w .done)
+      → OrderFits w c s (orderOf (s .pool .turn .disk))
+  unfolding disk.issue
+  runs-fits c w s j own same (still free works) ledger =
+      subst (λ d. OrderFits w c s (orderOf d)) (sym free) (none-fits c w s j own same works)
+  runs-fits c w s j own same (marks o id waits there next tail works) ledger =
+      subst (λ d. OrderFits w c s (orderOf d)) (sym waits)
+      (own .1 s (shows o)
+      (subst (λ now. length (outOfPlaces s now) ≡ 1) same
+      (marked-one s (id .0) (j .now) there (open-once j ledger (id .0)) (works .ids))))
 
   -- after a run the log's bytes at and after its size are those from before it
   pub runs-tail : (j : disk.World) (x : Work) (bytes : List ℕ) → j .wal .bytes ≡ bytes → Runs long j x → TailKept bytes x
@@ -110,23 +168,23 @@ module _ (long : ℕ) (limits : Limits) where
       → Steady long limits (stepDid w c d)
   ends-steady w c d steady shown-is (turned r is) =
       subst (λ e. Steady long limits (stepDid w c e)) (sym is) (calm-steady (w .state) (w .journal) (w .next) (w .logged) (w .done) (steady .works) (steady .ledger) (steady .limits-are))
-  ends-steady w c d steady shown-is (took ok tail after) = go (d .answer) refl
+  ends-steady w c d steady shown-is (took ok tail fits after) = go (d .answer) refl
     where
       by : orderIn (d .answer) ≡ orderOf (d .state .pool .turn .disk)
-          → Steady long limits (ordered c w (d .state) (answered (w .journal) c) (orderIn (d .answer)) (tagOf (d .state .pool .turn .disk)))
-      by is = subst (λ o. Steady long limits (ordered c w (d .state) (answered (w .journal) c) o (tagOf (d .state .pool .turn .disk)))) (sym is) after
+          → Steady long limits (ordered c w (d .state) (answered (w .journal) c) (orderIn (d .answer)))
+      by is = subst (λ o. Steady long limits (ordered c w (d .state) (answered (w .journal) c) o)) (sym is) after
 
-      there : Steady long limits (ordered c w (d .state) (answered (w .journal) c) (orderIn (d .answer)) (tagOf (d .state .pool .turn .disk)))
+      there : Steady long limits (ordered c w (d .state) (answered (w .journal) c) (orderIn (d .answer)))
       there = by (shown-is ok)
 
       go : (a : Answer) → d .answer ≡ a → Steady long limits (stepDid w c d)
       go (answer.Refused r) e = let z : _≡_ {A = ℕ} 0 1 = cc in absurd (omega arith)
       go (answer.Open a) e =
           subst (λ x. Steady long limits (stepDid w c (record { state = d .state; answer = x }))) (sym e)
-          (subst (λ x. Steady long limits (ordered c w (d .state) (answered (w .journal) c) (orderIn x) (tagOf (d .state .pool .turn .disk)))) e there)
+          (subst (λ x. Steady long limits (ordered c w (d .state) (answered (w .journal) c) (orderIn x))) e there)
       go (answer.Ended busy waiters) e =
           subst (λ x. Steady long limits (stepDid w c (record { state = d .state; answer = x }))) (sym e)
-          (subst (λ x. Steady long limits (ordered c w (d .state) (answered (w .journal) c) (orderIn x) (tagOf (d .state .pool .turn .disk)))) e there)
+          (subst (λ x. Steady long limits (ordered c w (d .state) (answered (w .journal) c) (orderIn x))) e there)
 
 -- ---- an answer is no refusal
 

@@ -32,7 +32,7 @@ run-steady long limits (c ∷ calls) w steady = run-steady long limits calls (st
 
 refused-as : (long : ℕ) (limits : Limits) (w : World) (c : Call) (d : Did) (r : Refusal) → Ends long limits w c d → d .answer ≡ answer.Refused r → d .state ≡ w .state
 refused-as long limits w c d r (turned x is) e = ap (λ d. d .state) is
-refused-as long limits w c d r (took ok tail after) e = let z : _≡_ {A = ℕ} 0 1 = cc in absurd (omega arith)
+refused-as long limits w c d r (took ok tail fits after) e = let z : _≡_ {A = ℕ} 0 1 = cc in absurd (omega arith)
 
 -- A refused call leaves pool, log, store and every table equal.
 pub refused-same : (long : ℕ) (limits : Limits) (w : World) (c : Call) (r : Refusal) → Steady long limits w → callOf (w .state) c .answer ≡ answer.Refused r → callOf (w .state) c .state ≡ w .state

@@ -1,5 +1,6 @@
 -- Laws of the rail.
 pub mod Ids
+pub mod Left
 pub mod Marks
 pub mod Running
 pub mod After

@@ -1,6 +1,7 @@
 -- Turn, reply, sync and close: each refused with the state as it was, or accepted with the invariant kept. Assumes nothing.
 use mathlib.Core.Path.{_≡_, refl, sym, ap, _∙_, subst}
 use mathlib.Core.Bool.{Bool, true, false}
+use mathlib.Core.Logic.{inl, inr}
 use mathlib.Core.List.{List}
 use Prim.Native.Nat.{ℕ, _≤_}
 use native.Mathlib.Omega.{arith}
@@ -9,7 +10,6 @@ use lib.ListN.{length, drop}
 use Rattle.lists.specs.Links.{Table, FREE, lenOf}
 use Rattle.log.specs.declared.Counters.{Counters}
 use Rattle.log.specs.declared.Order.{Order}
-use Rattle.log.specs.declared.LogId.{LogId}
 use Rattle.log.specs.declared.Order.the-variants.{Flush}
 use Rattle.log.specs.declared.Answer.the-variants as logged
 use Rattle.log.specs.declared.Stepped.{Stepped}
@@ -45,7 +45,7 @@ use Rattle.front.specs.State.{lengthCheck, withTurn, withDisk, shown, atRest}
 use Rattle.pool.specs.Run.{Ran, PENDING, runOf}
 use Rattle.pool.specs.Calls as one
 use Rattle.pool.specs.Calls.{firstPoint, begunOf, freed, withWent, closedPool, storedIn}
-use Rattle.rail.specs.Rail.{Call, turn, reply, sync, close, State, didRun, didReply, didTell, callOf, World, walOf, kindOf, answered, answeredBy, orderAnswered}
+use Rattle.rail.specs.Rail.{Call, turn, reply, sync, close, State, didRun, didReply, didTell, callOf, World, walOf, answered, answeredBy, orderAnswered, nothing, shows, OrderFits}
 use Rattle.rail.specs.Invariant.{Agrees, Ledger, Working, Runs, still, Steady}
 use Rattle.keeping.proofs.Turn.{ResumeKeeps, resume-keeps}
 use Rattle.keeping.specs.Living.{stepHand, AtLives}
@@ -53,7 +53,8 @@ use Rattle.keeping.proofs.LivingTurn.{resume-lives}
 use Rattle.group.specs.declared.at.At.{At}
 use Rattle.group.specs.declared.at.At.the-variants as at
 use Rattle.rail.proofs.Running.{run-runs}
-use Rattle.rail.proofs.After.{orderedIn, workIn, Ends, turned, took, calm-steady, rest-steady, runs-steady, runs-tail, call-sound, shown-rule, answered-rule}
+use Rattle.rail.proofs.After.{orderedIn, workIn, Marking, Ends, turned, took, calm-steady, rest-steady, runs-steady}
+use Rattle.rail.proofs.After.{none-fits, runs-fits, runs-tail, call-sound, shown-rule, answered-rule, orderOf}
 use Rattle.rail.proofs.Admit.{Arrives, kept-arrives, withKept, unlogged-works}
 
 -- the state with another pool
@@ -143,16 +144,17 @@ synced-sound long j v good settled is ordered = subst (λ u. log.syncOf (u .coun
 
 module _ (long : ℕ) (limits : Limits) (w : World) (c : Call) where
   -- nothing runs, and no order goes out
-  rest-ends : (s : State) (j : disk.World) → s .bytes ≡ w .state .bytes → answered (w .journal) c ≡ j → s .pool .turn .disk ≡ order.Free → Working long j (workIn s)
+  rest-ends : (s : State) (j : disk.World) → OrderFits w c s nothing → s .bytes ≡ w .state .bytes → answered (w .journal) c ≡ j → s .pool .turn .disk ≡ order.Free → Working long j (workIn s)
       → Ledger j (w .next) (w .logged) (w .done) → s .pool .limits ≡ limits → Ends long limits w c (didTell s (shown (s .pool) (s .links) (s .rows)))
-  rest-ends s j same from free works ledger is =
+  rest-ends s j fits same from free works ledger is =
       shown-rule (λ told. Ends long limits w c (didTell s told)) (s .pool) (s .links) (s .rows)
-      (λ a ok. took ok (ap (drop (s .pool .turn .log .size)) same) (rest-steady long limits c w s j from free works ledger is))
+      (λ a ok. took ok (ap (drop (s .pool .turn .log .size)) same)
+      (subst (λ d. OrderFits w c s (orderOf d)) (sym free) fits) (rest-steady long limits c w s j from free works ledger is))
 
-  run-ends : ((id : LogId) → kindOf c (what.Mark id) ≡ what.Mark id) → (s : State) (j : disk.World) → s .bytes ≡ w .state .bytes → answered (w .journal) c ≡ j → s .pool .turn .disk ≡ order.Free → Working long j (workIn s)
+  run-ends : Marking w c → (s : State) (j : disk.World) → j .now ≡ w .journal .now → s .bytes ≡ w .state .bytes → answered (w .journal) c ≡ j → s .pool .turn .disk ≡ order.Free → Working long j (workIn s)
       → Ledger j (w .next) (w .logged) (w .done) → s .pool .limits ≡ limits → Ends long limits w c (didRun s (runIn s))
   unfolding runOf
-  run-ends own s j same from free works ledger is =
+  run-ends own s j now same from free works ledger is =
       answered-rule
       (λ told. Ends long limits w c (didRun s (record {
         bytes = x .bytes;
@@ -165,7 +167,7 @@ module _ (long : ℕ) (limits : Limits) (w : World) (c : Call) where
       })))
       (withTurn (s .pool) (x .turn)) (x .links) (x .rows) (x .keys)
       (λ a ok. took ok (runs-tail long limits j x (w .state .bytes) (ap (λ v. v .bytes) (works .wal) ∙ same) runs)
-      (runs-steady long limits c w _ j own from runs ledger is))
+      (runs-fits long limits c w _ j own now runs ledger) (runs-steady long limits c w _ j own from runs ledger is))
     where
       x : Work
       x = advanceOf (weightOf (s .pool .turn)) (record { limits = s .pool .limits; store = s .store; groups = s .groups }) (workIn s)
@@ -245,7 +247,7 @@ module _ (long : ℕ) (limits : Limits) (w : World) (steady : Steady long limits
   unfolding one.turnFree
   turn-in-ends order.Free is =
       pick-rule (λ r. Ends long limits w turn (didRun s r)) (atRest (p .turn .at))
-      (λ e. run-ends long limits w turn (λ id. refl) (withPool s (begunOf p)) j refl refl is (begun-works e) (steady .ledger) (steady .limits-are)) (λ e. turned refusal.InTurn refl)
+      (λ e. run-ends long limits w turn (refl, λ s o h. h) (withPool s (begunOf p)) j refl refl refl is (begun-works e) (steady .ledger) (steady .limits-are)) (λ e. turned refusal.InTurn refl)
   turn-in-ends (order.Waits o for) is = turned refusal.OrderWaits refl
   turn-in-ends order.Failed is = turned refusal.StoreFailed refl
 
@@ -259,7 +261,7 @@ module _ (long : ℕ) (limits : Limits) (w : World) (steady : Steady long limits
   closed-works = record { sound = works .sound; ids = works .ids; ok = works .ok; lives = works .lives; here = works .here; wal = works .wal; agrees = works .agrees; journal = works .journal }
 
   close-in-ends : (q : Disk) → p .turn .disk ≡ q → Ends long limits w close (didTell s (one.closeIn p (s .links) (s .rows) q))
-  close-in-ends order.Free is = rest-ends long limits w close (withPool s (closedPool p)) j refl refl is closed-works (steady .ledger) (steady .limits-are)
+  close-in-ends order.Free is = rest-ends long limits w close (withPool s (closedPool p)) j refl refl refl is closed-works (steady .ledger) (steady .limits-are)
   close-in-ends (order.Waits o for) is = turned refusal.OrderWaits refl
   close-in-ends order.Failed is = turned refusal.StoreFailed refl
 
@@ -271,11 +273,11 @@ module _ (long : ℕ) (limits : Limits) (w : World) (steady : Steady long limits
   unfolding one.syncFree disk.issue
   sync-free-ends free (idle is) =
       subst (λ d. Ends long limits w sync (didTell s (one.syncDid p (s .links) (s .rows) d))) (sym is)
-      (rest-ends long limits w sync s j refl refl free works (steady .ledger) (steady .limits-are))
+      (rest-ends long limits w sync s j (inl refl) refl refl free works (steady .ledger) (steady .limits-are))
   sync-free-ends free (flush is next) =
       subst (λ a. Ends long limits w sync (didTell s (one.syncBy p (s .links) (s .rows) (log.syncOf (p .turn .log)) a))) (sym is)
       (shown-rule (λ told. Ends long limits w sync (didTell s told)) (withDisk p (log.syncOf (p .turn .log) .counters) (order.Waits Flush what.Nothing)) (s .links) (s .rows)
-      (λ a ok. took ok refl (record {
+      (λ a ok. took ok refl (inr refl) (record {
         works = record {
           sound = works .sound;
           ids = works .ids;
@@ -304,6 +306,9 @@ module _ (long : ℕ) (limits : Limits) (w : World) (steady : Steady long limits
   module _ (r : Reply) (name body : List ℕ) where
     abbrev c : Call
     c = reply r name body
+
+    replying : Marking w c
+    replying = (refl, λ s o h. h)
 
     -- to an order
     module _ (o : Order) (for : What) (waits : p .turn .disk ≡ order.Waits o for) where
@@ -352,14 +357,17 @@ module _ (long : ℕ) (limits : Limits) (w : World) (steady : Steady long limits
 
       order-ends : (x : StoredIn) → storedIn r ≡ x
           → Ends long limits w c (didRun s (one.orderBy p (s .bytes) (s .records) (s .store) (s .groups) (s .links) (s .rows) (s .keys) (s .actors) x))
-      unfolding one.storedOf one.failedOf
+      unfolding one.storedOf one.failedOf disk.storedOrder disk.failedOrder
       order-ends stored.Stored is =
           pick-rule (λ r. Ends long limits w c (didRun s r)) (atRest (p .turn .at))
-          (λ e. rest-ends long limits w c (withPool s (freed p)) (disk.storedOrder j out) refl (from stored.Stored is) refl freed-works freed-ledger (steady .limits-are))
-          (λ e. run-ends long limits w c (λ id. refl) (withPool s (freed p)) (disk.storedOrder j out) refl (from stored.Stored is) refl freed-works freed-ledger (steady .limits-are))
+          (λ e. rest-ends long limits w c (withPool s (freed p)) (disk.storedOrder j out)
+          (none-fits long limits c w (withPool s (freed p)) (disk.storedOrder j out) replying refl freed-works) refl (from stored.Stored is) refl freed-works freed-ledger (steady .limits-are))
+          (λ e. run-ends long limits w c replying (withPool s (freed p)) (disk.storedOrder j out) refl refl (from stored.Stored is) refl freed-works freed-ledger (steady .limits-are))
       order-ends stored.Failed is =
           shown-rule (λ told. Ends long limits w c (didTell s told)) (withDisk p (p .turn .log) order.Failed) (s .links) (s .rows)
-          (λ a ok. took ok refl (subst (λ k. Steady long limits (orderedIn c w (withPool s (withDisk p (p .turn .log) order.Failed)) k order.Failed)) (sym (from stored.Failed is))
+          (λ a ok. took ok refl
+          (none-fits long limits c w (withPool s (withDisk p (p .turn .log) order.Failed)) (disk.failedOrder j out) replying refl failed-works)
+          (subst (λ k. Steady long limits (orderedIn c w (withPool s (withDisk p (p .turn .log) order.Failed)) k order.Failed)) (sym (from stored.Failed is))
           (calm-steady long limits (withPool s (withDisk p (p .turn .log) order.Failed)) (disk.failedOrder j out) (w .next) (w .logged) (w .done) failed-works failed-ledger (steady .limits-are))))
       order-ends stored.Other is = turned refusal.NoFit refl
 
@@ -374,7 +382,8 @@ module _ (long : ℕ) (limits : Limits) (w : World) (steady : Steady long limits
       unfolding one.sentCheck
       sent-ends (check.Refuse x) is = turned x refl
       sent-ends check.Fine is =
-          rest-ends long limits w c (withKept s kept) j refl still-from free (unlogged-works long j s kept works came) (steady .ledger) (steady .limits-are)
+          rest-ends long limits w c (withKept s kept) j
+          (none-fits long limits c w (withKept s kept) j replying refl (unlogged-works long j s kept works came)) refl still-from free (unlogged-works long j s kept works came) (steady .ledger) (steady .limits-are)
         where
           kept : Kept
           kept = keepOf (s .store) (s .links) (s .rows) name body caller.Nobody id.Never PENDING
@@ -420,7 +429,7 @@ module _ (long : ℕ) (limits : Limits) (w : World) (steady : Steady long limits
       unfolding one.fitReply one.sentOf one.resumedOf
       fit-ends =
           pick-rule (λ x. Ends long limits w c (didReply s x)) (one.isMessage r) (λ e. sent-ends (one.sentCheck (s .links) (length name) (length body)) refl)
-          (λ e. run-ends long limits w c (λ id. refl) resumed j refl still-from free resumed-works (steady .ledger) (steady .limits-are))
+          (λ e. run-ends long limits w c replying resumed j refl refl still-from free resumed-works (steady .ledger) (steady .limits-are))
 
       asked-ends : (a : Asked)
           → Ends long limits w c (didReply s (one.askedReply p (s .bytes) (s .records) (s .store) (s .groups) (s .links) (s .rows) (s .keys) (s .actors) r name body a))

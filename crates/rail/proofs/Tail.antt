@@ -11,7 +11,7 @@ use Rattle.rail.proofs.Calls.{call-ends}
 -- refused, the bytes are all as they were; accepted, those behind the new size are
 ends-tail : (long : ℕ) (limits : Limits) (w : World) (c : Call) (d : Did) → Ends long limits w c d → TailKept (w .state .bytes) (workIn (d .state))
 ends-tail long limits w c d (turned r is) = ap (λ (e : Did). drop (d .state .pool .turn .log .size) (e .state .bytes)) is
-ends-tail long limits w c d (took ok tail after) = tail
+ends-tail long limits w c d (took ok tail fits after) = tail
 
 -- In every call, rewriting or not, the log's bytes at and after the new size keep their value from before the call.
 pub tail-kept : (long : ℕ) (limits : Limits) (w : World) (c : Call) → Steady long limits w

@@ -1,21 +1,26 @@
--- THE THEOREM OF THE WHOLE RAIL. From top to bottom: a call; what is handed from call to call; the world, with the disk and the moments; a list of calls; what
--- holds after it. The definitions of the calls are crates/door/specs and crates/pool/specs, those of disk and moments crates/log/specs/Recovery, those of the places
--- crates/places/specs. The theorem itself, `whole-rail`, is proofs/Rail.antt.
+-- THE THEOREM OF THE WHOLE RAIL, from top to bottom: a call; what an answer shows; the world, with the disk and the
+-- moments; a list of calls; an accepted opening; what holds after every list; and what holds of every call of it.
+-- The world goes by the calls, their arguments and the answers that the host gets. Of the pool's insides it looks at
+-- the six places; what holds is said of these, of queued, and of the keys that are given out.
+-- The calls are defined in crates/door/specs and crates/pool/specs, disk and moments in crates/log/specs/Recovery, the
+-- places in crates/places/specs. The theorem is `whole-rail` (proofs/Rail.antt).
 use mathlib.Core.Path.{_≡_}
 use mathlib.Core.Bool.{Bool, true, false}
 use mathlib.Core.Logic.{_⊎_}
 use mathlib.Core.List.{List, [], _∷_, _++_, List·Memᴰ}
 use Prim.Native.Nat.{ℕ, _+_, _*_, _<_, _≤_}
+use lib.Dec.{ltb}
 use lib.ListN.{length, take, drop}
 use Rattle.text.specs.Format.{Message}
-use Rattle.log.specs.Opening.{Opening, opened, refused, opening, remove, Rising}
+use Rattle.log.specs.Opening.{Opening, opened, refused, opening, Rising}
 use Rattle.log.specs.Log.{Wal}
-use Rattle.log.specs.Opened as log
 use Rattle.log.specs.declared.Order.{Order}
+use Rattle.log.specs.declared.Order.the-variants.{Replace, Flush}
 use Rattle.log.specs.Recovery as disk
-use Rattle.lists.specs.Links.{Table}
+use Rattle.lists.specs.Links.{pick, Table}
 use Rattle.lists.specs.Family.{count, view}
 use Rattle.actor.specs.declared.message.Caller.{Caller}
+use Rattle.actor.specs.declared.message.Caller.the-variants as caller
 use Rattle.actor.specs.declared.question.Reply.{Reply}
 use Rattle.actor.specs.declared.question.Question.{Question}
 use Rattle.actor.specs.declared.question.Question.the-variants as ask
@@ -25,10 +30,6 @@ use Rattle.places.specs.Places.{stands, mailTotal}
 use Rattle.keeping.specs.Living.{given}
 use Rattle.handing.specs.Handing.{handed, idsOf}
 use Rattle.setup.specs.declared.settings.Settings.{Settings}
-use Rattle.turn.specs.declared.state.What.{What}
-use Rattle.turn.specs.declared.state.What.the-variants as what
-use Rattle.turn.specs.declared.state.Disk.{Disk}
-use Rattle.turn.specs.declared.state.Disk.the-variants as order
 use Rattle.front.specs.declared.state.Pool.{Pool}
 use Rattle.front.specs.declared.state.Answer.{Answer}
 use Rattle.front.specs.declared.state.Answer.the-variants as answer
@@ -40,7 +41,7 @@ use Rattle.door.specs.Admit.{Admitted, admitOf}
 use Rattle.pool.specs.Run.{Ran}
 use Rattle.pool.specs.Calls.{Replied, turnOf, storedIn, replyOf, syncOf, closeOf}
 
--- ---- calls
+-- ---- a call
 
 pub data Call : Type 0 where
   -- a group's name, a body, and who waits for the outcome, if anybody
@@ -51,7 +52,8 @@ pub data Call : Type 0 where
   sync : Call
   close : Call
 
--- what each call gets as the one before left it: the pool, the log's bytes and table of open records, the body store, and the pool's tables
+-- what each call gets as the one before left it: the pool, the log's bytes and table of open records, the body store,
+-- and the pool's tables
 pub record State : Type 0 where
   pub pool : Pool
   pub bytes : List ℕ
@@ -133,69 +135,25 @@ didTell s t = record {
 
 -- what a call does: the definitions that the code equals
 unfoldable pub callOf : State → Call → Did
-callOf s (admit name body who) = didAdmit s (admitOf (s .pool) (s .bytes) (s .records) (s .store) (s .links) (s .rows) name body who)
-callOf s turn = didRun s (turnOf (s .pool) (s .bytes) (s .records) (s .store) (s .groups) (s .links) (s .rows) (s .keys) (s .actors))
+callOf s (admit name body who) =
+    didAdmit s
+    (admitOf (s .pool) (s .bytes) (s .records) (s .store) (s .links) (s .rows) name body who)
+callOf s turn =
+    didRun s
+    (turnOf (s .pool) (s .bytes) (s .records) (s .store) (s .groups) (s .links) (s .rows) (s .keys) (s .actors))
 callOf s (reply r name body) =
-    didReply s (replyOf (s .pool) (s .bytes) (s .records) (s .store) (s .groups) (s .links) (s .rows) (s .keys) (s .actors) r name body)
+    didReply s
+    (replyOf (s .pool) (s .bytes) (s .records) (s .store) (s .groups) (s .links) (s .rows) (s .keys) (s .actors)
+    r name body)
 callOf s sync = didTell s (syncOf (s .pool) (s .links) (s .rows))
 callOf s close = didTell s (closeOf (s .pool) (s .links) (s .rows))
 
--- ---- the world
+-- ---- what an answer shows
 
--- the log as the state has it
-abbrev pub walOf : State → Wal
-walOf s = record { bytes = s .bytes; table = s .records; counters = s .pool .turn .log }
-
--- journal: the log, the disk, the moments, and the moment of the last confirmed flush or replace (crates/log/specs/Recovery).
--- next: the next id, by the file at the opening, and one more with each record's order; the pool's own count is not looked at.
--- logged: the ids logged or handed back; done: the ids marked; both as orders went out.
-pub record World : Type 0 where
-  pub state : State
-  pub journal : disk.World
-  pub next : ℕ
-  pub logged : List ℕ
-  pub done : List ℕ
-
--- the name and body of a call
-abbrev pub nameOf : Call → List ℕ
-nameOf (admit name body who) = name
-nameOf turn = []
-nameOf (reply r name body) = name
-nameOf sync = []
-nameOf close = []
-
-abbrev pub bodyOf : Call → List ℕ
-bodyOf (admit name body who) = body
-bodyOf turn = []
-bodyOf (reply r name body) = body
-bodyOf sync = []
-bodyOf close = []
-
--- an order with a new record adds its message, with the name and body given and the next id; an order for a mark takes off the message that it marks;
--- any other order changes nothing
-abbrev pub effect : ℕ → Call → What → List Message → List Message
-effect next c what.Record now = now ++ (record { id = next; name = nameOf c; body = bodyOf c } ∷ [])
-effect next c (what.Mark id) now = remove (id .0) now
-effect next c what.Nothing now = now
-
-abbrev pub nextBy : What → ℕ → ℕ
-nextBy what.Record next = next + 1
-nextBy (what.Mark id) next = next
-nextBy what.Nothing next = next
-
-abbrev pub loggedBy : ℕ → What → List ℕ → List ℕ
-loggedBy next what.Record ids = ids ++ (next ∷ [])
-loggedBy next (what.Mark id) ids = ids
-loggedBy next what.Nothing ids = ids
-
-abbrev pub doneBy : What → List ℕ → List ℕ
-doneBy what.Record ids = ids
-doneBy (what.Mark id) ids = ids ++ (id .0 ∷ [])
-doneBy what.Nothing ids = ids
-
--- the log as an accepted call left it
-abbrev pub moved : disk.World → Wal → disk.World
-moved j wal = record { wal = wal; disk = j .disk; moments = j .moments; now = j .now; firm = j .firm }
+abbrev pub accepted : Answer → Bool
+accepted (answer.Refused r) = false
+accepted (answer.Open a) = true
+accepted (answer.Ended busy waiters) = true
 
 -- the order that an answer shows to the host, if any
 pub data Shown : Type 0 where
@@ -225,36 +183,110 @@ orderIn (answer.Refused r) = nothing
 orderIn (answer.Open a) = orderOpen a
 orderIn (answer.Ended busy waiters) = nothing
 
--- what the step's definition says that its order is for
-abbrev pub tagOf : Disk → What
-tagOf order.Free = what.Nothing
-tagOf (order.Waits o for) = for
-tagOf order.Failed = what.Nothing
+-- how many orders that is
+abbrev pub ordersIn : Shown → ℕ
+ordersIn nothing = 0
+ordersIn (shows o) = 1
 
--- what an order is for, by the call that sent it out: an admission's is its record, a sync's nothing; within a turn, what the step's definition marks
-abbrev pub kindOf : Call → What → What
-kindOf (admit name body who) for = what.Record
-kindOf turn for = for
-kindOf (reply r name body) for = for
-kindOf sync for = what.Nothing
-kindOf close for = what.Nothing
+-- ---- the world
 
-abbrev pub orderedFor : Call → World → State → disk.World → Order → What → World
-orderedFor c w s j o for = record {
+-- the log as the state has it
+abbrev pub walOf : State → Wal
+walOf s = record { bytes = s .bytes; table = s .records; counters = s .pool .turn .log }
+
+-- journal: the disk, the moments, the messages logged and not done now, and the moment of the last confirmed flush or
+-- replace (crates/log/specs/Recovery). The log is carried along in it, as there; nothing here is decided by it.
+-- next: the next id, by the file at the opening, and one more with each record's order.
+-- logged: the ids logged or handed back; done: the ids marked; both as orders went out.
+pub record World : Type 0 where
+  pub state : State
+  pub journal : disk.World
+  pub next : ℕ
+  pub logged : List ℕ
+  pub done : List ℕ
+
+-- a message stands in one of the six places, by its log id
+abbrev pub isPlaced : State → Message → Bool
+isPlaced s m = ltb 0 (stands (m .id) (s .links) (s .rows))
+
+-- of these messages, those that stand in a place ..
+unfoldable pub inPlaces : State → List Message → List Message
+inPlaces s [] = []
+inPlaces s (m ∷ ms) = pick (isPlaced s m) (m ∷ inPlaces s ms) (inPlaces s ms)
+
+-- .. and those that stand in none
+unfoldable pub outOfPlaces : State → List Message → List Message
+outOfPlaces s [] = []
+outOfPlaces s (m ∷ ms) = pick (isPlaced s m) (outOfPlaces s ms) (m ∷ outOfPlaces s ms)
+
+-- what an order is for: the record of a message with this name and body; a mark; or neither
+pub data Purpose : Type 0 where
+  ofRecord : List ℕ → List ℕ → Purpose
+  ofMark : Purpose
+  ofNeither : Purpose
+
+-- by the call that it came with: an admission for which no caller waits logs its message; what a turn or a reply
+-- orders is a mark; no other call logs or marks
+abbrev pub purposeOf : Call → Purpose
+purposeOf (admit name body caller.Nobody) = ofRecord name body
+purposeOf (admit name body (caller.From who)) = ofNeither
+purposeOf turn = ofMark
+purposeOf (reply r name body) = ofMark
+purposeOf sync = ofNeither
+purposeOf close = ofNeither
+
+-- What an order does to the messages logged and not done. A record adds its message, with the name and body given and
+-- the next id. A mark takes off the message that left "over" with it. Within one call a message may come to "over" and
+-- leave it, so that no list "over" before or after the call need have it; but a message not done stands in a place
+-- before the call, and the one that left stands in none after it. So that is what is looked at: the six places, after
+-- the call. (That it is exactly one message says `OrdersFit`, below.) Any other order changes nothing.
+abbrev pub effect : ℕ → State → Purpose → List Message → List Message
+effect next s (ofRecord name body) now = now ++ (record { id = next; name = name; body = body } ∷ [])
+effect next s ofMark now = inPlaces s now
+effect next s ofNeither now = now
+
+abbrev pub nextBy : Purpose → ℕ → ℕ
+nextBy (ofRecord name body) next = next + 1
+nextBy ofMark next = next
+nextBy ofNeither next = next
+
+abbrev pub loggedBy : ℕ → Purpose → List ℕ → List ℕ
+loggedBy next (ofRecord name body) ids = ids ++ (next ∷ [])
+loggedBy next ofMark ids = ids
+loggedBy next ofNeither ids = ids
+
+abbrev pub doneBy : State → List Message → Purpose → List ℕ → List ℕ
+doneBy s now (ofRecord name body) ids = ids
+doneBy s now ofMark ids = ids ++ idsOf (outOfPlaces s now)
+doneBy s now ofNeither ids = ids
+
+-- an order goes out: one more moment; its bytes are read from the log as the call left it
+abbrev pub orderedFor : World → State → disk.World → Order → Purpose → World
+orderedFor w s j o for = record {
   state = s;
-  journal = disk.issue j (walOf s) (effect (w .next) c for (j .now)) (disk.sent (s .bytes) o);
+  journal = disk.issue j (walOf s) (effect (w .next) s for (j .now)) (disk.sent (s .bytes) o);
   next = nextBy for (w .next);
   logged = loggedBy (w .next) for (w .logged);
-  done = doneBy for (w .done);
+  done = doneBy s (j .now) for (w .done);
 }
 
-abbrev pub unordered : World → State → disk.World → World
-unordered w s j = record { state = s; journal = moved j (walOf s); next = w .next; logged = w .logged; done = w .done }
+-- the log as an accepted call left it
+abbrev pub moved : disk.World → Wal → disk.World
+moved j wal = record { wal = wal; disk = j .disk; moments = j .moments; now = j .now; firm = j .firm }
 
--- the order that a call's answer shows, if any, is one more moment; its bytes are read from the log as it stands
-abbrev pub ordered : Call → World → State → disk.World → Shown → What → World
-ordered c w s j nothing for = unordered w s j
-ordered c w s j (shows o) for = orderedFor c w s j o (kindOf c for)
+abbrev pub unordered : World → State → disk.World → World
+unordered w s j = record {
+  state = s;
+  journal = moved j (walOf s);
+  next = w .next;
+  logged = w .logged;
+  done = w .done;
+}
+
+-- the order that a call's answer shows, if any
+abbrev pub ordered : Call → World → State → disk.World → Shown → World
+ordered c w s j nothing = unordered w s j
+ordered c w s j (shows o) = orderedFor w s j o (purposeOf c)
 
 -- the order that waits is answered: stored, or failed; any other call leaves it
 abbrev pub orderAnswered : disk.World → disk.Sent → StoredIn → disk.World
@@ -277,7 +309,7 @@ answered j close = j
 -- a refused call adds nothing; an accepted one answers the order that waited, and may send out another
 abbrev pub stepBy : World → Call → State → Answer → World
 stepBy w c s (answer.Refused r) = unordered w s (w .journal)
-stepBy w c s (answer.Open a) = ordered c w s (answered (w .journal) c) (orderOpen a) (tagOf (s .pool .turn .disk))
+stepBy w c s (answer.Open a) = ordered c w s (answered (w .journal) c) (orderOpen a)
 stepBy w c s (answer.Ended busy waiters) = unordered w s (answered (w .journal) c)
 
 abbrev pub stepDid : World → Call → Did → World
@@ -292,16 +324,38 @@ run w (c ∷ cs) = run (step w c) cs
 
 -- ---- an accepted opening
 
-abbrev pub accepted : Answer → Bool
-accepted (answer.Refused r) = false
-accepted (answer.Open a) = true
-accepted (answer.Ended busy waiters) = true
+-- what an opening is given: the settings, with a row for each of their groups; the lent log, of which the first `size`
+-- bytes are the file; the lent body store and tables
+pub record Lent : Type 0 where
+  pub settings : Settings
+  pub groupsGiven : Table
+  pub bytes : List ℕ
+  pub size : ℕ
+  pub store : List ℕ
+  pub records : Table
+  pub groups : Table
+  pub links : Table
+  pub rows : Table
+  pub keys : Table
+  pub actors : Table
 
+abbrev pub opens : Lent → PoolOpened
+opens l =
+    openOf (l .settings) (l .groupsGiven) (l .bytes) (l .size) (l .store) (l .records) (l .groups) (l .links) (l .rows)
+    (l .keys) (l .actors)
+
+-- an opening that is accepted
+abbrev pub Accepts : Lent → Type 0
+Accepts l = accepted (opens l .told .answer) ≡ true
+
+abbrev pub fileIn : Lent → List ℕ
+fileIn l = take (l .size) (l .bytes)
+
+-- the messages that a file leaves
 abbrev pub leftBy : Opening → List Message
 leftBy (opened r) = r .left
 leftBy (refused r) = []
 
--- the messages that a file leaves
 abbrev pub leftOf : List ℕ → List Message
 leftOf file = leftBy (opening file)
 
@@ -328,7 +382,8 @@ openState o actors = record {
   actors = actors;
 }
 
--- the world at the start: the file given counts as confirmed, the order that its answer shows is out, and the messages left are handed back
+-- the world at the start: the file given counts as confirmed, the order that the answer shows is out, and the messages
+-- left are handed back
 abbrev pub begin : PoolOpened → Table → List ℕ → World
 begin o actors file = record {
   state = openState o actors;
@@ -344,30 +399,17 @@ begin o actors file = record {
   done = [];
 }
 
--- ---- what holds
+-- a list of calls after an opening
+abbrev pub after : Lent → List Call → World
+after l calls = run (begin (opens l) (l .actors) (fileIn l)) calls
 
--- what an opening hands back: the messages in pending, in order
-abbrev pub handedBack : PoolOpened → List Message
-handedBack o = handed (o .store) (o .links) (o .rows)
+-- ---- what holds after every list
 
 -- an id is done and stands in no place, or not done and stands in exactly one of the six
 abbrev pub Placed : World → ℕ → Type 0
 Placed w x =
-    ((0 < count x (w .done)) × (stands x (w .state .links) (w .state .rows) ≡ 0)) ⊎ ((count x (w .done) ≡ 0) × (stands x (w .state .links) (w .state .rows) ≡ 1))
-
--- the next opening of a file, with the same settings, in a lent log of the same length that begins with it, and any store and tables of the right sizes,
--- is accepted, and hands back in rising id order the messages of one of these moments
-pub record Reopens (s : Settings) (given : Table) (long : ℕ) (file : List ℕ) (moments : List (List Message)) : Type 0 where
-  -- it fits a lent log of that length
-  pub fits : length file ≤ long
-  pub found : List Message
-  -- the ids rise
-  pub rises : (high : ℕ) × Rising 0 found high
-  pub among : List·Memᴰ found moments
-  pub accepts : (bytes store : List ℕ) (records groups links rows keys actors : Table) → length bytes ≡ long → take (length file) bytes ≡ file → length store ≡ 40960
-      → length records ≡ 256 → length groups ≡ 8 → length links ≡ 262 → length rows ≡ 256 → length keys ≡ 34 → length actors ≡ 128
-      → (accepted (openOf s given bytes (length file) store records groups links rows keys actors .told .answer) ≡ true)
-      × (handedBack (openOf s given bytes (length file) store records groups links rows keys actors) ≡ found)
+    ((0 < count x (w .done)) × (stands x (w .state .links) (w .state .rows) ≡ 0))
+    ⊎ ((count x (w .done) ≡ 0) × (stands x (w .state .links) (w .state .rows) ≡ 1))
 
 -- the messages in the mailbox and in the hand of the actor of key k in group g, slot 16 × g + k
 abbrev pub mailboxAt : Table → ℕ → ℕ → List ℕ
@@ -376,24 +418,120 @@ mailboxAt t g k = view t (6 + 2 * (16 * g + k))
 abbrev pub handAt : Table → ℕ → ℕ → List ℕ
 handAt t g k = view t (7 + 2 * (16 * g + k))
 
--- whoever has a message, in the mailbox or in the hand, lives: the key is given out in the group's slab. A hand holds at most one message
+-- whoever has a message, in the mailbox or in the hand, lives: the key is given out in the group's slab; and a hand
+-- holds at most one message
 abbrev pub Living : Table → Table → ℕ → ℕ → Type 0
-Living t keys g k = (0 < length (mailboxAt t g k) + length (handAt t g k) → given keys g k ≡ true) × (length (handAt t g k) ≤ 1)
+Living t keys g k =
+    (0 < length (mailboxAt t g k) + length (handAt t g k) → given keys g k ≡ true) × (length (handAt t g k) ≤ 1)
 
-pub record Holds (s : Settings) (given : Table) (long : ℕ) (w : World) : Type 0 where
-  -- each message logged or handed back
+-- what an opening hands back: the messages in pending, in order, each with log id, group and body
+abbrev pub handedBack : PoolOpened → List Message
+handedBack o = handed (o .store) (o .links) (o .rows)
+
+-- an opening after this one, of this file: the same settings, a lent log of the same length that begins with the file,
+-- and any store and tables of the right sizes
+pub record Follows (l next : Lent) (file : List ℕ) : Type 0 where
+  pub settings : next .settings ≡ l .settings
+  pub groupsGiven : next .groupsGiven ≡ l .groupsGiven
+  pub bytes : length (next .bytes) ≡ length (l .bytes)
+  pub size : next .size ≡ length file
+  pub begins : fileIn next ≡ file
+  pub store : length (next .store) ≡ 40960
+  pub records : length (next .records) ≡ 256
+  pub groups : length (next .groups) ≡ 8
+  pub links : length (next .links) ≡ 262
+  pub rows : length (next .rows) ≡ 256
+  pub keys : length (next .keys) ≡ 34
+  pub actors : length (next .actors) ≡ 128
+
+-- every next opening of a file is accepted, and hands back the messages of one of these moments
+pub record Reopens (l : Lent) (file : List ℕ) (moments : List (List Message)) : Type 0 where
+  -- the file fits into the lent log
+  pub fits : length file ≤ length (l .bytes)
+  pub found : List Message
+  -- their ids rise, each above the one before
+  pub rises : (high : ℕ) × Rising 0 found high
+  pub among : List·Memᴰ found moments
+  pub accepts : (next : Lent) → Follows l next file → Accepts next
+  pub back : (next : Lent) → Follows l next file → handedBack (opens next) ≡ found
+
+pub record Holds (l : Lent) (w : World) : Type 0 where
+  -- each message logged or handed back is in its place, and no other id stands anywhere
   pub placed : (x : ℕ) → 0 < count x (w .logged) → Placed w x
+  pub others : (x : ℕ) → count x (w .logged) ≡ 0 → stands x (w .state .links) (w .state .rows) ≡ 0
   -- queued is the sum of the mailbox lengths
   pub queued : w .state .pool .turn .counts .queued ≡ mailTotal (w .state .links)
-  -- nobody who is not there holds a message, in any of the 8 groups of 16 keys; and the step's hand holds at most one
+  -- nobody who is not there holds a message, in any of the 8 groups of 16 keys; the step's hand holds at most one
   pub living : (g k : ℕ) → g < 8 → k < 16 → Living (w .state .links) (w .state .keys) g k
   pub hand : length (view (w .state .links) 5) ≤ 1
-  -- wherever the power fails, whichever file the write rule allows: a moment up to the cut, no earlier than the last confirmed flush or replace
-  pub safe : (file : List ℕ) → disk.Possible (w .journal .disk) file → Reopens s given long file (drop (w .journal .firm) (w .journal .moments))
+  -- wherever the power fails, whichever file the write rule allows: a moment up to the cut, and no earlier than the
+  -- last confirmed flush or replace
+  pub safe : (file : List ℕ) → disk.Possible (w .journal .disk) file
+      → Reopens l file (drop (w .journal .firm) (w .journal .moments))
 
--- the statement: every opening that is accepted, every list of calls
+-- THE STATEMENT: every opening that is accepted, every list of calls
 abbrev pub WholeRail : Type 0
-WholeRail =
-    (s : Settings) (given : Table) (bytes : List ℕ) (n : ℕ) (store : List ℕ) (records groups links rows keys actors : Table)
-    → accepted (openOf s given bytes n store records groups links rows keys actors .told .answer) ≡ true → (calls : List Call)
-    → Holds s given (length bytes) (run (begin (openOf s given bytes n store records groups links rows keys actors) actors (take n bytes)) calls)
+WholeRail = (l : Lent) → Accepts l → (calls : List Call) → Holds l (after l calls)
+
+-- ---- what holds of every call of every list
+
+-- any opening that is accepted, any calls before, any call
+abbrev pub EveryCall : (World → Call → Type 0) → Type 0
+EveryCall P = (l : Lent) → Accepts l → (before : List Call) (c : Call) → P (after l before) c
+
+-- the log's bytes at and after the new size are those from before
+abbrev pub KeepsTail : ℕ → List ℕ → List ℕ → Type 0
+KeepsTail size before now = drop size now ≡ drop size before
+
+abbrev pub CallKeepsTail : World → Call → Type 0
+CallKeepsTail w c =
+    KeepsTail (callOf (w .state) c .state .pool .turn .log .size) (w .state .bytes) (callOf (w .state) c .state .bytes)
+
+-- in every call, rewriting or not, refused or not, and in the opening
+pub record TailsKept : Type 0 where
+  pub openings : (l : Lent) → Accepts l → KeepsTail (opens l .told .pool .turn .log .size) (l .bytes) (opens l .bytes)
+  pub calls : EveryCall CallKeepsTail
+
+-- a refused call leaves pool, log, store and every table as they were
+abbrev pub CallRefusedSame : World → Call → Type 0
+CallRefusedSame w c = accepted (callOf (w .state) c .answer) ≡ false → callOf (w .state) c .state ≡ w .state
+
+-- an opening that leaves all that it was lent as it was
+abbrev pub Untouched : Lent → PoolOpened → Type 0
+Untouched l o =
+    o
+    ≡ record {
+      bytes = l .bytes;
+      store = l .store;
+      records = l .records;
+      groups = l .groups;
+      links = l .links;
+      rows = l .rows;
+      keys = l .keys;
+      told = o .told;
+    }
+
+pub record RefusedSame : Type 0 where
+  pub openings : (l : Lent) → accepted (opens l .told .answer) ≡ false → Untouched l (opens l)
+  pub calls : EveryCall CallRefusedSame
+
+-- What an accepted call orders. An admission for which no caller waits has an order: it is logged. One with a caller,
+-- and a close, have none. A turn or a reply takes off exactly as many messages as it has orders, one or none: each of
+-- its orders marks one message, and without an order none is gone. A sync has a flush or nothing.
+abbrev pub OrderFits : World → Call → State → Shown → Type 0
+OrderFits w (admit name body caller.Nobody) s o = ordersIn o ≡ 1
+OrderFits w (admit name body (caller.From who)) s o = ordersIn o ≡ 0
+OrderFits w turn s o = length (outOfPlaces s (w .journal .now)) ≡ ordersIn o
+OrderFits w (reply r name body) s o = length (outOfPlaces s (w .journal .now)) ≡ ordersIn o
+OrderFits w sync s o = (o ≡ nothing) ⊎ (o ≡ shows Flush)
+OrderFits w close s o = ordersIn o ≡ 0
+
+abbrev pub CallOrderFits : World → Call → Type 0
+CallOrderFits w c =
+    accepted (callOf (w .state) c .answer) ≡ true
+    → OrderFits w c (callOf (w .state) c .state) (orderIn (callOf (w .state) c .answer))
+
+-- and an accepted opening replaces the file
+pub record OrdersFit : Type 0 where
+  pub openings : (l : Lent) → Accepts l → (size : ℕ) × (orderIn (opens l .told .answer) ≡ shows (Replace size))
+  pub calls : EveryCall CallOrderFits
