@@ -166,7 +166,7 @@ unlogged-works long j s k works came = record {
 -- ---- the log's answer
 
 -- a refusal with the log as it was, or an order, with the next id one further
-data Appends (w : log.Wal) (d : log.Did) : Type 0 where
+pub data Appends (w : log.Wal) (d : log.Did) : Type 0 where
   away : (r : of-log.Refusal) → d ≡ log.turnedAway w r → Appends w d
   out : (o : Order) → d .answer ≡ logged.Ordered o → d .wal .counters .next ≡ w .counters .next + 1 → Appends w d
 
@@ -175,7 +175,7 @@ unfolding log.appended log.extended log.withRecord log.compacted
 appended-out w m true e = rw (e, log.appended) (out _ refl refl)
 appended-out w m false e = rw (e, log.appended) (out _ refl refl)
 
-append-ends : (w : log.Wal) (name body : List ℕ) → Appends w (log.appendOf w name body)
+pub append-ends : (w : log.Wal) (name body : List ℕ) → Appends w (log.appendOf w name body)
 unfolding log.appendOf
 append-ends w name body = judged (log.appendRefusal w (log.newMessage w name body))
   where

@@ -1,15 +1,15 @@
--- Every call keeps the invariant. Assumes nothing.
-use mathlib.Core.Path.{_≡_, ap}
+-- Every call keeps the invariant, keeps the log's bytes behind its size, and orders what fits it. Assumes nothing.
+use mathlib.Core.Path.{_≡_, sym, ap, _∙_, subst}
+use mathlib.Core.Bool.{true}
 use mathlib.Core.List.{List, [], _∷_}
 use Prim.Native.Nat.{ℕ}
-use native.Mathlib.Omega.{arith}
+use lib.ListN.{drop}
 use Rattle.turn.specs.declared.state.Limits.{Limits}
-use Rattle.front.specs.declared.state.Refusal.{Refusal}
-use Rattle.front.specs.declared.state.Answer.the-variants as answer
-use Rattle.rail.specs.Rail.{Call, admit, turn, reply, sync, close, Did, callOf, World, step, run}
+use Rattle.rail.specs.Rail.{Call, admit, turn, reply, sync, close, Did, callOf, World, step, run, accepted, orderIn}
+use Rattle.rail.specs.Rail.{KeepsTail, CallKeepsTail, OrderFits, CallOrderFits}
 use Rattle.rail.specs.Invariant.{Steady}
-use Rattle.rail.proofs.After.{Ends, turned, took, ends-steady}
-use Rattle.rail.proofs.Shown.{order-shown}
+use Rattle.rail.proofs.After.{orderOf, Ends, turned, took, ends-steady}
+use Rattle.rail.proofs.Shown.{never, order-shown}
 use Rattle.rail.proofs.Admit.{admit-ends}
 use Rattle.rail.proofs.Replies.{turn-ends, reply-ends, sync-ends, close-ends}
 
@@ -30,10 +30,23 @@ unfolding run
 run-steady long limits [] w steady = steady
 run-steady long limits (c ∷ calls) w steady = run-steady long limits calls (step w c) (call-steady long limits w c steady)
 
-refused-as : (long : ℕ) (limits : Limits) (w : World) (c : Call) (d : Did) (r : Refusal) → Ends long limits w c d → d .answer ≡ answer.Refused r → d .state ≡ w .state
-refused-as long limits w c d r (turned x is) e = ap (λ d. d .state) is
-refused-as long limits w c d r (took ok tail fits after) e = let z : _≡_ {A = ℕ} 0 1 = cc in absurd (omega arith)
+-- ---- what a call leaves
 
--- A refused call leaves pool, log, store and every table equal.
-pub refused-same : (long : ℕ) (limits : Limits) (w : World) (c : Call) (r : Refusal) → Steady long limits w → callOf (w .state) c .answer ≡ answer.Refused r → callOf (w .state) c .state ≡ w .state
-refused-same long limits w c r steady is = refused-as long limits w c (callOf (w .state) c) r (call-ends long limits w c steady) is
+module _ (long : ℕ) (limits : Limits) (w : World) (c : Call) where
+  -- refused, the log's bytes are all as they were; accepted, those at and after the new size are
+  ends-tail : (d : Did) → Ends long limits w c d → KeepsTail (d .state .pool .turn .log .size) (w .state .bytes) (d .state .bytes)
+  ends-tail d (turned r is) = ap (λ (e : Did). drop (d .state .pool .turn .log .size) (e .state .bytes)) is
+  ends-tail d (took ok tail fits after) = tail
+
+  pub tail-kept : Steady long limits w → CallKeepsTail w c
+  tail-kept steady = ends-tail (callOf (w .state) c) (call-ends long limits w c steady)
+
+  -- the order shown is the one that waits
+  ends-fits : (d : Did) → Ends long limits w c d → accepted (d .answer) ≡ true
+      → orderIn (d .answer) ≡ orderOf (d .state .pool .turn .disk) → OrderFits w c (d .state) (orderIn (d .answer))
+  ends-fits d (turned r is) ok shown = absurd (never (sym (ap (λ (e : Did). accepted (e .answer)) is) ∙ ok))
+  ends-fits d (took was tail fits after) ok shown = subst (OrderFits w c (d .state)) (sym shown) fits
+
+  pub order-fits : Steady long limits w → CallOrderFits w c
+  order-fits steady ok =
+      ends-fits (callOf (w .state) c) (call-ends long limits w c steady) ok (order-shown (w .state) c ok)

@@ -7,8 +7,8 @@ pub mod After
 pub mod Admit
 pub mod Replies
 pub mod Shown
+pub mod Refused
 pub mod Calls
 pub mod Opened
 pub mod Opening
-pub mod Tail
 pub mod Rail

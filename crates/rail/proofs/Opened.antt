@@ -1,5 +1,6 @@
--- What an accepted opening is: its sizes and settings are right, the log takes the file, and the messages left are in pending. Assumes nothing.
-use mathlib.Core.Path.{_≡_, refl, sym, ap, _∙_}
+-- What an accepted opening is: its sizes and settings are right, the log takes the file, and the messages left are in
+-- pending; any other leaves all that it was lent as it was. Assumes nothing.
+use mathlib.Core.Path.{_≡_, refl, sym, ap, _∙_, subst}
 use mathlib.Core.Bool.{Bool, true, false}
 use mathlib.Core.Logic.{_⊎_, inl, inr}
 use mathlib.Core.List.{List, [], _∷_, append-nil, List·Memᴰ·head}
@@ -13,7 +14,7 @@ use Rattle.lists.specs.Links.{pick, Table, startFrom}
 use Rattle.lists.specs.KeyLists.{blankRow}
 use Rattle.log.specs.declared.Order.the-variants.{Replace}
 use Rattle.log.specs.Opening.{Read, Opening, refused, opened, opening, image}
-use Rattle.log.specs.declared.Refusal.{Refusal}
+use Rattle.log.specs.declared.Refusal as of-log
 use Rattle.log.specs.declared.Refusal.the-variants.{Sizes}
 use Rattle.log.specs.Opened as log
 use Rattle.log.specs.Recovery as disk
@@ -24,9 +25,10 @@ use Rattle.handing.specs.Handing.{putMessages}
 use Rattle.setup.specs.declared.settings.Settings.{Settings}
 use Rattle.setup.specs.Settings.{settingsFit, groupsFrom}
 use Rattle.setup.specs.Tables.{Placed, putLeft}
+use Rattle.front.specs.declared.state.Refusal.{Refusal}
 use Rattle.front.specs.declared.state.Refusal.the-variants as refusal
 use Rattle.door.specs.Open.{PoolOpened, tablesSized, openTold, filledBy, openPool, noLeft, notOpened, openedPool, openedLog, openOf}
-use Rattle.rail.specs.Rail.{accepted}
+use Rattle.rail.specs.Rail.{accepted, Lent, opens, Accepts, fileIn, Untouched}
 
 -- ---- the log turned away
 
@@ -35,7 +37,7 @@ log-sizes : (bytes : List ℕ) (n : ℕ) (store : List ℕ) (records left : Tabl
 unfolding log.openOf
 log-sizes bytes n store records left e = cc
 
-log-refuses : (bytes : List ℕ) (n : ℕ) (store : List ℕ) (records left : Table) (r : Refusal) → log.sized (length bytes) n (length store) (length records) (length left) ≡ true
+log-refuses : (bytes : List ℕ) (n : ℕ) (store : List ℕ) (records left : Table) (r : of-log.Refusal) → log.sized (length bytes) n (length store) (length records) (length left) ≡ true
     → opening (take n bytes) ≡ refused r → log.openOf bytes n store records left ≡ log.closedBy bytes store records left r
 unfolding log.openOf
 log-refuses bytes n store records left r s e = cc
@@ -67,78 +69,120 @@ tables-true groups links rows keys actors g l r k a =
 
 -- ---- what an accepted opening had
 
-module _ (s : Settings) (given : Table) (bytes : List ℕ) (n : ℕ) (store : List ℕ) (records groups links rows keys actors : Table) where
+-- settings in their ranges, tables and log of the right sizes, and a file that the log takes
+pub record Taken (l : Lent) : Type 0 where
+  pub fit : settingsFit (l .settings) (l .groupsGiven) ≡ true
+  pub tables : tablesSized (length (l .groups)) (length (l .links)) (length (l .rows)) (length (l .keys))
+          (length (l .actors))
+      ≡ true
+  pub sizes : log.sized (length (l .bytes)) (l .size) (length (l .store)) (length (l .records)) (length noLeft) ≡ true
+  pub found : Read
+  pub reads : opening (fileIn l) ≡ opened found
+
+module _ (l : Lent) where
+  abbrev settingsRight : Bool
+  settingsRight = settingsFit (l .settings) (l .groupsGiven)
+
   abbrev tablesFit : Bool
-  tablesFit = tablesSized (length groups) (length links) (length rows) (length keys) (length actors)
+  tablesFit =
+      tablesSized (length (l .groups)) (length (l .links)) (length (l .rows)) (length (l .keys)) (length (l .actors))
 
   abbrev logFits : Bool
-  logFits = log.sized (length bytes) n (length store) (length records) (length noLeft)
+  logFits = log.sized (length (l .bytes)) (l .size) (length (l .store)) (length (l .records)) (length noLeft)
+
+  abbrev logOpened : log.Opened
+  logOpened = log.openOf (l .bytes) (l .size) (l .store) (l .records) noLeft
 
   abbrev byLog : log.Opened → PoolOpened
-  byLog o = openedLog s given groups links rows keys o
+  byLog o = openedLog (l .settings) (l .groupsGiven) (l .groups) (l .links) (l .rows) (l .keys) o
+
+  abbrev away : Refusal → PoolOpened
+  away r = notOpened (l .bytes) (l .store) (l .records) (l .groups) (l .links) (l .rows) (l .keys) r
 
   abbrev byTables : Bool → PoolOpened
-  byTables b = pick b (byLog (log.openOf bytes n store records noLeft)) (notOpened bytes store records groups links rows keys refusal.Sizes)
+  byTables b = pick b (byLog logOpened) (away refusal.Sizes)
 
   abbrev bySettings : Bool → PoolOpened
-  bySettings b = pick b (byTables tablesFit) (notOpened bytes store records groups links rows keys refusal.Setting)
+  bySettings b = pick b (byTables tablesFit) (away refusal.Setting)
 
-  abbrev yes : PoolOpened → Bool
-  yes o = accepted (o .told .answer)
+  -- turned away, with all that was lent as it was
+  abbrev Away : PoolOpened → Type 0
+  Away o = (accepted (o .told .answer) ≡ false) × Untouched l o
 
-  -- settings in their ranges, tables and log of the right sizes, and a file that the log takes
-  pub record Taken : Type 0 where
-    pub fit : settingsFit s given ≡ true
-    pub tables : tablesFit ≡ true
-    pub sizes : logFits ≡ true
-    pub found : Read
-    pub reads : opening (take n bytes) ≡ opened found
+  judged-file : (o : Opening) → opening (fileIn l) ≡ o → logFits ≡ true → tablesFit ≡ true → settingsRight ≡ true
+      → Taken l ⊎ Away (byLog logOpened)
+  judged-file (opened r) reads sizes tables fit =
+      inl (record { fit = fit; tables = tables; sizes = sizes; found = r; reads = reads })
+  judged-file (refused r) reads sizes tables fit =
+      inr (subst (λ o. Away (byLog o))
+      (sym (log-refuses (l .bytes) (l .size) (l .store) (l .records) noLeft r sizes reads)) (refl, refl))
 
-  taken-file : (o : Opening) → opening (take n bytes) ≡ o → logFits ≡ true → tablesFit ≡ true → settingsFit s given ≡ true → yes (byTables true) ≡ true → Taken
-  taken-file (opened r) reads sizes tables fit ok = record { fit = fit; tables = tables; sizes = sizes; found = r; reads = reads }
-  taken-file (refused r) reads sizes tables fit ok = absurd (never (sym (ap (λ o. yes (byLog o)) (log-refuses bytes n store records noLeft r sizes reads)) ∙ ok))
+  judged-log : (b : Bool) → logFits ≡ b → tablesFit ≡ true → settingsRight ≡ true → Taken l ⊎ Away (byLog logOpened)
+  judged-log true sizes tables fit = judged-file (opening (fileIn l)) refl sizes tables fit
+  judged-log false sizes tables fit =
+      inr (subst (λ o. Away (byLog o)) (sym (log-sizes (l .bytes) (l .size) (l .store) (l .records) noLeft sizes))
+      (refl, refl))
 
-  taken-log : (b : Bool) → logFits ≡ b → tablesFit ≡ true → settingsFit s given ≡ true → yes (byTables true) ≡ true → Taken
-  taken-log true sizes tables fit ok = taken-file (opening (take n bytes)) refl sizes tables fit ok
-  taken-log false sizes tables fit ok = absurd (never (sym (ap (λ o. yes (byLog o)) (log-sizes bytes n store records noLeft sizes)) ∙ ok))
+  judged-tables : (b : Bool) → tablesFit ≡ b → settingsRight ≡ true → Taken l ⊎ Away (byTables b)
+  judged-tables true tables fit = judged-log logFits refl tables fit
+  judged-tables false tables fit = inr (refl, refl)
 
-  taken-tables : (b : Bool) → tablesFit ≡ b → settingsFit s given ≡ true → yes (byTables b) ≡ true → Taken
-  taken-tables true tables fit ok = taken-log logFits refl tables fit ok
-  taken-tables false tables fit ok = absurd (never ok)
+  judged-settings : (b : Bool) → settingsRight ≡ b → Taken l ⊎ Away (bySettings b)
+  judged-settings true fit = judged-tables tablesFit refl fit
+  judged-settings false fit = inr (refl, refl)
 
-  taken-settings : (b : Bool) → settingsFit s given ≡ b → yes (bySettings b) ≡ true → Taken
-  taken-settings true fit ok = taken-tables tablesFit refl fit ok
-  taken-settings false fit ok = absurd (never ok)
-
-  pub accepted-taken : yes (openOf s given bytes n store records groups links rows keys actors) ≡ true → Taken
+  judged : Taken l ⊎ Away (opens l)
   unfolding openOf
-  accepted-taken ok = taken-settings (settingsFit s given) refl ok
+  judged = judged-settings settingsRight refl
+
+  pub accepted-taken : Accepts l → Taken l
+  accepted-taken ok = go judged
+    where
+      go : Taken l ⊎ Away (opens l) → Taken l
+      go (inl t) = t
+      go (inr gone) = absurd (never (sym (gone .0) ∙ ok))
 
   -- ---- and what it makes: the messages left are put into pending
 
   abbrev logMade : Read → log.Opened
-  logMade r = log.openedBy bytes store records noLeft r
+  logMade r = log.openedBy (l .bytes) (l .store) (l .records) noLeft r
 
   abbrev madeWith : Read → Placed → PoolOpened
   madeWith r placed =
       openedPool (logMade r)
-      (filledBy (groupsFrom (s .«max_actors») groups given) placed (replicate (length keys) blankRow) (openTold s (length given) (logMade r .step .counters) (Replace (length (image (r .left))))))
+      (filledBy (groupsFrom (l .settings .«max_actors») (l .groups) (l .groupsGiven)) placed
+      (replicate (length (l .keys)) blankRow)
+      (openTold (l .settings) (length (l .groupsGiven)) (logMade r .step .counters) (Replace (length (image (r .left))))))
 
   abbrev pub opensAs : Read → PoolOpened
-  opensAs r = madeWith r (putMessages rows (r .left))
+  opensAs r = madeWith r (putMessages (l .rows) (r .left))
 
-  to-log : Taken → openOf s given bytes n store records groups links rows keys actors ≡ byLog (log.openOf bytes n store records noLeft)
+  to-log : Taken l → opens l ≡ byLog logOpened
   unfolding openOf
   to-log t = rw (t .fit, t .tables)
 
-  to-pool : (t : Taken) → byLog (logMade (t .found)) ≡ opensAs (t .found)
+  to-pool : (t : Taken l) → byLog (logMade (t .found)) ≡ opensAs (t .found)
   unfolding openPool
   to-pool t =
-      ap (λ k. madeWith (t .found) (putLeft (startFrom 0 k) rows (logMade (t .found) .left) 0 (length (t .found .left))))
-      (tables-are (length groups) (length links) (length rows) (length keys) (length actors) (t .tables) .0 .0)
+      ap
+      (λ k. madeWith (t .found)
+      (putLeft (startFrom 0 k) (l .rows) (logMade (t .found) .left) 0 (length (t .found .left))))
+      (tables-are (length (l .groups)) (length (l .links)) (length (l .rows)) (length (l .keys)) (length (l .actors))
+      (t .tables) .0 .0)
 
-  pub opens-as : (t : Taken) → openOf s given bytes n store records groups links rows keys actors ≡ opensAs (t .found)
-  opens-as t = to-log t ∙ (ap byLog (open-accepts bytes n store records noLeft (t .found) (t .sizes) (t .reads)) ∙ to-pool t)
+  pub opens-as : (t : Taken l) → opens l ≡ opensAs (t .found)
+  opens-as t =
+      to-log t
+      ∙ (ap byLog
+      (open-accepts (l .bytes) (l .size) (l .store) (l .records) noLeft (t .found) (t .sizes) (t .reads)) ∙ to-pool t)
+
+  -- an opening that is turned away changes nothing
+  pub refused-untouched : accepted (opens l .told .answer) ≡ false → Untouched l (opens l)
+  refused-untouched turned = go judged
+    where
+      go : Taken l ⊎ Away (opens l) → Untouched l (opens l)
+      go (inl t) = absurd (never (sym turned ∙ ap (λ o. accepted (o .told .answer)) (opens-as t)))
+      go (inr gone) = gone .1
 
 -- ---- the log at the start
 

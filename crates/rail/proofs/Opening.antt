@@ -5,7 +5,7 @@ use mathlib.Core.List.{List, [], _∷_}
 use Prim.Native.Nat.{ℕ, zero, suc, _+_, _*_, _≤_}
 use native.Mathlib.Omega.{arith}
 use lib.Dec.{leb}
-use lib.ListN.{length, take, drop, replicate, length-replicate}
+use lib.ListN.{length, drop, replicate, length-replicate}
 use Rattle.text.specs.Format.{Message, lines}
 use Rattle.lists.specs.Links.{Table, FREE, lenOf, moveFirst, startFrom}
 use Rattle.lists.specs.Family.{count, Good}
@@ -17,20 +17,24 @@ use Rattle.lists.proofs.Slabs.{sound-blank}
 use Rattle.setup.specs.Tables.{PENDING, putLeft}
 use Rattle.keeping.specs.Living.{stepHand, Lives}
 use Rattle.keeping.proofs.Living.{Less, less-same, less-then, less-at, first-less}
-use Rattle.log.specs.Opening.{allFit, opening, opened, Read, Rising, readFile, nothingRead}
+use Rattle.log.specs.Opening.{allFit, opening, opened, Read, Rising, readFile, nothingRead, image}
+use Rattle.log.specs.declared.Order.the-variants.{Replace}
 use Rattle.log.specs.Opened as log
 use Rattle.log.specs.Recovery as disk
 use Rattle.log.specs.Stands.{Stands}
 use Rattle.log.proofs.OpeningLaws.{and-right, judge-opened, readLines-in-order}
 use Rattle.log.proofs.TabledLaws.{small-few}
-use Rattle.log.proofs.OpenLaws.{sized-all, sized-true, opened-stands}
+use Rattle.log.proofs.OpenLaws.{Sized, sized-all, sized-true, image-fits, opened-stands}
+use Rattle.log.proofs.Recovery.{opening-tail}
 use Rattle.log.proofs.RecoveryLaws.{ReadBack, sound-reads}
 use Rattle.handing.specs.Handing.{idsOf, Hands}
 use Rattle.handing.proofs.Handing.{hands}
 use Rattle.setup.specs.declared.settings.Settings.{Settings}
 use Rattle.setup.specs.Settings.{settingsFit}
-use Rattle.door.specs.Open.{PoolOpened, limitsFrom, noLeft, openOf}
-use Rattle.rail.specs.Rail.{World, accepted, leftBy, nextFrom, startStatus, orderIn, openState, walOf, begin, handedBack, Reopens}
+use Rattle.turn.specs.declared.state.Limits.{Limits}
+use Rattle.door.specs.Open.{PoolOpened, limitsFrom, noLeft}
+use Rattle.rail.specs.Rail.{World, accepted, leftBy, nextFrom, startStatus, orderIn, shows, openState, walOf}
+use Rattle.rail.specs.Rail.{begin, Lent, opens, Accepts, fileIn, handedBack, Follows, Reopens, KeepsTail}
 use Rattle.rail.specs.Invariant.{Working, Ledger, workOf, Steady}
 use Rattle.rail.proofs.Ids.{rising-once, rising-top}
 use Rattle.rail.proofs.Opened.{tables-are, tables-true, Taken, accepted-taken, opensAs, opens-as, start-sound}
@@ -87,41 +91,48 @@ start-lives n rows left m actors n-is long = record {
   runs = λ g k g-is k-is e f. start-empty rows left m (7 + 2 * (16 * g + k)) (omega arith);
 }
 
+-- the limits of the pool that an opening makes
+abbrev pub limitsOf : Lent → Limits
+limitsOf l = limitsFrom (l .settings) (length (l .groupsGiven))
+
 -- an opening that the log takes
-module _ (s : Settings) (given : Table) (bytes : List ℕ) (n : ℕ) (store : List ℕ) (records groups links rows keys actors : Table)
-    (t : Taken s given bytes n store records groups links rows keys actors) where
+module _ (l : Lent) (t : Taken l) where
   abbrev left : List Message
   left = t .found .left
 
   abbrev made : PoolOpened
-  made = opensAs s given bytes n store records groups links rows keys actors (t .found)
+  made = opensAs l (t .found)
 
   abbrev start : World
-  start = beginAt made actors (take n bytes) (t .found .next) left
+  start = beginAt made (l .actors) (fileIn l) (t .found .next) left
 
-  stands : Stands (disk.walOf (log.openedBy bytes store records noLeft (t .found))) left
-  stands = opened-stands bytes n store records noLeft (t .found) (t .sizes) (t .reads)
+  stands : Stands (disk.walOf (log.openedBy (l .bytes) (l .store) (l .records) noLeft (t .found))) left
+  stands = opened-stands (l .bytes) (l .size) (l .store) (l .records) noLeft (t .found) (t .sizes) (t .reads)
 
-  given-back : Hands rows store left
+  lent : Sized (length (l .bytes)) (l .size) (length (l .store)) (length (l .records)) (length noLeft)
+  lent = sized-all (length (l .bytes)) (l .size) (length (l .store)) (length (l .records)) (length noLeft) (t .sizes)
+
+  sizes : ((length (l .links) ≡ 262) × (length (l .rows) ≡ 256)) × ((length (l .keys) ≡ 34) × (length (l .actors) ≡ 128))
+  sizes =
+      tables-are (length (l .groups)) (length (l .links)) (length (l .rows)) (length (l .keys)) (length (l .actors))
+      (t .tables)
+
+  given-back : Hands (l .rows) (l .store) left
   given-back =
-      let lent = sized-all (length bytes) n (length store) (length records) (length noLeft) (t .sizes) in
-      let sizes = tables-are (length groups) (length links) (length rows) (length keys) (length actors) (t .tables) in
-      hands rows store left (sizes .0 .1) (lent .store-is) (small-few left (stands .small)) (and-right (leb (length left) 256) (allFit left) (stands .small))
+      hands (l .rows) (l .store) left (sizes .0 .1) (lent .store-is) (small-few left (stands .small))
+      (and-right (leb (length left) 256) (allFit left) (stands .small))
 
-  sizes : ((length links ≡ 262) × (length rows ≡ 256)) × ((length keys ≡ 34) × (length actors ≡ 128))
-  sizes = tables-are (length groups) (length links) (length rows) (length keys) (length actors) (t .tables)
-
-  start-works : Working (length bytes) (start .journal) (workOf start)
+  start-works : Working (length (l .bytes)) (start .journal) (workOf start)
   unfolding disk.begin disk.sent
   start-works = record {
     sound = given-back .sound;
     ids = given-back .same;
     ok = omega arith;
-    lives = start-lives (length keys) rows _ (length left) actors (sizes .1 .0) (sizes .1 .1);
-    here = start-hand rows _ (length left);
+    lives = start-lives (length (l .keys)) (l .rows) _ (length left) (l .actors) (sizes .1 .0) (sizes .1 .1);
+    here = start-hand (l .rows) _ (length left);
     wal = refl;
     agrees = refl;
-    journal = start-sound bytes n store records noLeft (t .found) (t .sizes) (t .reads);
+    journal = start-sound (l .bytes) (l .size) (l .store) (l .records) noLeft (t .found) (t .sizes) (t .reads);
   }
 
   start-ledger : Ledger (start .journal) (start .next) (start .logged) (start .done)
@@ -133,64 +144,83 @@ module _ (s : Settings) (given : Table) (bytes : List ℕ) (n : ℕ) (store : Li
     below = λ x there. rising-top left 0 (t .found .next) x (stands .rising) there;
   }
 
-  start-steady : Steady (length bytes) (limitsFrom s (length given)) start
+  start-steady : Steady (length (l .bytes)) (limitsOf l) start
   start-steady = record { works = start-works; ledger = start-ledger; limits-are = refl }
 
-  is-accepted : accepted (openOf s given bytes n store records groups links rows keys actors .told .answer) ≡ true
-  is-accepted = ap (λ o. accepted (o .told .answer)) (opens-as s given bytes n store records groups links rows keys actors t)
+  pub is-accepted : Accepts l
+  is-accepted = ap (λ o. accepted (o .told .answer)) (opens-as l t)
 
-  hands-back : handedBack (openOf s given bytes n store records groups links rows keys actors) ≡ left
-  hands-back = ap handedBack (opens-as s given bytes n store records groups links rows keys actors t) ∙ given-back .back
+  hands-back : handedBack (opens l) ≡ left
+  hands-back = ap handedBack (opens-as l t) ∙ given-back .back
+
+  -- its order is a replace
+  pub opens-replacing : orderIn (opens l .told .answer) ≡ shows (Replace (length (image left)))
+  opens-replacing = ap (λ o. orderIn (o .told .answer)) (opens-as l t)
+
+  -- the log's bytes at and after the new size are as they were
+  pub opens-tail : KeepsTail (opens l .told .pool .turn .log .size) (l .bytes) (opens l .bytes)
+  opens-tail =
+      subst (λ (o : PoolOpened). KeepsTail (o .told .pool .turn .log .size) (l .bytes) (o .bytes)) (sym (opens-as l t))
+      (opening-tail (l .bytes) left
+      (image-fits (l .bytes) (l .size) (l .store) (l .records) noLeft (t .found) (t .sizes) (t .reads)))
 
 -- what an accepted file leaves has rising ids
 rising-left : (file : List ℕ) (r : Read) → opening file ≡ opened r → Rising 0 (r .left) (r .next)
 unfolding opening readFile
-rising-left file r ok = let g = judge-opened (readFile file) r ok in rw (g .same) at (readLines-in-order (lines file) nothingRead (omega arith))
+rising-left file r ok =
+    let g = judge-opened (readFile file) r ok in
+    rw (g .same) at (readLines-in-order (lines file) nothingRead (omega arith))
 
 -- a file that opening accepts, and that fits: the next opening
-module _ (s : Settings) (given : Table) (long : ℕ) (file : List ℕ) (moments : List (List Message))
-    (fit : settingsFit s given ≡ true) (least : 16 ≤ long) (most : long ≤ 65536) (back : ReadBack long file moments) where
-  next-taken : (bytes store : List ℕ) (records groups links rows keys actors : Table) → length bytes ≡ long → take (length file) bytes ≡ file
-      → length store ≡ 40960 → length records ≡ 256 → length groups ≡ 8 → length links ≡ 262 → length rows ≡ 256 → length keys ≡ 34 → length actors ≡ 128
-      → Taken s given bytes (length file) store records groups links rows keys actors
-  next-taken bytes store records groups links rows keys actors is begins st re gr li ro ke ac = record {
-    fit = fit;
-    tables = tables-true (length groups) (length links) (length rows) (length keys) (length actors) gr li ro ke ac;
+module _ (l : Lent) (t : Taken l) (file : List ℕ) (moments : List (List Message))
+    (back : ReadBack (length (l .bytes)) file moments) where
+  next-taken : (next : Lent) → Follows l next file → Taken next
+  next-taken next f = record {
+    fit = ap (λ (s : Settings). settingsFit s (next .groupsGiven)) (f .settings)
+        ∙ (ap (settingsFit (l .settings)) (f .groupsGiven) ∙ t .fit);
+    tables =
+        tables-true (length (next .groups)) (length (next .links)) (length (next .rows)) (length (next .keys))
+        (length (next .actors)) (f .groups) (f .links) (f .rows) (f .keys) (f .actors);
     sizes =
-        sized-true (length bytes) (length file) (length store) (length records) (length noLeft)
-        (record { least = omega arith; most = omega arith; file = omega (arith, back .short); store-is = st; table-is = re; left-is = refl });
+        sized-true (length (next .bytes)) (next .size) (length (next .store)) (length (next .records)) (length noLeft)
+        (record {
+          least = omega (arith, f .bytes, lent l t .least);
+          most = omega (arith, f .bytes, lent l t .most);
+          file = omega (arith, f .bytes, f .size, back .short);
+          store-is = f .store;
+          table-is = f .records;
+          left-is = refl;
+        });
     found = back .found;
-    reads = ap opening begins ∙ back .accepted;
+    reads = ap opening (f .begins) ∙ back .accepted;
   }
 
-  next-opening : Reopens s given long file moments
+  next-opening : Reopens l file moments
   unfolding next-taken
   next-opening = record {
     fits = back .short;
     found = back .found .left;
     rises = (back .found .next, rising-left file (back .found) (back .accepted));
     among = back .among;
-    accepts = λ bytes store records groups links rows keys actors is begins st re gr li ro ke ac.
-        let taken = next-taken bytes store records groups links rows keys actors is begins st re gr li ro ke ac in
-        (is-accepted s given bytes (length file) store records groups links rows keys actors taken, hands-back s given bytes (length file) store records groups links rows keys actors taken);
+    accepts = λ next f. is-accepted next (next-taken next f);
+    back = λ next f. hands-back next (next-taken next f);
   }
 
-module _ (s : Settings) (given : Table) (bytes : List ℕ) (n : ℕ) (store : List ℕ) (records groups links rows keys actors : Table)
-    (ok : accepted (openOf s given bytes n store records groups links rows keys actors .told .answer) ≡ true) where
-  taken : Taken s given bytes n store records groups links rows keys actors
-  taken = accepted-taken s given bytes n store records groups links rows keys actors ok
+module _ (l : Lent) (ok : Accepts l) where
+  taken : Taken l
+  taken = accepted-taken l ok
 
-  pub open-steady : Steady (length bytes) (limitsFrom s (length given)) (begin (openOf s given bytes n store records groups links rows keys actors) actors (take n bytes))
+  pub open-steady : Steady (length (l .bytes)) (limitsOf l) (begin (opens l) (l .actors) (fileIn l))
   open-steady =
-      let made = opensAs s given bytes n store records groups links rows keys actors (taken .found) in
-      subst (λ o. Steady (length bytes) (limitsFrom s (length given)) (begin o actors (take n bytes))) (sym (opens-as s given bytes n store records groups links rows keys actors taken))
-      (subst (λ r. Steady (length bytes) (limitsFrom s (length given)) (beginAt made actors (take n bytes) (nextFrom r) (leftBy r))) (sym (taken .reads))
-      (start-steady s given bytes n store records groups links rows keys actors taken))
+      subst (λ o. Steady (length (l .bytes)) (limitsOf l) (begin o (l .actors) (fileIn l))) (sym (opens-as l taken))
+      (subst
+      (λ r. Steady (length (l .bytes)) (limitsOf l)
+      (beginAt (opensAs l (taken .found)) (l .actors) (fileIn l) (nextFrom r) (leftBy r)))
+      (sym (taken .reads)) (start-steady l taken))
 
   -- whatever file a cut may leave, the next opening finds a moment no earlier than the last confirmed flush or replace
-  pub reopens : (w : World) → Steady (length bytes) (limitsFrom s (length given)) w → (file : List ℕ) → disk.Possible (w .journal .disk) file
-      → Reopens s given (length bytes) file (drop (w .journal .firm) (w .journal .moments))
+  pub reopens : (w : World) → Steady (length (l .bytes)) (limitsOf l) w → (file : List ℕ)
+      → disk.Possible (w .journal .disk) file → Reopens l file (drop (w .journal .firm) (w .journal .moments))
   reopens w steady file possible =
-      let lent = sized-all (length bytes) n (length store) (length records) (length noLeft) (taken .sizes) in
-      next-opening s given (length bytes) file (drop (w .journal .firm) (w .journal .moments)) (taken .fit) (lent .least) (lent .most)
-      (sound-reads (length bytes) (w .journal) (steady .works .journal) file possible)
+      next-opening l taken file (drop (w .journal .firm) (w .journal .moments))
+      (sound-reads (length (l .bytes)) (w .journal) (steady .works .journal) file possible)

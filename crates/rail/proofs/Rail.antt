@@ -1,28 +1,29 @@
--- THE THEOREM OF THE WHOLE RAIL (its statement: specs/Rail.antt). Assumes nothing.
-use mathlib.Core.Path.{_≡_}
+-- THE THEOREM OF THE WHOLE RAIL, and what holds of every call of every list (statements: specs/Rail.antt).
+-- Assumes nothing.
+use mathlib.Core.Path.{_≡_, refl}
 use mathlib.Core.Logic.{_⊎_, inl, inr}
-use mathlib.Core.Path.{refl}
 use mathlib.Core.Bool.{Bool, true, false}
 use Prim.Native.Nat.{ℕ, _+_, _*_, _≤_, _<_}
 use native.Mathlib.Omega.{arith}
 use native.Mathlib.Decide.{ℕ-discrete}
 use mathlib.Core.List.{List}
-use lib.ListN.{length, take, drop}
+use lib.ListN.{length, drop}
 use Rattle.lists.specs.Family.{count}
-use Rattle.setup.specs.declared.settings.Settings.{Settings}
-use Rattle.turn.specs.declared.state.Limits.{Limits}
 use Rattle.lists.specs.Links.{Table}
-use Rattle.door.specs.Open.{limitsFrom, openOf}
+use Rattle.turn.specs.declared.state.Limits.{Limits}
 use Rattle.log.specs.Recovery as disk
 use Rattle.places.specs.Places.{stands}
 use Rattle.handing.specs.Handing.{idsOf}
 use Rattle.lists.proofs.Family.{length-view}
 use Rattle.keeping.specs.Living.{given, Lives}
 use Rattle.keeping.proofs.LivingTurn.{few-hand}
-use Rattle.rail.specs.Rail.{World, mailboxAt, handAt, Living, Reopens, Holds, WholeRail, begin, run}
+use Rattle.rail.specs.Rail.{Call, World, Lent, Accepts, opens, fileIn, begin, after, mailboxAt, handAt, Living}
+use Rattle.rail.specs.Rail.{Reopens, Holds, WholeRail, TailsKept, RefusedSame, OrdersFit}
 use Rattle.rail.specs.Invariant.{Steady}
-use Rattle.rail.proofs.Calls.{run-steady}
-use Rattle.rail.proofs.Opening.{open-steady, reopens}
+use Rattle.rail.proofs.Calls.{run-steady, tail-kept, order-fits}
+use Rattle.rail.proofs.Refused.{refused-stays}
+use Rattle.rail.proofs.Opened.{accepted-taken, refused-untouched}
+use Rattle.rail.proofs.Opening.{limitsOf, opens-replacing, opens-tail, open-steady, reopens}
 
 -- an id that was logged is done and nowhere, or stands once
 placed-by : (n d l s : ℕ) → n + d ≡ l → l ≤ 1 → s ≡ n → 0 < l → ((0 < d) × (s ≡ 0)) ⊎ ((d ≡ 0) × (s ≡ 1))
@@ -42,19 +43,62 @@ holder t keys actors l g k g-is k-is = (λ some. go some (given keys g k) refl, 
         let none = l .dead g k g-is k-is e in
         absurd (omega (arith, none .0, none .1, length-view t (6 + 2 * (16 * g + k)), length-view t (7 + 2 * (16 * g + k))))
 
-steady-holds : (s : Settings) (given : Table) (long : ℕ) (limits : Limits) (w : World) → Steady long limits w
-    → ((file : List ℕ) → disk.Possible (w .journal .disk) file → Reopens s given long file (drop (w .journal .firm) (w .journal .moments))) → Holds s given long w
-steady-holds s given long limits w steady safe = record {
-  placed = λ x there. placed-by (count x (idsOf (w .journal .now))) (count x (w .done)) (count x (w .logged)) (stands x (w .state .links) (w .state .rows)) (steady .ledger .adds x) (steady .ledger .once x) (steady .works .ids x) there;
+-- an id that was not logged stands nowhere
+strange-by : (n d l s : ℕ) → n + d ≡ l → s ≡ n → l ≡ 0 → s ≡ 0
+strange-by n d l s adds ids none = omega arith
+
+-- after every list of calls the invariant holds
+after-steady : (l : Lent) → Accepts l → (calls : List Call) → Steady (length (l .bytes)) (limitsOf l) (after l calls)
+after-steady l ok calls =
+    run-steady (length (l .bytes)) (limitsOf l) calls (begin (opens l) (l .actors) (fileIn l)) (open-steady l ok)
+
+steady-holds : (l : Lent) (limits : Limits) (w : World) → Steady (length (l .bytes)) limits w
+    → ((file : List ℕ) → disk.Possible (w .journal .disk) file
+    → Reopens l file (drop (w .journal .firm) (w .journal .moments)))
+    → Holds l w
+steady-holds l limits w steady safe = record {
+  placed = λ x there.
+      placed-by (count x (idsOf (w .journal .now))) (count x (w .done)) (count x (w .logged))
+      (stands x (w .state .links) (w .state .rows)) (steady .ledger .adds x) (steady .ledger .once x)
+      (steady .works .ids x) there;
+  others = λ x none.
+      strange-by (count x (idsOf (w .journal .now))) (count x (w .done)) (count x (w .logged))
+      (stands x (w .state .links) (w .state .rows)) (steady .ledger .adds x) (steady .works .ids x) none;
   queued = steady .works .sound .mail;
-  living = λ g k g-is k-is. holder (w .state .links) (w .state .keys) (w .state .actors) (steady .works .lives) g k g-is k-is;
-  hand = omega (arith, length-view (w .state .links) 5, few-hand (w .state .pool .turn .at) (w .state .links) (w .state .keys) (w .state .actors) (steady .works .here));
+  living = λ g k g-is k-is.
+      holder (w .state .links) (w .state .keys) (w .state .actors) (steady .works .lives) g k g-is k-is;
+  hand =
+      omega (
+        arith,
+        length-view (w .state .links) 5,
+        few-hand (w .state .pool .turn .at) (w .state .links) (w .state .keys) (w .state .actors) (steady .works .here),
+      );
   safe = safe;
 }
 
 pub whole-rail : WholeRail
-whole-rail s given bytes n store records groups links rows keys actors ok calls =
-    let start = begin (openOf s given bytes n store records groups links rows keys actors) actors (take n bytes) in
-    let steady = run-steady (length bytes) (limitsFrom s (length given)) calls start (open-steady s given bytes n store records groups links rows keys actors ok) in
-    steady-holds s given (length bytes) (limitsFrom s (length given)) (run start calls) steady
-    (reopens s given bytes n store records groups links rows keys actors ok (run start calls) steady)
+whole-rail l ok calls =
+    steady-holds l (limitsOf l) (after l calls) (after-steady l ok calls)
+    (reopens l ok (after l calls) (after-steady l ok calls))
+
+-- ---- every call of every list
+
+pub tails-kept : TailsKept
+tails-kept = record {
+  openings = λ l ok. opens-tail l (accepted-taken l ok);
+  calls = λ l ok before c.
+      tail-kept (length (l .bytes)) (limitsOf l) (after l before) c (after-steady l ok before);
+}
+
+pub refused-same : RefusedSame
+refused-same = record {
+  openings = λ l turned. refused-untouched l turned;
+  calls = λ l ok before c turned. refused-stays (after l before .state) c turned;
+}
+
+pub orders-fit : OrdersFit
+orders-fit = record {
+  openings = λ l ok. (_, opens-replacing l (accepted-taken l ok));
+  calls = λ l ok before c.
+      order-fits (length (l .bytes)) (limitsOf l) (after l before) c (after-steady l ok before);
+}

@@ -54,7 +54,7 @@ use Rattle.rail.specs.Rail.{nothing, orderOpen, orderIn, accepted, State
 unfoldable pub Shows : Told → Type 0
 Shows t = accepted (t .answer) ≡ true → orderIn (t .answer) ≡ orderOf (t .pool .turn .disk)
 
-never : false ≡ true → ⊥
+pub never : false ≡ true → ⊥
 never e = let z : _≡_ {A = ℕ} 0 1 = cc in omega arith
 
 pub refused-shows : (p : Pool) (r : Refusal) → Shows (refusedBy p r)
