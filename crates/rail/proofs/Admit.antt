@@ -50,9 +50,9 @@ use Rattle.front.specs.State.{lengthCheck, logRefusal, withDisk, shown}
 use Rattle.door.specs.Admit as one
 use Rattle.door.specs.Admit.{INBOX, roomCheck}
 use Rattle.rail.specs.Rail.{Call, admit, State, didAdmit, callOf, World, walOf, orderedFor, ordersIn, ofRecord}
-use Rattle.rail.specs.Invariant.{Agrees, Ledger, Working, still, Steady}
+use Rattle.rail.proofs.Invariant.{Agrees, Ledger, Working, still, workIn, Steady}
 use Rattle.rail.proofs.Ids.{count-snoc, now-count}
-use Rattle.rail.proofs.After.{workIn, orderOf, Ends, turned, took, rest-steady, call-sound, shown-rule}
+use Rattle.rail.proofs.After.{orderOf, Ends, turned, took, rest-steady, call-sound, shown-rule}
 
 -- ---- the checks
 

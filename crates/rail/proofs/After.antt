@@ -32,11 +32,7 @@ use Rattle.rail.specs.Rail.{Call, State, Did, World, walOf, moved, Shown
 use Rattle.rail.specs.Rail.{ofMark, purposeOf, outOfPlaces, OrderFits, orderedFor, ordered, answered, accepted, stepDid}
 use Rattle.rail.proofs.Ids.{gone-same, gone-other, count-snoc}
 use Rattle.rail.proofs.Left.{none-out, marked-in, marked-out, marked-one}
-use Rattle.rail.specs.Invariant.{Ledger, Working, TailKept, Runs, still, marks, markedOff, Steady}
-
--- the state as a turn's work
-abbrev pub workIn : State → Work
-workIn s = record { turn = s .pool .turn; bytes = s .bytes; records = s .records; links = s .links; rows = s .rows; keys = s .keys; actors = s .actors }
+use Rattle.rail.proofs.Invariant.{Ledger, Working, TailKept, Runs, still, marks, markedOff, workIn, Steady}
 
 -- an id that was logged and not done is done
 marked-ledger : (j j′ : disk.World) (top : ℕ) (logged done : List ℕ) (id : ℕ) → Ledger j top logged done → 0 < count id (idsOf (j .now))

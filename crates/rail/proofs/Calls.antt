@@ -7,7 +7,7 @@ use lib.ListN.{drop}
 use Rattle.turn.specs.declared.state.Limits.{Limits}
 use Rattle.rail.specs.Rail.{Call, admit, turn, reply, sync, close, Did, callOf, World, step, run, accepted, orderIn}
 use Rattle.rail.specs.Rail.{KeepsTail, CallKeepsTail, OrderFits, CallOrderFits}
-use Rattle.rail.specs.Invariant.{Steady}
+use Rattle.rail.proofs.Invariant.{Steady}
 use Rattle.rail.proofs.After.{orderOf, Ends, turned, took, ends-steady}
 use Rattle.rail.proofs.Shown.{never, order-shown}
 use Rattle.rail.proofs.Admit.{admit-ends}

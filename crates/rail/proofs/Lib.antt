@@ -1,4 +1,5 @@
 -- Laws of the rail.
+pub mod Invariant
 pub mod Ids
 pub mod Left
 pub mod Marks
@@ -11,4 +12,5 @@ pub mod Refused
 pub mod Calls
 pub mod Opened
 pub mod Opening
+pub mod Instance
 pub mod Rail

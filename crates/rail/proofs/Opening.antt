@@ -35,7 +35,7 @@ use Rattle.turn.specs.declared.state.Limits.{Limits}
 use Rattle.door.specs.Open.{PoolOpened, limitsFrom, noLeft}
 use Rattle.rail.specs.Rail.{World, accepted, leftBy, nextFrom, startStatus, orderIn, shows, openState, walOf}
 use Rattle.rail.specs.Rail.{begin, Lent, opens, Accepts, fileIn, handedBack, Follows, Reopens, KeepsTail}
-use Rattle.rail.specs.Invariant.{Working, Ledger, workOf, Steady}
+use Rattle.rail.proofs.Invariant.{Working, Ledger, workIn, Steady}
 use Rattle.rail.proofs.Ids.{rising-once, rising-top}
 use Rattle.rail.proofs.Opened.{tables-are, tables-true, Taken, accepted-taken, opensAs, opens-as, start-sound}
 
@@ -122,7 +122,7 @@ module _ (l : Lent) (t : Taken l) where
       hands (l .rows) (l .store) left (sizes .0 .1) (lent .store-is) (small-few left (stands .small))
       (and-right (leb (length left) 256) (allFit left) (stands .small))
 
-  start-works : Working (length (l .bytes)) (start .journal) (workOf start)
+  start-works : Working (length (l .bytes)) (start .journal) (workIn (start .state))
   unfolding disk.begin disk.sent
   start-works = record {
     sound = given-back .sound;

@@ -19,7 +19,7 @@ use Rattle.keeping.specs.Living.{given, Lives}
 use Rattle.keeping.proofs.LivingTurn.{few-hand}
 use Rattle.rail.specs.Rail.{Call, World, Lent, Accepts, opens, fileIn, begin, after, mailboxAt, handAt, Living}
 use Rattle.rail.specs.Rail.{Reopens, Holds, WholeRail, TailsKept, RefusedSame, OrdersFit}
-use Rattle.rail.specs.Invariant.{Steady}
+use Rattle.rail.proofs.Invariant.{Steady}
 use Rattle.rail.proofs.Calls.{run-steady, tail-kept, order-fits}
 use Rattle.rail.proofs.Refused.{refused-stays}
 use Rattle.rail.proofs.Opened.{accepted-taken, refused-untouched}

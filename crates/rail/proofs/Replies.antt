@@ -46,14 +46,14 @@ use Rattle.pool.specs.Run.{Ran, PENDING, runOf}
 use Rattle.pool.specs.Calls as one
 use Rattle.pool.specs.Calls.{firstPoint, begunOf, freed, withWent, closedPool, storedIn}
 use Rattle.rail.specs.Rail.{Call, turn, reply, sync, close, State, didRun, didReply, didTell, callOf, World, walOf, answered, answeredBy, orderAnswered, nothing, shows, OrderFits}
-use Rattle.rail.specs.Invariant.{Agrees, Ledger, Working, Runs, still, Steady}
+use Rattle.rail.proofs.Invariant.{Agrees, Ledger, Working, Runs, still, workIn, Steady}
 use Rattle.keeping.proofs.Turn.{ResumeKeeps, resume-keeps}
 use Rattle.keeping.specs.Living.{stepHand, AtLives}
 use Rattle.keeping.proofs.LivingTurn.{resume-lives}
 use Rattle.group.specs.declared.at.At.{At}
 use Rattle.group.specs.declared.at.At.the-variants as at
 use Rattle.rail.proofs.Running.{run-runs}
-use Rattle.rail.proofs.After.{orderedIn, workIn, Marking, Ends, turned, took, calm-steady, rest-steady, runs-steady}
+use Rattle.rail.proofs.After.{orderedIn, Marking, Ends, turned, took, calm-steady, rest-steady, runs-steady}
 use Rattle.rail.proofs.After.{none-fits, runs-fits, runs-tail, call-sound, shown-rule, answered-rule, orderOf}
 use Rattle.rail.proofs.Admit.{Arrives, kept-arrives, withKept, unlogged-works}
 

@@ -33,7 +33,7 @@ use Rattle.places.proofs.Moves.{goes}
 use Rattle.places.proofs.Steps.{pick-rule}
 use Rattle.keeping.specs.Keeping.{AtOk}
 use Rattle.handing.specs.Handing.{idsOf}
-use Rattle.rail.specs.Invariant.{Agrees, Working, TailKept, Runs, still, marks, markedOff}
+use Rattle.rail.proofs.Invariant.{Agrees, Working, TailKept, Runs, still, marks, markedOff}
 use Rattle.rail.proofs.Marks.{GoesOut, mark-goes, mark-sound, mark-tail, ids-marked}
 use Rattle.keeping.proofs.Turn.{go-keeps}
 use Rattle.keeping.proofs.Living.{Less, less-same, less-lives, at-less, first-less}

@@ -1,3 +1,2 @@
 -- Definitions and statements.
 pub mod Rail
-pub mod Invariant

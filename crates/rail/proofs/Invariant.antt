@@ -1,8 +1,7 @@
--- What holds between two calls, and between two points of a turn: the invariant behind the theorem. A reader of the theorem needs none of this.
+-- What holds between two calls, and between two points of a turn: the invariant behind the theorem.
 use mathlib.Core.Path.{_≡_}
 use mathlib.Core.List.{List}
 use Prim.Native.Nat.{ℕ, _+_, _≤_, _<_}
-use lib.ListN.{drop}
 use Rattle.lists.specs.Family.{count}
 use Rattle.log.specs.declared.LogId.{LogId}
 use Rattle.log.specs.declared.Order.{Order}
@@ -19,7 +18,7 @@ use Rattle.places.specs.Places.{stands, Sound}
 use Rattle.keeping.specs.Keeping.{AtOk}
 use Rattle.keeping.specs.Living.{Lives, AtLives}
 use Rattle.handing.specs.Handing.{idsOf}
-use Rattle.rail.specs.Rail.{World, walOf}
+use Rattle.rail.specs.Rail.{State, World, KeepsTail}
 
 -- the pool's disk and the journal's say the same
 abbrev pub Agrees : Disk → disk.Status → List ℕ → Type 0
@@ -35,7 +34,8 @@ pub record Ledger (j : disk.World) (next : ℕ) (logged done : List ℕ) : Type 
   pub once : (x : ℕ) → count x logged ≤ 1
   pub below : (x : ℕ) → 0 < count x logged → x < j .wal .counters .next
 
--- a turn's work with the journal beside it: sound lists; each id stands as often as it is logged and not done; who holds a message lives; the log of the journal; the disk
+-- a turn's work with the journal beside it: sound lists; each id stands as often as it is logged and not done; who
+-- holds a message lives; the log of the journal; the disk
 pub record Working (long : ℕ) (j : disk.World) (w : Work) : Type 0 where
   pub sound : Sound (w .links) (w .rows) (w .turn .counts .queued)
   pub ids : (x : ℕ) → stands x (w .links) (w .rows) ≡ count x (idsOf (j .now))
@@ -48,32 +48,35 @@ pub record Working (long : ℕ) (j : disk.World) (w : Work) : Type 0 where
 
 -- the journal after the order of a mark
 abbrev pub markedOff : disk.World → Work → Order → LogId → disk.World
-markedOff j w o id = disk.issue j (state (w .bytes) (w .records) (w .turn .log)) (remove (id .0) (j .now)) (disk.sent (w .bytes) o)
+markedOff j w o id =
+    disk.issue j (state (w .bytes) (w .records) (w .turn .log)) (remove (id .0) (j .now)) (disk.sent (w .bytes) o)
 
 -- the log's bytes at and after its size are those given
 abbrev pub TailKept : List ℕ → Work → Type 0
-TailKept bytes w = drop (w .turn .log .size) (w .bytes) ≡ drop (w .turn .log .size) bytes
+TailKept bytes w = KeepsTail (w .turn .log .size) bytes (w .bytes)
 
--- how a run ended: with no order, or with the mark of a message that was logged and not done, the log's bytes behind its new size as they were
+-- how a run ended: with no order, or with the mark of a message that was logged and not done, the log's bytes behind
+-- its new size as they were
 pub data Runs (long : ℕ) (j : disk.World) (w : Work) : Type 0 where
   still : w .turn .disk ≡ order.Free → Working long j w → Runs long j w
-  marks : (o : Order) (id : LogId) → w .turn .disk ≡ order.Waits o (what.Mark id) → 0 < count (id .0) (idsOf (j .now)) → w .turn .log .next ≡ j .wal .counters .next
-      → TailKept (j .wal .bytes) w → Working long (markedOff j w o id) w → Runs long j w
+  marks : (o : Order) (id : LogId) → w .turn .disk ≡ order.Waits o (what.Mark id) → 0 < count (id .0) (idsOf (j .now))
+      → w .turn .log .next ≡ j .wal .counters .next → TailKept (j .wal .bytes) w → Working long (markedOff j w o id) w
+      → Runs long j w
 
--- the state of a world as a turn's work
-abbrev pub workOf : World → Work
-workOf w = record {
-  turn = w .state .pool .turn;
-  bytes = w .state .bytes;
-  records = w .state .records;
-  links = w .state .links;
-  rows = w .state .rows;
-  keys = w .state .keys;
-  actors = w .state .actors;
+-- the state as a turn's work
+abbrev pub workIn : State → Work
+workIn s = record {
+  turn = s .pool .turn;
+  bytes = s .bytes;
+  records = s .records;
+  links = s .links;
+  rows = s .rows;
+  keys = s .keys;
+  actors = s .actors;
 }
 
 -- what holds after every list of calls
 pub record Steady (long : ℕ) (limits : Limits) (w : World) : Type 0 where
-  pub works : Working long (w .journal) (workOf w)
+  pub works : Working long (w .journal) (workIn (w .state))
   pub ledger : Ledger (w .journal) (w .next) (w .logged) (w .done)
   pub limits-are : w .state .pool .limits ≡ limits
