@@ -1,4 +1,5 @@
--- The messages left, put one by one: after i of them the entries below i stand in pending, each with its message's row. Assumes nothing.
+-- The messages left, put one by one: after i of them the entries below i stand in pending, each with its message's row.
+-- Assumes nothing.
 use mathlib.Core.Path.{_≡_, refl, sym, ap, _∙_, fun-ext}
 use mathlib.Core.Logic.{_≢_}
 use mathlib.Core.List.{List, [], _∷_, _++_, map}

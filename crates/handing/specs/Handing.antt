@@ -1,4 +1,5 @@
--- What an opening hands back: the messages in pending, with log id, group and body; and what holds of the lists and rows then.
+-- What an opening hands back: the messages in pending, with log id, group and body; and what holds of the lists and
+-- rows then.
 use mathlib.Core.Path.{_≡_}
 use mathlib.Core.List.{List, [], _∷_, map}
 use Prim.Native.Nat.{ℕ, _+_, _*_}
@@ -29,7 +30,8 @@ idsOf ms = map (λ (m : Message). m .id) ms
 
 -- the messages left, put into lists that are all free and into these rows
 abbrev pub putMessages : Table → List Message → Placed
-putMessages rows ms = putLeft (startFrom 0 262) rows (write (replicate 256 (0 ∷ 0 ∷ 0 ∷ [])) 0 (map leftRow ms)) 0 (length ms)
+putMessages rows ms =
+    putLeft (startFrom 0 262) rows (write (replicate 256 (0 ∷ 0 ∷ 0 ∷ [])) 0 (map leftRow ms)) 0 (length ms)
 
 -- what holds then: nothing is queued, each id stands as often as among the messages left, and these are handed back
 pub record Hands (rows : Table) (store : List ℕ) (ms : List Message) : Type 0 where

@@ -1,31 +1,31 @@
--- What keeps the invariant of who holds messages: lists that get shorter, keys and actors that change elsewhere, a spawn, a key that is freed. Assumes nothing.
+-- What keeps the invariant of who holds messages: lists that get shorter, keys and actors that change elsewhere, a
+-- spawn, a key that is freed. Assumes nothing.
 use mathlib.Core.Path.{_≡_, refl, sym, ap, _∙_, subst}
 use mathlib.Core.Bool.{Bool, true, false}
 use mathlib.Core.Logic.{_≢_}
-use mathlib.Core.List.{List, [], _∷_}
+use mathlib.Core.List.{List, []}
 use Prim.Native.Nat.{ℕ, zero, suc, _+_, _*_, _-_, _≤_, _<_}
 use native.Mathlib.Omega.{arith}
 use native.Mathlib.Decide.{ℕ-discrete, decLt}
 use borrow.Author.Tests.{lt-ltb, le-ltb, ltb-true, leb-false, leb-true}
 use lib.Dec.{ltb, leb}
-use lib.ListN.{length, getD, set, take, drop, length-set, length-append, length-drop, take-append-drop}
+use lib.ListN.{length, set, take, drop, length-set, length-append, length-drop, take-append-drop}
 use lib.Seq.{getD-set-same, getD-set-other, set-out}
 use Rattle.lists.specs.declared.Found.{Found}
 use Rattle.lists.specs.declared.Found.the-variants as found
 use Rattle.lists.specs.declared.keys.Key.{Key}
 use Rattle.lists.specs.declared.keys.Key.the-variants as key
-use Rattle.lists.specs.Links.{pick, LISTS, FREE, Table, lenOf, firstOf, moveFirst, moveAll, mailboxOf, handOf}
+use Rattle.lists.specs.Links.{pick, LISTS, Table, lenOf, firstOf, moveFirst, moveAll, mailboxOf, handOf}
 use Rattle.lists.specs.Family.{view, Good, Pair, Moved, MovedAll}
 use Rattle.lists.specs.KeyLists.{blankRow, keysAt}
 use Rattle.lists.specs.Slabs as slab
-use Rattle.lists.specs.Slabs.{containsOf, vacantOf, insertOf, removeOf, givenOf}
+use Rattle.lists.specs.Slabs.{containsOf, vacantOf, insertOf, removeOf}
 use Rattle.lists.proofs.Family.{length-view}
 use Rattle.lists.proofs.Moves.{move-first, move-all, move-first-good}
 use Rattle.lists.proofs.Slabs.{Inserted, inserted-live, Removed, removed-dead, live-given}
 use Rattle.actor.specs.declared.message.Logged.{Logged}
 use Rattle.actor.specs.declared.message.Logged.the-variants as logged
 use Rattle.actor.specs.declared.state.Actor.{Actor}
-use Rattle.actor.specs.declared.state.Mode.{Mode}
 use Rattle.actor.specs.declared.state.Mode.the-variants as mode
 use Rattle.actor.specs.Questions.{slotOf}
 use Rattle.actor.specs.Messages.{messageAt}
@@ -41,12 +41,10 @@ use Rattle.steps.specs.Steps.{placeLogged, placeOver, overFirst}
 use Rattle.group.specs.declared.at.At.{At}
 use Rattle.group.specs.declared.at.At.the-variants as at
 use Rattle.group.specs.declared.at.Cursor.{Cursor}
-use Rattle.group.specs.At.{whoOf}
 use Rattle.group.specs.Roster.{ROWS, slabRow, readyRow, idleRow, waitingRow, slotAt, pushKey, liveOf, Keyed, scheduleOf, Spawned, modeFor, spawnKey, spawnBy, spawnOf, overAll}
 use Rattle.ticking.specs.Settle.{removeKey}
 use Rattle.places.proofs.Through.{mailbox-is, first-rule, all-rule}
 use Rattle.places.proofs.Steps.{pick-rule}
-use Rattle.keeping.specs.Keeping.{Calm}
 use Rattle.keeping.specs.Living.{mailLen, handLen, stepHand, given, Lives, EndHands, FixedHands, EvalHands, AtLives}
 
 -- ---- slots
@@ -378,9 +376,6 @@ same-live {keys = keys} {keys′ = keys′} s g k live =
     let row : keysAt keys′ (slabRow g) ≡ keysAt keys (slabRow g) = rw (slab-row g (slot .group)) (s .slabs g (slot .group)) in
     rw row live
 
-pub same-fixed : {keys actors keys′ actors′ : Table} → Same keys actors keys′ actors′ → (slot : ℕ) (m : Mode) → actorAt actors slot .mode ≡ m → actorAt actors′ slot .mode ≡ m
-same-fixed s slot m is = s .modes slot ∙ is
-
 -- ---- the slot of a living actor changes
 
 pub record Changes (t r actors actors′ : Table) (g k : ℕ) : Type 0 where
@@ -547,9 +542,6 @@ low-slot g k g-is k-is = by (leb 8 g) refl (leb 16 k) refl
 live-here : (keys : Table) (g k : ℕ) → g < 8 → k < 16 → given keys g k ≡ true → liveOf keys g k ≡ true
 unfolding liveOf
 live-here keys g k g-is k-is is = rw (low-slot g k g-is k-is, lt-ltb (16 * g + k) 128 (omega arith), slab-row g g-is) is
-
-new-idle : (b : Bool) → hasRun (newActor (modeFor b) .run) ≡ false
-new-idle b = refl
 
 module _ (t keys actors : Table) (l : Lives t keys actors) (g : ℕ) (eval-is : Bool) where
   abbrev fresh : Actor

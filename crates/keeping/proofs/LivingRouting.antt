@@ -1,8 +1,8 @@
 -- Seeding, taking in and routing keep the invariant of who holds messages. Assumes nothing.
-use mathlib.Core.Path.{_≡_, refl, sym, ap, _∙_, subst}
+use mathlib.Core.Path.{_≡_, refl, _∙_}
 use mathlib.Core.Bool.{Bool, true, false}
 use mathlib.Core.List.{List}
-use Prim.Native.Nat.{ℕ, zero, suc, _+_, _*_, _-_, _≤_, _<_}
+use Prim.Native.Nat.{ℕ, zero, suc, _+_, _*_, _≤_, _<_}
 use native.Mathlib.Omega.{arith}
 use native.Mathlib.Decide.{decLt}
 use borrow.Author.Tests.{lt-ltb}
@@ -21,20 +21,19 @@ use Rattle.actor.specs.declared.question.YesIn.the-variants as yes
 use Rattle.actor.specs.Questions.{yesIn}
 use Rattle.actor.specs.Messages.{messageAt}
 use Rattle.actor.specs.Actors.{actorAt, deliveredTo}
-use Rattle.group.specs.declared.at.At.the-variants as at
 use Rattle.group.specs.declared.roster.Popped.{Popped}
 use Rattle.group.specs.declared.settings.Named.{Named}
 use Rattle.group.specs.declared.settings.Named.the-variants as named
 use Rattle.group.specs.Settings.{groupAt, groupFor}
-use Rattle.group.specs.Roster.{slabRow, idleRow, slotAt, liveOf, liveLen, Spawned, spawnOf, popIdleOf, popIdleRow, popped, idleKey, leastOf, leastFrom, betterOf, loadOf}
+use Rattle.group.specs.Roster.{slabRow, idleRow, slotAt, liveOf, liveLen, spawnOf, popIdleOf, popIdleRow, idleKey, leastOf, leastFrom, betterOf, loadOf}
 use Rattle.routing.specs.Seed.{Seeded, seedOf, seedBooted, seedBy, seedReply}
 use Rattle.routing.specs.Intake.{INBOX, PENDING, BATCH, Linked, batchOf, intakeOf}
 use Rattle.routing.specs.Route as to
 use Rattle.routing.specs.Route.{Sent, routeOf, routeReply}
 use Rattle.places.proofs.Through.{mailbox-past, first-rule}
 use Rattle.places.proofs.Steps.{pick-rule}
-use Rattle.keeping.specs.Living.{mailLen, handLen, stepHand, given, Lives}
-use Rattle.keeping.proofs.Living.{Slot, live-slot, live-given-key, Less, less-same, less-at, less-lives, first-less, all-less, over-less, FirstLens, first-lens, Same, same-both, same-lives, same-live, set-row, idle-row, put-schedule, changes-lives, SpawnLives, spawn-lives}
+use Rattle.keeping.specs.Living.{handLen, stepHand, Lives}
+use Rattle.keeping.proofs.Living.{Slot, live-slot, live-given-key, Less, less-at, less-lives, first-less, all-less, over-less, FirstLens, first-lens, Same, same-lives, same-live, set-row, idle-row, put-schedule, changes-lives, spawn-lives}
 
 -- ---- the first turn's spawns
 

@@ -1,15 +1,14 @@
--- A step of an actor keeps the invariant of who holds messages: every transition of a fixed and of an eval actor. Assumes nothing.
+-- A step of an actor keeps the invariant of who holds messages: every transition of a fixed and of an eval actor.
+-- Assumes nothing.
 use mathlib.Core.Path.{_≡_, refl, sym, ap, _∙_, subst}
 use mathlib.Core.Bool.{Bool, true, false}
 use mathlib.Core.Logic.{_≢_}
 use Prim.Native.Nat.{ℕ, _+_, _*_, _-_, _≤_, _<_}
 use native.Mathlib.Omega.{arith}
-use native.Mathlib.Decide.{ℕ-discrete}
-use borrow.Author.Tests.{eq-eqb, ne-eqb}
 use lib.Dec.{eqb, ltb, leb}
-use lib.ListN.{length, length-set, drop, length-drop}
-use Rattle.lists.specs.Links.{pick, LISTS, Table, lenOf, firstOf, moveFirst, moveFirstToFront, mailboxOf, handOf}
-use Rattle.lists.specs.Family.{view, Good, Pair, MovedToFront}
+use lib.ListN.{length, length-set, length-drop}
+use Rattle.lists.specs.Links.{pick, Table, lenOf, firstOf, moveFirst, moveFirstToFront, mailboxOf, handOf}
+use Rattle.lists.specs.Family.{view, Good, MovedToFront}
 use Rattle.lists.proofs.Family.{length-view}
 use Rattle.lists.proofs.Moves.{move-first-to-front, move-first-good}
 use Rattle.actor.specs.declared.message.Caller.{Caller}
@@ -46,10 +45,10 @@ use Rattle.steps.specs.StepFixed as one
 use Rattle.steps.specs.StepEval.{EvalStarted, EvalBoth, evalStart, stepEval}
 use Rattle.steps.specs.StepEval as two
 use Rattle.group.specs.declared.at.Cursor.{Cursor}
-use Rattle.group.specs.Roster.{slotAt, liveOf}
+use Rattle.group.specs.Roster.{slotAt}
 use Rattle.places.proofs.Steps.{pick-rule}
-use Rattle.keeping.specs.Living.{mailLen, handLen, stepHand, given, Lives, FixedHands, EvalHands, Lively, IsFixed}
-use Rattle.keeping.proofs.Living.{Slot, live-slot, live-given-key, Less, less-at, less-lives, FirstLens, first-lens, over-less, over-good, over-left, Same, same-lives, put-same, Changes, changes-lives}
+use Rattle.keeping.specs.Living.{handLen, stepHand, given, Lives, FixedHands, EvalHands, Lively, IsFixed}
+use Rattle.keeping.proofs.Living.{Slot, live-slot, live-given-key, Less, less-at, less-lives, FirstLens, first-lens, over-less, over-left, Same, same-lives, put-same, changes-lives}
 
 mode-apart : _≡_ {A = Mode} mode.Fixed mode.Eval → ⊥
 mode-apart e = let z : _≡_ {A = ℕ} 0 1 = cc in omega arith

@@ -1,17 +1,15 @@
 -- Waking, stepping, settling and crashing keep the invariant of who holds messages. Assumes nothing.
-use mathlib.Core.Path.{_≡_, refl, sym, ap, _∙_, subst}
+use mathlib.Core.Path.{_≡_, refl, _∙_, subst}
 use mathlib.Core.Bool.{Bool, true, false}
 use Prim.Native.Nat.{ℕ, _+_, _*_, _-_, _≤_, _<_}
 use native.Mathlib.Omega.{arith}
-use native.Mathlib.Decide.{decLt}
 use borrow.Author.Tests.{eqb-true}
 use lib.Dec.{eqb, ltb, leb}
 use lib.ListN.{set}
 use Rattle.lists.specs.declared.Found.{Found}
-use Rattle.lists.specs.declared.Found.the-variants as found
 use Rattle.lists.specs.declared.keys.Key.{Key}
 use Rattle.lists.specs.declared.keys.Key.the-variants as key
-use Rattle.lists.specs.Links.{pick, LISTS, Table, lenOf, firstOf, headOf, moveFirst, moveAll, mailboxOf, handOf}
+use Rattle.lists.specs.Links.{LISTS, Table, lenOf, headOf, moveAll, mailboxOf, handOf}
 use Rattle.lists.specs.Family.{Good}
 use Rattle.lists.specs.KeyLists.{blankRow, keysAt, frontOf, popFront}
 use Rattle.lists.proofs.Moves.{move-all-good}
@@ -22,7 +20,6 @@ use Rattle.actor.specs.declared.question.CountIn.{CountIn}
 use Rattle.actor.specs.declared.question.CountIn.the-variants as count
 use Rattle.actor.specs.declared.state.Mode.{Mode}
 use Rattle.actor.specs.declared.state.Mode.the-variants as mode
-use Rattle.actor.specs.declared.state.Wake.{Wake}
 use Rattle.actor.specs.Questions.{yesIn, countIn}
 use Rattle.actor.specs.Messages.{messageAt}
 use Rattle.actor.specs.Actors.{actorAt, putActor, scheduledAs, beganStep, startedAs, blockedTo, yieldedAs, wokenAs}
@@ -32,28 +29,27 @@ use Rattle.steps.specs.declared.fixed.FixedAt.{FixedAt}
 use Rattle.steps.specs.declared.fixed.FixedAt.the-variants as fixed
 use Rattle.steps.specs.declared.eval.EvalAt.{EvalAt}
 use Rattle.steps.specs.declared.eval.EvalAt.the-variants as eval
-use Rattle.steps.specs.Steps.{HAND, overFirst}
+use Rattle.steps.specs.Steps.{HAND}
 use Rattle.steps.specs.StepFixed.{fixedStart}
 use Rattle.steps.specs.StepEval.{evalStart}
 use Rattle.group.specs.declared.at.At.{At}
-use Rattle.group.specs.declared.at.At.the-variants as at
 use Rattle.group.specs.declared.at.Cursor.{Cursor}
-use Rattle.group.specs.At.{readyAfter, fixedAfter, evalAfter}
+use Rattle.group.specs.At.{fixedAfter, evalAfter}
 use Rattle.group.specs.Settings.{groupAt}
-use Rattle.group.specs.Roster.{REST, DOOMED, readyRow, idleRow, waitingRow, slotAt, Keyed, pushKey, liveOf, scheduleOf, overAll}
+use Rattle.group.specs.Roster.{REST, DOOMED, readyRow, idleRow, waitingRow, slotAt, Keyed, liveOf, overAll}
 use Rattle.ticking.specs.declared.crash.Losses.{Losses}
 use Rattle.ticking.specs.Waking as waking
 use Rattle.ticking.specs.Waking.{Listed, Waked, wakeOf, wakeNext, pollReply}
 use Rattle.ticking.specs.Ready as readying
 use Rattle.ticking.specs.Ready.{Stepping, Readied, readyOf}
 use Rattle.ticking.specs.Settle as settling
-use Rattle.ticking.specs.Settle.{PENDING, slotOn, stepEnd, settleOf, removeKey}
+use Rattle.ticking.specs.Settle.{PENDING, slotOn, stepEnd, settleOf}
 use Rattle.ticking.specs.Crash as crashing
 use Rattle.ticking.specs.Crash.{Dying, Crashing, crashOf, trapReply, trappedReply, doomedOf}
 use Rattle.places.proofs.Steps.{pick-rule}
 use Rattle.keeping.specs.Living.{mailLen, handLen, stepHand, Lives, EndHands, FixedHands, EvalHands, Lively, IsFixed, AtLives}
-use Rattle.keeping.proofs.Living.{Slot, live-slot, Less, less-same, less-then, less-at, less-lives, first-less, first-left, all-less, all-left, over-less, over-left, over-all-less, over-all-left, Same, same-both, same-then, same-lives, same-live, set-row, ready-row, idle-row, waiting-row, high-row, push-row, put-same, put-schedule, remove-lives}
-use Rattle.keeping.proofs.LivingSteps.{EvalLives, eval-begins}
+use Rattle.keeping.proofs.Living.{Slot, Less, less-same, less-then, less-at, less-lives, first-less, first-left, all-less, all-left, over-less, over-left, over-all-less, over-all-left, Same, same-both, same-then, same-lives, set-row, ready-row, idle-row, waiting-row, high-row, push-row, put-same, put-schedule, remove-lives}
+use Rattle.keeping.proofs.LivingSteps.{eval-begins}
 
 -- ---- waking changes keys and actors elsewhere
 

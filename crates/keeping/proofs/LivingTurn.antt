@@ -1,5 +1,4 @@
 -- Every running point of a turn, and every reply, keeps the invariant of who holds messages. Assumes nothing.
-use mathlib.Core.Path.{_≡_, refl}
 use mathlib.Core.List.{List}
 use Prim.Native.Nat.{ℕ, _≤_}
 use native.Mathlib.Omega.{arith}
@@ -18,7 +17,6 @@ use Rattle.steps.specs.StepEval.{EvalBoth}
 use Rattle.group.specs.declared.at.At.{At}
 use Rattle.group.specs.declared.at.At.the-variants as at
 use Rattle.group.specs.declared.at.Cursor.{Cursor}
-use Rattle.group.specs.Roster.{slotAt}
 use Rattle.turn.specs.declared.state.Counts.{Counts}
 use Rattle.turn.specs.declared.state.Limits.{Limits}
 use Rattle.turn.specs.Go.{Gone, GoneActors, goRoute, goReady, goSettle, goCrash, goDoomed, goOf}

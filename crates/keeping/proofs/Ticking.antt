@@ -1,4 +1,5 @@
--- Waking, stepping, settling and crashing keep every message in a place, and where the turn stands then. Assumes nothing.
+-- Waking, stepping, settling and crashing keep every message in a place, and where the turn stands then. Assumes
+-- nothing.
 use mathlib.Core.Path.{_≡_, refl}
 use mathlib.Core.Bool.{Bool, true, false}
 use Prim.Native.Nat.{ℕ, _-_, _≤_, _<_}

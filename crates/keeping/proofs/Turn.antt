@@ -1,4 +1,5 @@
--- Every running point of a turn, and every reply, keeps each message in its place or moves it to another one. Assumes nothing.
+-- Every running point of a turn, and every reply, keeps each message in its place or moves it to another one. Assumes
+-- nothing.
 use mathlib.Core.List.{List}
 use Prim.Native.Nat.{ℕ, _<_}
 use native.Mathlib.Omega.{arith}

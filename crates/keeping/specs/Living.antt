@@ -1,4 +1,5 @@
--- Who holds messages: a slot whose mailbox or hand is not empty has a living actor, its key given out in its group's slab; a hand holds at most one message.
+-- Who holds messages: a slot whose mailbox or hand is not empty has a living actor, its key given out in its group's
+-- slab; a hand holds at most one message.
 use mathlib.Core.Path.{_≡_}
 use mathlib.Core.Bool.{Bool, true, false}
 use Prim.Native.Nat.{ℕ, _+_, _*_, _≤_, _<_}
@@ -34,14 +35,16 @@ stepHand t = lenOf t 5
 abbrev pub given : Table → ℕ → ℕ → Bool
 given keys g k = containsOf (keysAt keys (4 * g)) k
 
--- the invariant: the slabs are sound; who is not there holds nothing; a hand holds at most one message, and none of an eval actor that runs nothing
+-- the invariant: the slabs are sound; who is not there holds nothing; a hand holds at most one message, and none of an
+-- eval actor that runs nothing
 pub record Lives (t keys actors : Table) : Type 0 where
   pub keys-are : length keys ≡ 34
   pub actors-are : length actors ≡ 128
   pub slabs : (g : ℕ) → g < 8 → slab.Sound (keysAt keys (4 * g))
   pub dead : (g k : ℕ) → g < 8 → k < 16 → given keys g k ≡ false → (mailLen t g k ≡ 0) × (handLen t g k ≡ 0)
   pub one : (g k : ℕ) → g < 8 → k < 16 → handLen t g k ≤ 1
-  pub runs : (g k : ℕ) → g < 8 → k < 16 → actorAt actors (16 * g + k) .mode ≡ mode.Eval → hasRun (actorAt actors (16 * g + k) .run) ≡ false → handLen t g k ≡ 0
+  pub runs : (g k : ℕ) → g < 8 → k < 16 → actorAt actors (16 * g + k) .mode ≡ mode.Eval
+      → hasRun (actorAt actors (16 * g + k) .run) ≡ false → handLen t g k ≡ 0
 
 -- ---- where a turn stands: the step's hand, and the hand of the step's actor
 

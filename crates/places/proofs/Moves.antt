@@ -32,9 +32,6 @@ desk-pending = low-desk 2 (omega arith) (omega arith)
 pub desk-batch : Desk 3
 desk-batch = low-desk 3 (omega arith) (omega arith)
 
-pub desk-over : Desk OVER
-desk-over = low-desk OVER (omega arith) (omega arith)
-
 pub desk-hand : Desk HAND
 desk-hand = low-desk HAND (omega arith) (omega arith)
 

@@ -48,7 +48,8 @@ aside-mailbox slot = go (decLt slot 128)
 
 -- ---- messages go from place to place
 
--- from the links t to the links r: no log id comes or goes, and no mailbox changes but that of `slot`; at slot 128 none does
+-- from the links t to the links r: no log id comes or goes, and no mailbox changes but that of `slot`; at slot 128 none
+-- does
 pub record Through (t rows r : Table) (slot : ℕ) : Type 0 where
   pub good : Good r
   pub same : (x : ℕ) → stands x r rows ≡ stands x t rows

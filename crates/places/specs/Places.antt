@@ -1,7 +1,8 @@
--- The six places of a message: the lists 1 to 261 of the family (inbox, pending, batch, over, the step's hand, and for each actor's slot a mailbox and a
--- hand); list 0 is what is free. How often a log id stands in them, how many messages are in mailboxes, and what every part of a turn keeps.
+-- The six places of a message: the lists 1 to 261 of the family (inbox, pending, batch, over, the step's hand, and for
+-- each actor's slot a mailbox and a hand); list 0 is what is free. How often a log id stands in them, how many messages
+-- are in mailboxes, and what every part of a turn keeps.
 use mathlib.Core.Path.{_≡_}
-use mathlib.Core.Bool.{Bool, true, false}
+use mathlib.Core.Bool.{Bool, false}
 use mathlib.Core.Logic.{_≢_}
 use mathlib.Core.List.{List, [], _∷_}
 use Prim.Native.Nat.{ℕ, suc, _+_, _-_, _*_, _≤_, _<_}

@@ -1,4 +1,5 @@
--- Admit: refused with the state as it was, or a message comes to the inbox, logged or not; and a message that was sent comes to pending. Assumes nothing.
+-- Admit: refused with the state as it was, or a message comes to the inbox, logged or not; and a message that was sent
+-- comes to pending. Assumes nothing.
 use mathlib.Core.Path.{_≡_, refl, sym, ap, _∙_, subst}
 use mathlib.Core.Bool.{Bool, true, false}
 use mathlib.Core.Option.{Option, none, some}
@@ -50,7 +51,7 @@ use Rattle.front.specs.State.{lengthCheck, logRefusal, withDisk, shown}
 use Rattle.door.specs.Admit as one
 use Rattle.door.specs.Admit.{INBOX, roomCheck}
 use Rattle.rail.specs.Rail.{Call, admit, State, didAdmit, callOf, World, walOf, orderedFor, ordersIn, ofRecord}
-use Rattle.rail.proofs.Invariant.{Agrees, Ledger, Working, still, workIn, Steady}
+use Rattle.rail.proofs.Invariant.{Agrees, Ledger, Working, workIn, Steady}
 use Rattle.rail.proofs.Ids.{count-snoc, now-count}
 use Rattle.rail.proofs.After.{orderOf, Ends, turned, took, rest-steady, call-sound, shown-rule}
 

@@ -123,11 +123,11 @@ module _ (long : ℕ) (limits : Limits) where
           (calm-steady s j (w .next) (w .logged) (w .done) works ledger is)
       go (marks o id waits there next tail works) =
           let off : Steady long limits (offBy w s j o (remove (id .0) (j .now)) (id .0 ∷ [])) =
-              record {
-                works = works;
-                ledger = marked-ledger j (markedOff j (workIn s) o id) (w .next) (w .logged) (w .done) (id .0) ledger there refl next;
-                limits-are = is;
-              } in
+          record {
+            works = works;
+            ledger = marked-ledger j (markedOff j (workIn s) o id) (w .next) (w .logged) (w .done) (id .0) ledger there refl next;
+            limits-are = is;
+          } in
           let left = marked-in s (id .0) (j .now) there (open-once j ledger (id .0)) (works .ids) in
           let ids = marked-out s (id .0) (j .now) there (open-once j ledger (id .0)) (works .ids) in
           subst (λ d. Steady long limits (orderedIn c w s j d)) (sym waits)

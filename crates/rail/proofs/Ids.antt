@@ -1,4 +1,5 @@
--- How often an id stands among messages: ids rise, so each at most once; one is taken off, one is added. Assumes nothing.
+-- How often an id stands among messages: ids rise, so each at most once; one is taken off, one is added. Assumes
+-- nothing.
 use mathlib.Core.Path.{_≡_, refl, ap, _∙_}
 use mathlib.Core.Bool.{Bool, true, false}
 use mathlib.Core.Logic.{_≢_}

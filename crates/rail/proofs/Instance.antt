@@ -1,7 +1,7 @@
 -- The theorem speaks of something: an opening that is accepted, of an empty file in the smallest log, with one group.
 -- Assumes nothing.
 use mathlib.Core.Path.{_≡_, refl}
-use mathlib.Core.List.{List, [], _∷_}
+use mathlib.Core.List.{[], _∷_}
 use Prim.Native.Nat.{ℕ}
 use native.Mathlib.Omega.{arith}
 use lib.ListN.{length, replicate, length-replicate}
@@ -9,14 +9,13 @@ use Rattle.text.specs.Format.{lines, allButLast, split}
 use Rattle.lists.specs.Links.{Table}
 use Rattle.log.specs.Opening.{allFit, opening, nothingRead, readFile, readLines, judge}
 use Rattle.log.proofs.OpenLaws.{sized-true}
-use Rattle.setup.specs.declared.settings.Settings.{Settings}
 use Rattle.setup.specs.Settings.{settingsFit, numbersFit, within, rowsFit, rowFits, allBytes}
 use Rattle.door.specs.Open.{noLeft}
 use Rattle.rail.specs.Rail.{Lent, Accepts}
 use Rattle.rail.proofs.Opened.{tables-true, Taken}
 use Rattle.rail.proofs.Opening.{is-accepted}
 
--- one fixed group without replicas, its name of no bytes
+-- one fixed group of one replica, with an empty name
 abbrev oneGroup : Table
 oneGroup = (1 ∷ 0 ∷ 0 ∷ 0 ∷ 0 ∷ []) ∷ []
 

@@ -6,7 +6,7 @@ use Rattle.lists.specs.Family.{count}
 use Rattle.log.specs.declared.LogId.{LogId}
 use Rattle.log.specs.declared.Order.{Order}
 use Rattle.log.specs.Opening.{remove}
-use Rattle.log.specs.Log.{Wal, state}
+use Rattle.log.specs.Log.{state}
 use Rattle.log.specs.Recovery as disk
 use Rattle.log.proofs.RecoveryLaws as log
 use Rattle.turn.specs.declared.state.What.the-variants as what

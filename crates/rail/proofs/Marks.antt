@@ -1,4 +1,5 @@
--- The mark of a message that was logged and not done: its order goes out, and its id alone is no longer open. Assumes nothing.
+-- The mark of a message that was logged and not done: its order goes out, and its id alone is no longer open. Assumes
+-- nothing.
 use mathlib.Core.Path.{_≡_, refl, sym, ap, _∙_, subst}
 use mathlib.Core.Bool.{Bool, true, false}
 use mathlib.Core.Option.{some}

@@ -22,7 +22,6 @@ use Rattle.log.proofs.OpenLaws.{sized-all, open-accepts, image-fits, opened-lon
 use Rattle.log.specs.Stands.{Stands}
 use Rattle.log.proofs.RecoveryLaws.{ReadBack, stands-fit, stored-replace, whole-image, Sound, waiting}
 use Rattle.handing.specs.Handing.{putMessages}
-use Rattle.setup.specs.declared.settings.Settings.{Settings}
 use Rattle.setup.specs.Settings.{settingsFit, groupsFrom}
 use Rattle.setup.specs.Tables.{Placed, putLeft}
 use Rattle.front.specs.declared.state.Refusal.{Refusal}
@@ -73,7 +72,7 @@ tables-true groups links rows keys actors g l r k a =
 pub record Taken (l : Lent) : Type 0 where
   pub fit : settingsFit (l .settings) (l .groupsGiven) ≡ true
   pub tables : tablesSized (length (l .groups)) (length (l .links)) (length (l .rows)) (length (l .keys))
-          (length (l .actors))
+      (length (l .actors))
       ≡ true
   pub sizes : log.sized (length (l .bytes)) (l .size) (length (l .store)) (length (l .records)) (length noLeft) ≡ true
   pub found : Read

@@ -1,7 +1,7 @@
 -- A refused call leaves the state as it was, whatever that is: each refusal is given before anything is changed.
 -- Assumes nothing.
-use mathlib.Core.Path.{_≡_, refl, sym, ap, _∙_, subst}
-use mathlib.Core.Bool.{Bool, true, false}
+use mathlib.Core.Path.{_≡_, refl, sym, _∙_, subst}
+use mathlib.Core.Bool.{true, false}
 use mathlib.Core.List.{List}
 use Prim.Native.Nat.{ℕ}
 use lib.ListN.{length}
@@ -21,13 +21,12 @@ use Rattle.turn.specs.declared.state.Disk.the-variants as order
 use Rattle.turn.specs.Asks.{asksIn}
 use Rattle.front.specs.declared.state.Pool.{Pool}
 use Rattle.front.specs.declared.state.Answer.{Answer}
-use Rattle.front.specs.declared.state.Told.{Told}
 use Rattle.front.specs.declared.state.Check.{Check}
 use Rattle.front.specs.declared.state.Check.the-variants as check
 use Rattle.front.specs.State.{shown, atRest}
 use Rattle.pool.specs.declared.calls.StoredIn.{StoredIn}
 use Rattle.pool.specs.declared.calls.StoredIn.the-variants as stored
-use Rattle.pool.specs.Run.{Ran, runOf}
+use Rattle.pool.specs.Run.{runOf}
 use Rattle.door.specs.Admit as door
 use Rattle.pool.specs.Calls as one
 use Rattle.rail.specs.Rail.{State, Call, admit, turn, reply, sync, close, Did, didAdmit, didRun, didReply, didTell, callOf}

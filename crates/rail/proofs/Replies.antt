@@ -1,4 +1,5 @@
--- Turn, reply, sync and close: each refused with the state as it was, or accepted with the invariant kept. Assumes nothing.
+-- Turn, reply, sync and close: each refused with the state as it was, or accepted with the invariant kept. Assumes
+-- nothing.
 use mathlib.Core.Path.{_≡_, refl, sym, ap, _∙_, subst}
 use mathlib.Core.Bool.{Bool, true, false}
 use mathlib.Core.Logic.{inl, inr}
@@ -45,8 +46,8 @@ use Rattle.front.specs.State.{lengthCheck, withTurn, withDisk, shown, atRest}
 use Rattle.pool.specs.Run.{Ran, PENDING, runOf}
 use Rattle.pool.specs.Calls as one
 use Rattle.pool.specs.Calls.{firstPoint, begunOf, freed, withWent, closedPool, storedIn}
-use Rattle.rail.specs.Rail.{Call, turn, reply, sync, close, State, didRun, didReply, didTell, callOf, World, walOf, answered, answeredBy, orderAnswered, nothing, shows, OrderFits}
-use Rattle.rail.proofs.Invariant.{Agrees, Ledger, Working, Runs, still, workIn, Steady}
+use Rattle.rail.specs.Rail.{Call, turn, reply, sync, close, State, didRun, didReply, didTell, callOf, World, walOf, answered, answeredBy, orderAnswered, nothing, OrderFits}
+use Rattle.rail.proofs.Invariant.{Agrees, Ledger, Working, Runs, workIn, Steady}
 use Rattle.keeping.proofs.Turn.{ResumeKeeps, resume-keeps}
 use Rattle.keeping.specs.Living.{stepHand, AtLives}
 use Rattle.keeping.proofs.LivingTurn.{resume-lives}

@@ -5,7 +5,7 @@ use mathlib.Core.Logic.{_⊎_, inl, inr}
 use mathlib.Core.List.{List}
 use Prim.Native.Nat.{ℕ, zero, suc}
 use native.Mathlib.Omega.{arith}
-use Rattle.lists.specs.Links.{pick, Table}
+use Rattle.lists.specs.Links.{Table}
 use Rattle.actor.specs.declared.question.Asked.the-variants as asked
 use Rattle.group.specs.declared.at.At.{At}
 use Rattle.group.specs.declared.at.At.the-variants as at
@@ -14,7 +14,7 @@ use Rattle.turn.specs.declared.state.Disk.{Disk}
 use Rattle.turn.specs.declared.state.Disk.the-variants as order
 use Rattle.turn.specs.State.{marksAt, isFree, runningOf}
 use Rattle.turn.specs.Asks.{asksAt, asksIn}
-use Rattle.turn.specs.Step.{Given, Work, markFirst, markThen, stepOf, advanceOf, weightOf}
+use Rattle.turn.specs.Step.{Given, Work, markFirst, stepOf, advanceOf, weightOf}
 use Rattle.front.specs.declared.state.Pool.{Pool}
 use Rattle.front.specs.declared.state.Refusal.{Refusal}
 use Rattle.front.specs.declared.state.Answer.{Answer}
