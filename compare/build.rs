@@ -23,8 +23,8 @@ struct Source {
     swaps: &'static [Swap],
 }
 
-/// The files of the Rust that are compiled. Only constants that are settings of the port become getters, and two places
-/// tell the script: a delivery, a mark.
+/// The files of the Rust that are compiled. Only constants that are settings of the port become getters, and two
+/// places tell the script: a delivery, a mark.
 const SOURCES: &[Source] = &[
     Source { file: "config.rs", swaps: &[] },
     Source { file: "pool.rs", swaps: &[] },
@@ -58,7 +58,11 @@ const SOURCES: &[Source] = &[
     Source {
         file: "scheduler.rs",
         swaps: &[
-            Swap { from: "self.queued >= BACKLOG", to: "self.queued >= crate::oracle::constants::backlog()", times: 1 },
+            Swap {
+                from: "self.queued >= BACKLOG",
+                to: "self.queued >= crate::oracle::constants::backlog()",
+                times: 1,
+            },
             Swap {
                 from: "g.actors[key].deliver(m);",
                 to: "crate::oracle::script::delivered(gi, key, &m); g.actors[key].deliver(m);",
@@ -73,7 +77,9 @@ fn main() {
     println!("cargo::rustc-check-cfg=cfg(oracle)");
     let here = PathBuf::from(env::var("CARGO_MANIFEST_DIR").unwrap());
     let out = PathBuf::from(env::var("OUT_DIR").unwrap());
-    link_port(&here);
+    if env::var_os("CARGO_FEATURE_PORT").is_some() {
+        link_port(&here);
+    }
     if take_rust(&here, &out) && compile_slab(&out) {
         println!("cargo::rustc-cfg=oracle");
     }
@@ -118,7 +124,7 @@ fn swapped(source: &Source, mut text: String) -> Option<String> {
         let found = text.matches(swap.from).count();
         if found != swap.times {
             println!(
-                "cargo::error={} has changed: `{}` stands in it {found} times, not {}; the comparison must be looked at again",
+                "cargo::error={} has changed: `{}` stands in it {found} times, not {}; look at the comparison again",
                 source.file, swap.from, swap.times
             );
             return None;

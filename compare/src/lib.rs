@@ -1,7 +1,7 @@
 //! The Rust of the message core beside the port, over scripts of calls and replies.
 //!
-//! `model` is 01 as a plain program. It drives a run inside the domain of equality and writes down what must follow;
-//! `port` (the linked library, one function) must then give the same, and the Rust too.
+//! `model` is docs/RULES.md as a plain program. It drives a run inside the domain of equality and writes down what
+//! must follow; `port` (the linked library, one function) must then give the same, and the Rust too.
 
 pub mod lent;
 pub mod limits;
@@ -35,3 +35,6 @@ pub mod cuts;
 pub mod differences;
 pub mod property;
 pub mod recorded;
+
+#[cfg(test)]
+mod tests;

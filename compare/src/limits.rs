@@ -1,4 +1,4 @@
-//! The numbers of 01, each in one place.
+//! The numbers of docs/RULES.md, each in one place.
 
 /// Bytes of a group name, and of a body.
 pub const NAME_MAX: usize = 32;

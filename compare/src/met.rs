@@ -1,7 +1,7 @@
 //! Which points of the plain program, and of the Rust, a run met: a fixed list of names, and how often each was met.
 //!
-//! A run fails where a name of the list was never met, so that a generator that misses a branch is seen. What cannot be
-//! met stands in the list too, with the reason.
+//! A run fails where a name of the list was never met, so that a generator that misses a branch is seen. What cannot
+//! be met stands in the list too, with the reason.
 use std::cell::{Cell, RefCell};
 
 /// Where a point must be met.

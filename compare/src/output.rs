@@ -186,8 +186,8 @@ pub struct Output<'a> {
 }
 
 impl<'a> Output<'a> {
-    /// Reads what the port wrote under `show`, the count included. Anything short, left over or outside its range is an
-    /// error.
+    /// Reads what the port wrote under `show`, the count included. Anything short, left over or outside its range is
+    /// an error.
     pub fn read(written: &'a [u8], show: u64, store_len: usize) -> Result<Output<'a>, String> {
         let mut from = Reader::new(written);
         let count = from.number().ok_or("no count")?;
@@ -225,8 +225,11 @@ impl<'a> Entry<'a> {
             other => return Err(format!("a message is shown {other} times")),
         };
         let log = if show >= SHOW_LOG { Some(from.bytes(size).ok_or(SHORT)?) } else { None };
-        let tables =
-            if show >= SHOW_TABLES { Some(Tables::new(from.bytes(tables::LENGTH as u64).ok_or(SHORT)?)) } else { None };
+        let tables = if show >= SHOW_TABLES {
+            Some(Tables::new(from.bytes(tables::LENGTH as u64).ok_or(SHORT)?))
+        } else {
+            None
+        };
         let store = if show >= SHOW_STORE { Some(from.bytes(store_len as u64).ok_or(SHORT)?) } else { None };
         let raw = &all[..all.len() - from.rest().len()];
         let dirty = dirty == 1;

@@ -1,6 +1,7 @@
 //! The port: the proved library, linked as a static archive, behind one safe function (docs/PROTOCOL.md).
 use std::thread;
 
+#[cfg(feature = "port")]
 unsafe extern "C" {
     #[link_name = "replay"]
     fn port_replay(
@@ -25,6 +26,7 @@ pub const NO_ROOM: u64 = 2;
 pub const LENGTHS: u64 = 3;
 
 /// Runs an opening and calls, and writes an entry for each. The first 8 bytes of `out` count those written after them.
+#[cfg(feature = "port")]
 pub fn replay(script: &[u8], log: &mut [u8], store: &mut [u8], out: &mut [u8]) -> u64 {
     // SAFETY: each slice is lent whole with its own length, and no two overlap, since three are borrowed for change.
     // The library is proved to read and write inside them only, and keeps none.
@@ -40,6 +42,12 @@ pub fn replay(script: &[u8], log: &mut [u8], store: &mut [u8], out: &mut [u8]) -
             out.len(),
         )
     }
+}
+
+/// Stands for the port where the library is not linked; whatever needs a run of it stops here.
+#[cfg(not(feature = "port"))]
+pub fn replay(_script: &[u8], _log: &mut [u8], _store: &mut [u8], _out: &mut [u8]) -> u64 {
+    panic!("built without the port (the feature `port`)")
 }
 
 /// Enough for a library that was built with no regard for its stack.

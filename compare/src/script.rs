@@ -1,4 +1,5 @@
-//! What one run of the port is given, as bytes (docs/PROTOCOL.md): settings, the file, then calls and replies in order.
+//! What one run of the port is given, as bytes (docs/PROTOCOL.md): settings, the file, then calls and replies in
+//! order.
 use crate::limits::{MESSAGES, NAME_MAX};
 use crate::model::pool::{Call, Reply, Settings, Status};
 use crate::tables;

@@ -1,5 +1,5 @@
-//! The port's times. It runs a whole script, so a list is timed as the difference of two scripts, one with the timed calls
-//! and one without. Reading the script and writing an entry of 96 bytes for each call (show 0) count.
+//! The port's times. It runs a whole script, so a list is timed as the difference of two scripts, one with the timed
+//! calls and one without. Reading the script and writing an entry of 96 bytes for each call (show 0) count.
 use super::clock::time;
 use super::lists::Timed;
 use crate::limits::STORE;

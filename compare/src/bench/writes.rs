@@ -1,5 +1,5 @@
-//! The file operations of a list alone: what the Rust's time has in it, and what a host of the port does when it is handed
-//! an order. Made on the memory file system, as the Rust makes them.
+//! The file operations of a list alone: what the Rust's time has in it, and what a host of the port does when it is
+//! handed an order. Made on the memory file system, as the Rust makes them.
 use super::clock::time;
 use super::lists::Timed;
 use crate::model::log::Order;
@@ -21,7 +21,7 @@ pub struct Writes {
 
 impl Writes {
     pub fn new(timed: &Timed, path: &Path) -> Writes {
-        let mut pool = timed.list.opening.model().ok().expect("an accepted opening");
+        let mut pool = timed.list.opening.model().expect("an accepted opening");
         let mut operations = Vec::new();
         for (at, call) in timed.list.calls.iter().enumerate() {
             let waited = pool.order.is_some();

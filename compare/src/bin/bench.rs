@@ -67,7 +67,8 @@ fn row(timed: &lists::Timed, runs: usize, path: &Path) -> Row {
     #[cfg(oracle)]
     {
         let mut rust = rust_side::Calls::new(timed, path);
-        let [port, rust, writes] = clock::medians(runs, [&mut || port.run(), &mut || rust.run(), &mut || writes.run()]);
+        let [port, rust, writes] =
+            clock::medians(runs, [&mut || port.run(), &mut || rust.run(), &mut || writes.run()]);
         Row { what, counted, port, rust: Some(rust), writes }
     }
     #[cfg(not(oracle))]

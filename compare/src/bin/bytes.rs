@@ -1,5 +1,6 @@
-//! bytes [BYTES [SEED]]: scripts of BYTES bytes together, random, changed and with random files, beside the protocol as a
-//! plain program, in a thread of little stack. The last line is `N passed, M failed`; the program fails if M is above 0.
+//! bytes [BYTES [SEED]]: scripts of BYTES bytes together, random, changed and with random files, beside the protocol
+//! as a plain program, in a thread of little stack. The last line is `N passed, M failed`; the program fails if M is
+//! above 0.
 //!
 //! Under valgrind: `valgrind --error-exitcode=9 target/release/bytes 1000000 5`.
 use compare::tally::Tally;

@@ -1,4 +1,4 @@
-//! differ [COUNT [SEED]]: COUNT random cases, the port beside the Rust and beside the plain program of 01; before them
+//! differ [COUNT [SEED]]: COUNT random cases, the port beside the Rust and beside the plain program; before them
 //! what is fixed or smaller: slips that must be caught, recorded answers, differences, any lists of calls, power cuts,
 //! any bytes.
 //! differ selftest: the slips alone, in more cases.

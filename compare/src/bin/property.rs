@@ -1,6 +1,6 @@
-//! property [COUNT [SEED]]: COUNT random lists of calls on the port, beside 01 as a plain program, and power cuts of
-//! lists in proportion; before them the recorded answers and the differences. The last line is `N passed, M failed`; the program fails if M
-//! is above 0.
+//! property [COUNT [SEED]]: COUNT random lists of calls on the port, beside the plain program, and power cuts of
+//! lists in proportion; before them the recorded answers and the differences. The last line is `N passed, M failed`;
+//! the program fails if M is above 0.
 use compare::tally::Tally;
 use compare::{cuts, differences, port, program, property, recorded};
 use std::process::ExitCode;

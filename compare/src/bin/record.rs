@@ -1,8 +1,10 @@
-//! record: writes the list of recorded answers to standard output.
+//! record: makes the list of recorded answers anew, and writes it where it stands, crates/rows/stdin.
 #[cfg(oracle)]
 fn main() {
     let scratch = compare::scratch::Scratch::in_memory("record");
-    print!("{}", compare::recorded::list::list(&scratch.file("log.wal")));
+    let list = compare::recorded::list::list(&scratch.file("log.wal"));
+    std::fs::write(compare::recorded::FILE, &list).expect("crates/rows/stdin can be written");
+    println!("{} bytes in crates/rows/stdin", list.len());
 }
 
 #[cfg(not(oracle))]

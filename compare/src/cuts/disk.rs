@@ -107,8 +107,8 @@ impl Disk {
         cuts
     }
 
-    /// Whether an opening that writes this image hands back exactly the messages of the cut's moment, and that moment is
-    /// one that the rule allows.
+    /// Whether an opening that writes this image hands back exactly the messages of the cut's moment, and that moment
+    /// is one that the rule allows.
     pub fn allows(&self, cut: &Cut, image: &[u8]) -> Result<(), String> {
         if cut.moment >= self.firm && self.moments[cut.moment] == image {
             return Ok(());

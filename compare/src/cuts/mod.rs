@@ -62,7 +62,7 @@ impl Cutter {
         if same.is_err() {
             return tally.check(same.map_err(|error| format!("{error}; {list:?}")));
         }
-        let reading = log::readable(&list.opening.file).ok().expect("an accepted opening");
+        let reading = log::readable(&list.opening.file).expect("an accepted opening");
         let Some(Question::Store(order)) = pool.open_question() else { unreachable!("the opening's order") };
         let mut disk = Disk::open(&list.opening.file, &reading.left, &pool.log, order);
         tally.check(

@@ -1,8 +1,8 @@
-//! The differential run. One case is given to the port as one script, and to the Rust as a trace; both must do what the
-//! plain program did.
+//! The differential run. One case is given to the port as one script, and to the Rust as a trace; both must do what
+//! the plain program did.
 //!
-//! `lockstep` compares the port's entries with the plain program call by call, `places` reads where each message stands,
-//! `seen` counts, `show` prints one case, `selftest` checks that slips are caught.
+//! `lockstep` compares the port's entries with the plain program call by call, `places` reads where each message
+//! stands, `seen` counts, `show` prints one case, `selftest` checks that slips are caught.
 pub mod lockstep;
 pub mod places;
 pub mod seen;

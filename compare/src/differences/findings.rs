@@ -11,11 +11,17 @@ use crate::script::SHOW_STORE;
 use crate::tables::list;
 
 pub fn run(run: &mut Run) {
-    finding(run, "a lost wake-up", &lost_wake_up(), "busy false, waiters false, 1 in its hands, waiting []", |entry| {
-        let Some(tables) = entry.tables else { return "no tables".into() };
-        let hands = tables.list_len(list::hand(0, 0));
-        format!("{}, {hands} in its hands, waiting {:?}", ended(entry), tables.waiting(0))
-    });
+    finding(
+        run,
+        "a lost wake-up",
+        &lost_wake_up(),
+        "busy false, waiters false, 1 in its hands, waiting []",
+        |entry| {
+            let Some(tables) = entry.tables else { return "no tables".into() };
+            let hands = tables.list_len(list::hand(0, 0));
+            format!("{}, {hands} in its hands, waiting {:?}", ended(entry), tables.waiting(0))
+        },
+    );
     finding(run, "a refused Push stalls", &refused_push(), "busy false, waiters false, 1 in its mailbox", |entry| {
         let Some(tables) = entry.tables else { return "no tables".into() };
         format!("{}, {} in its mailbox", ended(entry), tables.list_len(list::mailbox(0, 0)))
@@ -67,14 +73,15 @@ const RECEIVES: Call = Call::Reply(Reply::Ran(Status::Event));
 const CALLS_HOST: Call = Call::Reply(Reply::Ran(Status::HostCall));
 const RAISES: Call = Call::Reply(Reply::Ran(Status::Error));
 
-/// An idle actor that still waits is woken, takes the message that it had refused, and blocks: idle and blocked. The first
-/// Poll of 0 drops it from the waiting list, with the message in its hands. Five turns, one message.
+/// An idle actor that still waits is woken, takes the message that it had refused, and blocks: idle and blocked. The
+/// first Poll of 0 drops it from the waiting list, with the message in its hands. Five turns, one message.
 fn lost_wake_up() -> List {
     let admit = Call::Admit { name: b"row".to_vec(), body: Vec::new(), caller: None };
     let mut calls = vec![STORED];
     // The seed blocks on a host call.
     calls.extend([Call::Turn, YES, CLOCK, CALLS_HOST, ONE, END]);
-    // A message comes; no answer yet; it is stepped for the message, receives, and refuses it: idle, and still waiting.
+    // A message comes; no answer yet; it is stepped for the message, receives, and refuses it: idle, and still
+    // waiting.
     calls.extend([admit, STORED, Call::Turn, CLOCK, NONE, RECEIVES, NONE, NO, END]);
     // The answer is there: woken, it takes the message and blocks again. Nothing cleared `idle`.
     calls.extend([Call::Turn, CLOCK, ONE, RECEIVES, NONE, YES, CALLS_HOST, ONE, END]);
@@ -91,8 +98,8 @@ fn refused_push() -> List {
     List { opening: opening(1, b"0\trow\t\n"), calls }
 }
 
-/// Key 0 yields and is in the ready list again as key 1 raises and both are trapped. The next actor gets key 0 and a second
-/// entry, is stepped twice in a tick, and keeps both while it yields.
+/// Key 0 yields and is in the ready list again as key 1 raises and both are trapped. The next actor gets key 0 and a
+/// second entry, is stepped twice in a tick, and keeps both while it yields.
 fn stale_key() -> List {
     let send = Call::Reply(Reply::Send(b"row".to_vec(), Vec::new()));
     let mut calls = vec![STORED];

@@ -1,5 +1,5 @@
-//! Records and marks after which the two sides differ: bodies with a final CR, no room in the lent log, a rewrite, a store
-//! that fails.
+//! Records and marks after which the two sides differ: bodies with a final CR, no room in the lent log, a rewrite, a
+//! store that fails.
 use super::port::{self, AMPLE, on, opening, record};
 use super::rust::Rust;
 use super::{Run, says};

@@ -1,5 +1,5 @@
-//! Outside the domain of equality: one case for each difference, with the smallest input, that says what each side does,
-//! checks it, and prints it. And the findings: what both sides do, though nobody would ask for it.
+//! Outside the domain of equality: one case for each difference, with the smallest input, that says what each side
+//! does, checks it, and prints it. And the findings: what both sides do, though nobody would ask for it.
 //!
 //! `rust` is the Rust's log by itself, `port` what the port says, in words.
 

@@ -1,5 +1,5 @@
-//! Turns and calls after which the two sides differ. Where the Rust must do otherwise than the plain program, the trace
-//! that it is held to is changed in that one place: it passes only if it does just that.
+//! Turns and calls after which the two sides differ. Where the Rust must do otherwise than the plain program, the
+//! trace that it is held to is changed in that one place: it passes only if it does just that.
 use super::port::{self, AMPLE, on, opening, record};
 use super::rust::Rust;
 use super::{Run, says};
@@ -142,7 +142,7 @@ fn squeezed(run: &mut Run) {
             }));
         }
     }
-    let mut pool = making.list.opening.model().ok().expect("an accepted opening");
+    let mut pool = making.list.opening.model().expect("an accepted opening");
     let mut trace = beside::trace(&mut pool, &making.list.calls).expect("calls that the Rust has");
     let Some(Event::TurnEnd { pool, .. }) =
         trace.events.iter_mut().rev().find(|event| matches!(event, Event::TurnEnd { .. }))
@@ -167,7 +167,7 @@ fn squeezed(run: &mut Run) {
 
 /// How many actors the Rust has after a first turn under settings that the port refuses.
 pub fn seeded(run: &Run, wide: &Opening) -> String {
-    let mut pool = opening(AMPLE, AMPLE, b"").model().ok().expect("an accepted opening");
+    let mut pool = opening(AMPLE, AMPLE, b"").model().expect("an accepted opening");
     pool.settings = wide.settings.clone();
     pool.groups = vec![Group::default(); wide.settings.groups.len()];
     let mut making = Making { list: List { opening: wide.clone(), calls: Vec::new() }, pool: pool.clone() };

@@ -62,8 +62,8 @@ impl Case {
         maker.case()
     }
 
-    /// A case that need not lie inside the domain at all: any bytes in the file, any lent lengths, settings out of their
-    /// ranges.
+    /// A case that need not lie inside the domain at all: any bytes in the file, any lent lengths, settings out of
+    /// their ranges.
     fn outside(rng: &mut Rng) -> Case {
         let mut settings = settings::settings(rng);
         let file = files::any(rng, &settings);

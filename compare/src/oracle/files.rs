@@ -1,5 +1,5 @@
-//! The Rust's files, as they stand (the build takes them from where they lie). Each is a module here, with a `view` beside
-//! it that may look at its private parts.
+//! The Rust's files, as they stand (the build takes them from where they lie). Each is a module here, with a `view`
+//! beside it that may look at its private parts.
 
 #[allow(dead_code)]
 pub mod config {

@@ -1,4 +1,5 @@
-//! Stand-ins for the interpreter and its host. Each call that 01 names is put as a question to the script.
+//! Stand-ins for the interpreter and its host. Each call that is a question (docs/RULES.md, section 5) is put to the
+//! script.
 pub use super::parts::{Host, Project, Runtime, Sink, Status, TICK_NS, driver, linear_cap};
 use super::parts::{clock, count, ran, sends, status, yes};
 use super::script::ask;
@@ -43,8 +44,8 @@ pub fn reset() {
     FAILED.set(0);
 }
 
-/// A group's instance (no vm), or the view of it that one interpreter hands out, so that `poisoned` is Trap for the one
-/// and Trapped for the other.
+/// A group's instance (no vm), or the view of it that one interpreter hands out, so that `poisoned` is Trap for the
+/// one and Trapped for the other.
 pub struct Instance {
     group: usize,
     vm: Option<u64>,
@@ -62,7 +63,7 @@ impl Instance {
     }
 
     /// Trap is asked once after a failed step. The sweeps of the instance list hear no, so that the list never runs
-    /// empty and the next failure asks again, as 01 has it.
+    /// empty and the next failure asks again, as docs/RULES.md, section 6, has it.
     pub fn poisoned(&self) -> bool {
         match self.vm {
             Some(vm) => yes(ask(Asked::Trapped { group: self.group, vm })),

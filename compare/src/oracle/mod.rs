@@ -1,7 +1,8 @@
 //! The Rust under comparison over stand-ins for the interpreter that put every call as a question to a script.
 //!
-//! `files` are its own files, `opening` opens it. `host` (with `parts`), `pack` and `standins` are what the Rust reaches
-//! for outside its own files. But for `host`, `run` and `script`, the program `bench` compiles the same once more.
+//! `files` are its own files, `opening` opens it. `host` (with `parts`), `pack` and `standins` are what the Rust
+//! reaches for outside its own files. But for `host`, `run` and `script`, the program `bench` compiles the same once
+//! more.
 #![allow(clippy::all)]
 
 pub mod constants;

@@ -69,8 +69,8 @@ impl Mood {
         }
     }
 
-    /// A mood in which lists of keys grow: programs that yield, are trapped together and are booted again, or that block
-    /// again at every message.
+    /// A mood in which lists of keys grow: programs that yield, are trapped together and are booted again, or that
+    /// block again at every message.
     pub fn growing(rng: &mut Rng) -> Mood {
         let blocks = rng.chance(2);
         let statuses = if blocks { [0, 0, 1, 1, 200, 1, 0] } else { [0, 0, 200, 1, 0, 6, 1] };

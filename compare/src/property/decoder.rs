@@ -1,4 +1,4 @@
-//! docs/PROTOCOL.md as a plain program: what `replay` must make of any bytes. The pool is 01 as a plain program; what it
+//! docs/PROTOCOL.md as a plain program: what `replay` must make of any bytes. The pool is that of `model`; what it
 //! does not decide (the rows of the tables, which entry of the store a text has) is left open.
 use crate::limits::{NAME_MAX, refusal};
 use crate::model::log;
@@ -139,7 +139,8 @@ fn header(script: &[u8]) -> Option<(Header<'_>, Reader<'_>)> {
     for number in &mut numbers {
         *number = from.number()?;
     }
-    let [version, show, log_len, store_len, file_len, max_actors, inbox, backlog, compact_at, tick_ns, count] = numbers;
+    let [version, show, log_len, store_len, file_len, max_actors, inbox, backlog, compact_at, tick_ns, count] =
+        numbers;
     if version != 1 || show > SHOW_STORE || count > GROUPS_READ {
         return None;
     }
@@ -170,7 +171,7 @@ fn header(script: &[u8]) -> Option<(Header<'_>, Reader<'_>)> {
 }
 
 /// The next call; None where it is malformed.
-fn call(from: &mut Reader) -> Option<Call> {
+pub fn call(from: &mut Reader) -> Option<Call> {
     const STATUSES: [Status; 7] =
         [Status::Done, Status::Exit, Status::Preempted, Status::Event, Status::HostCall, Status::Error, Status::Broke];
     let mut numbers = [0; 5];

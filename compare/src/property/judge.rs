@@ -1,4 +1,4 @@
-//! Runs the port over a list and holds each entry against what 01 as a plain program says after the same call.
+//! Runs the port over a list and holds each entry against what the plain program says after the same call.
 use super::list::List;
 use super::state::Sides;
 use crate::lent::{Lent, STORE_FILL};

@@ -38,7 +38,7 @@ impl Opening {
         log
     }
 
-    /// The opening by 01 as a plain program, or the number that refuses it.
+    /// The opening by the plain program, or the number that refuses it.
     pub fn model(&self) -> Result<Pool, u8> {
         pool::open(&self.settings, &self.lent_log(), self.file.len(), &vec![STORE_FILL; self.store_len])
     }
@@ -83,7 +83,7 @@ pub struct Making {
 
 impl Making {
     pub fn new(opening: Opening) -> Making {
-        let pool = opening.model().ok().expect("an accepted opening");
+        let pool = opening.model().expect("an accepted opening");
         Making { list: List { opening, calls: Vec::new() }, pool }
     }
 
@@ -92,8 +92,8 @@ impl Making {
         self.pool.call(&call)
     }
 
-    /// A call, and every order and question after it answered: stored; clock 0; a program that yields, and keeps what it
-    /// took.
+    /// A call, and every order and question after it answered: stored; clock 0; a program that yields, and keeps what
+    /// it took.
     pub fn done(&mut self, call: Call) {
         self.call(call);
         self.answered();

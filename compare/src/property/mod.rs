@@ -1,6 +1,6 @@
-//! Random lists of calls on the port, all of 01 and not only the domain of equality: any file, any settings, any replies,
-//! refused calls included. 01 as a plain program makes the same list, and every entry must say the same; a refused
-//! call must change nothing; the store and the lent log may change only where 01 says.
+//! Random lists of calls on the port, all of docs/RULES.md and not only the domain of equality: any file, any
+//! settings, any replies, refused calls included. The plain program makes the same list, and every entry must say the
+//! same; a refused call must change nothing; the store and the lent log may change only where the rules say.
 
 pub mod calls;
 pub mod decoder;

@@ -1,6 +1,6 @@
 //! Any bytes as scripts, and any bytes as files: what is returned and written must be what the protocol says, and
-//! nothing outside the lent slices may be touched. Every other script has guards round its slices; the others lie alone,
-//! so that under valgrind a byte read or written beside one is seen.
+//! nothing outside the lent slices may be touched. Every other script has guards round its slices; the others lie
+//! alone, so that under valgrind a byte read or written beside one is seen.
 use super::decoder::{Expected, expected};
 use super::list::{List, Opening, Size};
 use super::{files, settings, texts};

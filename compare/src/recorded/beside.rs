@@ -1,5 +1,5 @@
-//! A list inside the domain of equality, made by the Rust: the plain program says what must follow, and the Rust must do
-//! it, question by question, delivery by delivery, mark by mark.
+//! A list inside the domain of equality, made by the Rust: the plain program says what must follow, and the Rust must
+//! do it, question by question, delivery by delivery, mark by mark.
 use crate::limits::refusal;
 use crate::model::pool::{Answer, Call, Event as Done, Pool, Question, Reply};
 use crate::oracle::run;

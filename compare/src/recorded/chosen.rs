@@ -1,5 +1,5 @@
-//! The other scripts: openings, records, marks, rewrites and flushes of the log, each message for a group whose ceiling is
-//! 0, so that the next turn marks it; and random lists, small, inside the domain of equality.
+//! The other scripts: openings, records, marks, rewrites and flushes of the log, each message for a group whose
+//! ceiling is 0, so that the next turn marks it; and random lists, small, inside the domain of equality.
 use super::rows::{group, opening};
 use crate::limits::refusal;
 use crate::model::pool::{self, Answer, Call, Reply};

@@ -1,6 +1,6 @@
-//! Makes the list: each script is run by the Rust, which must do what the plain program says; only then the output that
-//! follows is written down. Nothing here comes from the port.
-use super::text::encode;
+//! Makes the list: each script is run by the Rust, which must do what the plain program says; only then the output
+//! that follows is written down. Nothing here comes from the port.
+use super::text::{Case, encode};
 use super::{beside, chosen, rows};
 use crate::lent::{LOG_FILL, STORE_FILL};
 use crate::property::decoder::expected;
@@ -16,13 +16,13 @@ const OUTPUT: usize = 32_768;
 
 const HEADER: &str = "\
 # Recorded answers of the Rust's pool and log (scheduler.rs, actor.rs, server.rs), made by
-# `cargo run --release --bin record > recorded/pool.txt` in compare/: the Rust ran each list of calls with its file in a
-# folder and scripted stand-ins for its interpreters, and every question, delivery, mark, turn's end and log was what the
-# output says. Nothing here comes from the port.
+# `cargo run --release --bin record` in compare/: the Rust ran each list of calls with its file in a folder and
+# scripted stand-ins for its interpreters, and every question, delivery, mark, turn's end and log was what the output
+# says. Nothing here comes from the port.
 #
 # `<` a script and `>` the output that the port must write for it, its count included; the returned number is 0.
-# `=` a title, printed by the program that replays the list. Hexadecimal bytes; `.` stands for seven zero bytes, `:` for
-# six. `#` begins a comment.
+# `=` a title, printed by the program that replays the list. Hexadecimal bytes; `.` stands for seven zero bytes, `:`
+# for six. `#` begins a comment.
 ";
 
 /// The whole list, header included; `path` is where the Rust's file lies.
@@ -32,31 +32,30 @@ pub fn list(path: &Path) -> String {
     lines.extend(chosen::chosen().into_iter().map(|(what, list)| (format!("# {what}"), list)));
     let random = chosen::random(RANDOM).into_iter().enumerate();
     lines.extend(random.map(|(at, list)| (format!("# random {at}, {} calls", list.calls.len()), list)));
-    let cases: Vec<(String, Vec<u8>, Vec<u8>)> =
-        lines.into_iter().map(|(line, list)| case(path, line, &list)).collect();
-    let longest = |length: fn(&(String, Vec<u8>, Vec<u8>)) -> usize| cases.iter().map(length).max().unwrap();
-    let (script, output) = (longest(|case| case.1.len()), longest(|case| case.2.len()));
+    let cases: Vec<Case> = lines.into_iter().map(|(line, list)| case(path, line, &list)).collect();
+    let longest = |length: fn(&Case) -> usize| cases.iter().map(length).max().unwrap();
+    let (script, output) = (longest(|case| case.script.len()), longest(|case| case.output.len()));
     let mut text = HEADER.to_string();
     text.push_str(&format!(
         "# {} scripts; the longest has {script} bytes, the longest output {output}.\n",
         cases.len()
     ));
-    for (line, script, output) in &cases {
-        text.push_str(&format!("{line}\n<{}\n>{}\n", encode(script), encode(output)));
+    for case in &cases {
+        text.push_str(&format!("{}\n<{}\n>{}\n", case.name, encode(&case.script), encode(&case.output)));
     }
     assert!(text.len() <= TEXT && script <= SCRIPT && output <= OUTPUT, "{} {script} {output}", text.len());
     text
 }
 
-/// The line above a script, the script, its output.
-fn case(path: &Path, line: String, list: &List) -> (String, Vec<u8>, Vec<u8>) {
+/// A script and its output, named by the whole line above them.
+fn case(path: &Path, name: String, list: &List) -> Case {
     if let Err(error) = beside::the_rust(list, path) {
-        panic!("{line}: the Rust does otherwise: {error}");
+        panic!("{name}: the Rust does otherwise: {error}");
     }
     let script = list.script(SHOW_LOG).bytes().to_vec();
     let (log, store) = (vec![LOG_FILL; list.opening.log_len], vec![STORE_FILL; list.opening.store_len]);
     let output = expected(&script, &log, &store, usize::MAX);
-    assert_eq!(output.code, crate::port::OK, "{line}");
+    assert_eq!(output.code, crate::port::OK, "{name}");
     let output = output.out.into_iter().map(|byte| byte.expect("every byte is decided")).collect();
-    (line, script, output)
+    Case { name, script, output }
 }

@@ -1,6 +1,6 @@
-//! The recorded answers: a fixed list of scripts with the outputs that follow from the Rust's answers, as text, so that
-//! they can be replayed with no Rust at hand. `text` is the form of the list, `rows` and `chosen` the scripts, `beside`
-//! runs the Rust over them, `list` writes it all down.
+//! The recorded answers: a fixed list of scripts with the outputs that follow from the Rust's answers, as text, so
+//! that they can be replayed with no Rust at hand. `text` is the form of the list, `rows` and `chosen` the scripts,
+//! `beside` runs the Rust over them, `list` writes it all down.
 
 pub mod text;
 
@@ -17,8 +17,10 @@ use crate::port::{self, OK};
 use crate::tally::Tally;
 use text::Case;
 
-/// The list as it stands in the repository.
-pub const LIST: &str = include_str!("../../recorded/pool.txt");
+/// The list as it stands in the repository: what the program `rows` reads.
+pub const LIST: &str = include_str!("../../../crates/rows/stdin");
+/// Where it stands.
+pub const FILE: &str = concat!(env!("CARGO_MANIFEST_DIR"), "/../crates/rows/stdin");
 
 /// The port replays every script of the list.
 pub fn run(tally: &mut Tally) {

@@ -1,7 +1,7 @@
-//! The list as text. A line that begins with `#` is a comment, one with `=` a title, which the program that replays the
-//! list prints, one with `<` a script, one with `>` the output that the port must write for the script above it, its
-//! count included. Bytes are hexadecimal; `.` stands for seven zero bytes and `:` for six (the upper bytes of most
-//! numbers), and one of them only follows a whole byte.
+//! The list as text. A line that begins with `#` is a comment, one with `=` a title, which the program that replays
+//! the list prints, one with `<` a script, one with `>` the output that the port must write for the script above it,
+//! its count included. Bytes are hexadecimal; `.` stands for seven zero bytes and `:` for six (the upper bytes of
+//! most numbers), and one of them only follows a whole byte.
 
 pub struct Case {
     /// The title or comment above it.

@@ -30,7 +30,7 @@ pub struct Calls {
 
 impl Calls {
     pub fn new(timed: &Timed, path: &Path) -> Calls {
-        let mut pool = timed.list.opening.model().ok().expect("an accepted opening");
+        let mut pool = timed.list.opening.model().expect("an accepted opening");
         let mut calls = Calls {
             opening: timed.list.opening.clone(),
             path: path.to_path_buf(),

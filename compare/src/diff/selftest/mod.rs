@@ -1,5 +1,5 @@
-//! Checks that the comparison catches slips: in what the port wrote, in what the plain program does, and in what the Rust
-//! is expected to do. Each slip is tried on many cases.
+//! Checks that the comparison catches slips: in what the port wrote, in what the plain program does, and in what the
+//! Rust is expected to do. Each slip is tried on many cases.
 mod bytes;
 mod program;
 #[cfg(oracle)]

@@ -1,8 +1,9 @@
-//! The pool of 01 as a resumable machine. A call runs until a question or an order goes out, the turn ends, or nothing
-//! is left to do. `At` says where in the turn the pool stands; every list of messages is one of the six places.
+//! The pool (docs/RULES.md, sections 4 to 8) as a resumable machine. A call runs until a question or an order goes
+//! out, the turn ends, or nothing is left to do. `At` says where in the turn the pool stands; every list of messages
+//! is one of the six places.
 //!
-//! `calls` takes the calls and refuses them, `turn` runs a turn from point to point, and each kind of point has its file:
-//! `routing`, `ticking`, `fixed`, `eval`, `settling`.
+//! `calls` takes the calls and refuses them, `turn` runs a turn from point to point, and each kind of point has its
+//! file: `routing`, `ticking`, `fixed`, `eval`, `settling`.
 mod actors;
 mod at;
 mod calls;
