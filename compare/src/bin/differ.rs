@@ -1,6 +1,7 @@
 //! differ [COUNT [SEED]]: COUNT random cases, the port beside the Rust and beside the plain program; before them
 //! what is fixed or smaller: slips that must be caught, recorded answers, differences, any lists of calls, power cuts,
 //! any bytes.
+//! differ coverage [COUNT [SEED]]: the cases alone, and how often each named point was met, as a table.
 //! differ selftest: the slips alone, in more cases.
 //! differ CASE 0 show: one case as text, and what differs in it (CASE as a FAILED line names it).
 //! The last line is `N passed, M failed`; the program fails if M is above 0.
@@ -11,7 +12,10 @@ use compare::tally::Tally;
 use compare::{cuts, diff, differences, met, port, program, property, recorded};
 use std::process::ExitCode;
 
-const USAGE: &str = "differ [COUNT [SEED]]\n       differ selftest\n       differ CASE 0 show";
+const USAGE: &str = "differ [COUNT [SEED]]
+       differ coverage [COUNT [SEED]]
+       differ selftest
+       differ CASE 0 show";
 const COUNT: u64 = 15_000;
 const SEED: u64 = 1;
 /// Cases from which on every point must be met.
@@ -26,12 +30,18 @@ const BYTES_A_CASE: u64 = 200;
 
 fn main() -> ExitCode {
     let arguments: Vec<String> = std::env::args().skip(1).collect();
+    let arguments: Vec<&str> = arguments.iter().map(String::as_str).collect();
     #[cfg(oracle)]
     compare::oracle::run::silence();
-    let passed = match arguments.iter().map(String::as_str).collect::<Vec<_>>()[..] {
+    let numbers = |arguments: &[&str]| program::parsed(arguments, [COUNT, SEED]);
+    let passed = match arguments[..] {
         ["selftest"] => port::on_large_stack(selftest_alone),
         [case, "0", "show"] if case.parse::<u64>().is_ok() => port::on_large_stack(|| show(case.parse().unwrap())),
-        _ => match program::numbers([COUNT, SEED]) {
+        ["coverage", ref rest @ ..] => match numbers(rest) {
+            Some([count, seed]) => port::on_large_stack(|| coverage(count, seed)),
+            None => return program::usage(USAGE),
+        },
+        ref all => match numbers(all) {
             Some([count, seed]) => port::on_large_stack(|| run(count, seed)),
             None => return program::usage(USAGE),
         },
@@ -41,8 +51,7 @@ fn main() -> ExitCode {
 
 fn run(count: u64, seed: u64) -> bool {
     println!("differ {count} {seed}");
-    #[cfg(not(oracle))]
-    println!("the Rust is not at hand (FELDWYGOR_RUST_SRC names its folder): the comparison with it is SKIPPED");
+    say_skipped();
     let mut tally = Tally::default();
     selftest(&mut tally, SELFTEST, false);
     recorded::run(&mut tally);
@@ -53,6 +62,23 @@ fn run(count: u64, seed: u64) -> bool {
     let seen = cases(&mut tally, count, seed);
     points(&mut tally, count, &seen);
     tally.finish()
+}
+
+/// The cases, and the points that they met.
+fn coverage(count: u64, seed: u64) -> bool {
+    println!("differ coverage {count} {seed}");
+    say_skipped();
+    let mut tally = Tally::default();
+    let seen = cases(&mut tally, count, seed);
+    points(&mut tally, count, &seen);
+    tally.finish()
+}
+
+/// Says so where there is no Rust to compare with.
+fn say_skipped() {
+    if !cfg!(oracle) {
+        println!("the Rust is not at hand (FELDWYGOR_RUST_SRC names its folder): the comparison with it is SKIPPED");
+    }
 }
 
 fn cases(tally: &mut Tally, count: u64, seed: u64) -> Seen {

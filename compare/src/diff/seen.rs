@@ -107,12 +107,13 @@ impl Seen {
 
     /// The table of points: how often each was met inside the domain, and outside it.
     pub fn print_met(&self) {
-        println!("point: inside the domain, outside it");
+        println!("| point | inside the domain | outside it |\n|---|---:|---:|");
         for ((name, place), [inside, outside]) in POINTS.iter().zip(&self.met) {
-            match place {
-                Where::Never(reason) => println!("{name}: {inside}, {outside} (cannot be met: {reason})"),
-                _ => println!("{name}: {inside}, {outside}"),
-            }
+            let reason = match place {
+                Where::Never(reason) => format!(" (cannot be met: {reason})"),
+                _ => String::new(),
+            };
+            println!("| {name}{reason} | {inside} | {outside} |");
         }
     }
 }
