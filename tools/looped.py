@@ -487,7 +487,7 @@ scan-spec 𝓤 H 𝓜 𝓖 𝓡 =
     (meets 𝓤 H (𝓖 .A) (givenOf 𝓤 H 𝓜 𝓖) (𝓜 .mem) (𝓡 .run) (tablesOf 𝓤 H 𝓜 (tables 𝓤 H 𝓜 𝓡 code.env))
 ''' + '\n'.join(f'    (cited 𝓤 H (The-{a} 𝓤 H (𝓖 .A) (𝓜 .mem) (𝓡 .run)) 𝓜 𝓡 code.env #{a} {a}-def.routine code.calls-{c} ({a}-thm.met 𝓤 H 𝓜 𝓖 𝓡))' for a, _, c in callees) + ')\n'
 
-head = '''-- `log::opening::scan` meets its contract: a walk of its MIR with a loop in it. One reader, a local, is lent to `next` at every turn and comes back; the rows are lent again to `take_line`, and come back.
+head = '''-- `log::opening::scan` meets its contract: a manual proof over its MIR (a walk), with a loop in it. One reader, a local, is lent to `next` at every turn and comes back; the rows are lent again to `take_line`, and come back.
 -- The loop's invariant is the context where a turn begins (`I`), at the reader's place, what was taken in, and the rows (`St`, and `PassLaws.antt` for what is known of them); what is left of the file falls.
 -- All that the proof knows of the callees is that each meets its contract. Written by tools/looped.py. Assumes nothing.
 '''

@@ -3,13 +3,17 @@
 # It runs from the repository's root; tools/check-written compares what it writes with what stands in crates/.
 set -eu
 export PYTHONDONTWRITEBYTECODE=1
-DID='_≡_ {A = Did} (record { wal = state @log @records P; answer = R })'
-LENT='log:mut:u8 records:mut:rows counters:self'
-wal() { python3 tools/stepped.py log wal "$1" Counters Stepped counters Answer answer "$2" "$3" $4; }
+wal() { python3 tools/stepped.py log wal "$1" Counters "$2" counters "$3" "$4" "$5" "$6" $7; }
 
 python3 tools/held.py lines Lines log at Turn line at Line Lines turnAt next turn_at reader turn_from
-wal append Log:Did,state,appendOf "$DID (appendOf (state #log #records X) #name #body)" "$LENT name:shr:u8 body:shr:u8"
-wal mark Log:Did,state,markOf "$DID (markOf #limit (state #log #records X) (#id .0))" "$LENT limit:usize id:struct:LogId"
-wal sync Log:syncOf '_≡_ {A = Stepped} (record { counters = P; answer = R }) (syncOf X)' counters:self
+wal append Stepped Answer answer Log:Did,state,appendOf \
+    '_≡_ {A = Did} (record { wal = state @log @records P; answer = R }) (appendOf (state #log #records X) #name #body)' \
+    'log:mut:u8 records:mut:rows name:shr:u8 body:shr:u8'
+wal mark SteppedDue Due due Log:DidMark,state,markOf \
+    '_≡_ {A = DidMark} (record { wal = state @log @records P; due = R }) (markOf #limit (state #log #records X) (#id .0))' \
+    'log:mut:u8 records:mut:rows limit:usize id:struct:LogId'
+wal sync SteppedDue Due due Log:syncOf '_≡_ {A = SteppedDue} (record { counters = P; due = R }) (syncOf X)' ''
 python3 tools/looped.py
-python3 tools/site.py
+python3 tools/site.py door admit admit_logged AdmitLaws.admitted
+python3 tools/site.py turn step mark_id MarkLaws.marked-id
+python3 tools/site.py pool calls sync_free SyncLaws.synced

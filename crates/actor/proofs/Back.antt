@@ -18,8 +18,10 @@ use Rattle.actor.specs.declared.state.Wake.the-variants as wake
 use Rattle.actor.specs.declared.state.EvalRun.{EvalRun}
 use Rattle.actor.specs.declared.state.EvalRun.the-variants as run
 use Rattle.actor.specs.declared.state.Actor.{Actor}
-use Rattle.actor.specs.Messages.{callerOf, callerTag, callerNumber, loggedOf, loggedTag, loggedNumber, messageOf, messageCells, messageAt, putMessage}
-use Rattle.actor.specs.Actors.{modeOf, modeCell, flagOf, flagCell, wakeOf, wakeTag, wakeNumber, runOf, runTag, runNumber, actorOf, actorCells, actorAt, putActor}
+use Rattle.actor.specs.Messages.{callerOf, callerTag, callerNumber, loggedOf, loggedTag, loggedNumber, messageOf}
+use Rattle.actor.specs.Messages.{messageCells, messageAt, putMessage}
+use Rattle.actor.specs.Actors.{modeOf, modeCell, flagOf, flagCell, wakeOf, wakeTag, wakeNumber, runOf, runTag}
+use Rattle.actor.specs.Actors.{runNumber, actorOf, actorCells, actorAt, putActor}
 
 -- ---- a message's row
 
@@ -64,7 +66,18 @@ run-back run.Nothing = refl
 pub actor-back : (a : Actor) → actorOf (actorCells a) ≡ a
 unfolding actorOf actorCells
 actor-back a =
-    rw (mode-back (a .mode), flag-back (a .started), flag-back (a .ran), flag-back (a .idle), flag-back (a .runnable), flag-back (a .scheduled), flag-back (a .blocked), flag-back (a .consumed), wake-back (a .«wake_at»), run-back (a .run))
+    rw (
+      mode-back (a .mode),
+      flag-back (a .started),
+      flag-back (a .ran),
+      flag-back (a .idle),
+      flag-back (a .runnable),
+      flag-back (a .scheduled),
+      flag-back (a .blocked),
+      flag-back (a .consumed),
+      wake-back (a .«wake_at»),
+      run-back (a .run),
+    )
 
 module _ (l : List (List ℕ)) (slot : ℕ) (a : Actor) where
   pub actor-put : slot < length l → actorAt (putActor l slot a) slot ≡ a

@@ -68,8 +68,10 @@ actorOf c =
 
 unfoldable pub actorCells : Actor → List ℕ
 actorCells a =
-    modeCell (a .mode) ∷ flagCell (a .started) ∷ flagCell (a .ran) ∷ flagCell (a .idle) ∷ flagCell (a .runnable) ∷ flagCell (a .scheduled)
-    ∷ flagCell (a .blocked) ∷ flagCell (a .consumed) ∷ wakeTag (a .«wake_at») ∷ wakeNumber (a .«wake_at») ∷ runTag (a .run) ∷ runNumber (a .run) ∷ []
+    modeCell (a .mode) ∷ flagCell (a .started) ∷ flagCell (a .ran) ∷ flagCell (a .idle) ∷ flagCell (a .runnable) ∷
+    flagCell (a .scheduled)
+    ∷ flagCell (a .blocked) ∷ flagCell (a .consumed) ∷ wakeTag (a .«wake_at») ∷ wakeNumber (a .«wake_at») ∷ runTag
+    (a .run) ∷ runNumber (a .run) ∷ []
 
 unfoldable pub actorAt : List (List ℕ) → ℕ → Actor
 actorAt l k = actorOf (getD l k [])
@@ -81,51 +83,182 @@ putActor l k a = set l k (actorCells a)
 
 abbrev pub newActor : Mode → Actor
 newActor m =
-    record { mode = m; started = false; ran = false; idle = false; runnable = false; scheduled = false; blocked = false; consumed = false; «wake_at» = wake.Never; run = run.Nothing }
+    record {
+      mode = m;
+      started = false;
+      ran = false;
+      idle = false;
+      runnable = false;
+      scheduled = false;
+      blocked =
+          false;
+      consumed = false;
+      «wake_at» = wake.Never;
+      run = run.Nothing;
+    }
 
 -- a message came to its mailbox
 abbrev pub deliveredTo : Actor → Actor
 deliveredTo a =
-    record { mode = a .mode; started = a .started; ran = a .ran; idle = false; runnable = a .runnable; scheduled = a .scheduled; blocked = a .blocked; consumed = a .consumed; «wake_at» = a .«wake_at»; run = a .run }
+    record {
+      mode = a .mode;
+      started = a .started;
+      ran = a .ran;
+      idle = false;
+      runnable = a .runnable;
+      scheduled =
+          a .scheduled;
+      blocked = a .blocked;
+      consumed = a .consumed;
+      «wake_at» = a .«wake_at»;
+      run = a .run;
+    }
 
 abbrev pub scheduledAs : Actor → Bool → Actor
 scheduledAs a b =
-    record { mode = a .mode; started = a .started; ran = a .ran; idle = a .idle; runnable = a .runnable; scheduled = b; blocked = a .blocked; consumed = a .consumed; «wake_at» = a .«wake_at»; run = a .run }
+    record {
+      mode = a .mode;
+      started = a .started;
+      ran = a .ran;
+      idle = a .idle;
+      runnable = a .runnable;
+      scheduled = b;
+      blocked = a .blocked;
+      consumed = a .consumed;
+      «wake_at» = a .«wake_at»;
+      run = a .run;
+    }
 
 -- a step begins
 abbrev pub beganStep : Actor → Actor
 beganStep a =
-    record { mode = a .mode; started = a .started; ran = true; idle = a .idle; runnable = false; scheduled = a .scheduled; blocked = a .blocked; consumed = a .consumed; «wake_at» = a .«wake_at»; run = a .run }
+    record {
+      mode = a .mode;
+      started = a .started;
+      ran = true;
+      idle = a .idle;
+      runnable = false;
+      scheduled =
+          a .scheduled;
+      blocked = a .blocked;
+      consumed = a .consumed;
+      «wake_at» = a .«wake_at»;
+      run = a .run;
+    }
 
 abbrev pub startedAs : Actor → Actor
 startedAs a =
-    record { mode = a .mode; started = true; ran = a .ran; idle = a .idle; runnable = a .runnable; scheduled = a .scheduled; blocked = a .blocked; consumed = a .consumed; «wake_at» = a .«wake_at»; run = a .run }
+    record {
+      mode = a .mode;
+      started = true;
+      ran = a .ran;
+      idle = a .idle;
+      runnable = a .runnable;
+      scheduled =
+          a .scheduled;
+      blocked = a .blocked;
+      consumed = a .consumed;
+      «wake_at» = a .«wake_at»;
+      run = a .run;
+    }
 
 abbrev pub idledAs : Actor → Actor
 idledAs a =
-    record { mode = a .mode; started = a .started; ran = a .ran; idle = true; runnable = a .runnable; scheduled = a .scheduled; blocked = a .blocked; consumed = a .consumed; «wake_at» = a .«wake_at»; run = a .run }
+    record {
+      mode = a .mode;
+      started = a .started;
+      ran = a .ran;
+      idle = true;
+      runnable = a .runnable;
+      scheduled =
+          a .scheduled;
+      blocked = a .blocked;
+      consumed = a .consumed;
+      «wake_at» = a .«wake_at»;
+      run = a .run;
+    }
 
 abbrev pub consumedAs : Actor → Actor
 consumedAs a =
-    record { mode = a .mode; started = a .started; ran = a .ran; idle = a .idle; runnable = a .runnable; scheduled = a .scheduled; blocked = a .blocked; consumed = true; «wake_at» = a .«wake_at»; run = a .run }
+    record {
+      mode = a .mode;
+      started = a .started;
+      ran = a .ran;
+      idle = a .idle;
+      runnable = a .runnable;
+      scheduled =
+          a .scheduled;
+      blocked = a .blocked;
+      consumed = true;
+      «wake_at» = a .«wake_at»;
+      run = a .run;
+    }
 
 abbrev pub yieldedAs : Actor → Actor
 yieldedAs a =
-    record { mode = a .mode; started = a .started; ran = a .ran; idle = a .idle; runnable = true; scheduled = a .scheduled; blocked = a .blocked; consumed = a .consumed; «wake_at» = a .«wake_at»; run = a .run }
+    record {
+      mode = a .mode;
+      started = a .started;
+      ran = a .ran;
+      idle = a .idle;
+      runnable = true;
+      scheduled =
+          a .scheduled;
+      blocked = a .blocked;
+      consumed = a .consumed;
+      «wake_at» = a .«wake_at»;
+      run = a .run;
+    }
 
 abbrev pub runningTo : Actor → EvalRun → Actor
 runningTo a r =
-    record { mode = a .mode; started = a .started; ran = a .ran; idle = a .idle; runnable = a .runnable; scheduled = a .scheduled; blocked = a .blocked; consumed = a .consumed; «wake_at» = a .«wake_at»; run = r }
+    record {
+      mode = a .mode;
+      started = a .started;
+      ran = a .ran;
+      idle = a .idle;
+      runnable = a .runnable;
+      scheduled =
+          a .scheduled;
+      blocked = a .blocked;
+      consumed = a .consumed;
+      «wake_at» = a .«wake_at»;
+      run = r;
+    }
 
 -- parked on a host call, woken at the latest at w
 abbrev pub blockedTo : Actor → Wake → Actor
 blockedTo a w =
-    record { mode = a .mode; started = a .started; ran = a .ran; idle = a .idle; runnable = a .runnable; scheduled = a .scheduled; blocked = true; consumed = a .consumed; «wake_at» = w; run = a .run }
+    record {
+      mode = a .mode;
+      started = a .started;
+      ran = a .ran;
+      idle = a .idle;
+      runnable = a .runnable;
+      scheduled =
+          a .scheduled;
+      blocked = true;
+      consumed = a .consumed;
+      «wake_at» = w;
+      run = a .run;
+    }
 
 -- its wait ended
 abbrev pub wokenAs : Actor → Actor
 wokenAs a =
-    record { mode = a .mode; started = a .started; ran = a .ran; idle = a .idle; runnable = true; scheduled = a .scheduled; blocked = false; consumed = a .consumed; «wake_at» = wake.Never; run = a .run }
+    record {
+      mode = a .mode;
+      started = a .started;
+      ran = a .ran;
+      idle = a .idle;
+      runnable = true;
+      scheduled =
+          a .scheduled;
+      blocked = false;
+      consumed = a .consumed;
+      «wake_at» = wake.Never;
+      run = a .run;
+    }
 
 -- ---- reads
 

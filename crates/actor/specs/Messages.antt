@@ -48,7 +48,8 @@ messageOf c =
 
 abbrev pub messageCells : Message → List ℕ
 messageCells m =
-    m .attempts ∷ m .name ∷ m .body ∷ callerTag (m .caller) ∷ callerNumber (m .caller) ∷ loggedTag (m .id) ∷ loggedNumber (m .id) ∷ []
+    m .attempts ∷ m .name ∷ m .body ∷ callerTag (m .caller) ∷ callerNumber (m .caller) ∷ loggedTag (m .id) ∷
+    loggedNumber (m .id) ∷ []
 
 unfoldable pub messageAt : List (List ℕ) → ℕ → Message
 messageAt rows e = messageOf (getD rows e [])
@@ -58,4 +59,11 @@ putMessage rows e m = set rows e (messageCells m)
 
 -- one attempt more
 abbrev pub triedOf : Message → Message
-triedOf m = record { attempts = capped (m .attempts + 1); name = m .name; body = m .body; caller = m .caller; id = m .id }
+triedOf m = record {
+  attempts = capped (m .attempts + 1);
+  name = m .name;
+  body = m .body;
+  caller = m .caller;
+  id =
+      m .id;
+}

@@ -1,8 +1,10 @@
-// A message's row: how often it was tried, how long its name and body are, who waits for its outcome, and under which id it is logged.
-// Its bytes are in the body store, at the entry's number. A log id and a caller id are types of their own: one never stands for the other.
+// A message's row: how often it was tried, how long its name and body are, who waits for its outcome, and under which
+// id it is logged. Its bytes are in the body store, at the entry's number. A log id and a caller id are types of their
+// own: one never stands for the other.
 ghost use mathlib.Core.Path.{_≡_};
 ghost use mathlib.Core.List.{[]};
-ghost use Rattle.actor.specs.Messages.{callerOf, callerTag, callerNumber, loggedOf, loggedTag, loggedNumber, messageOf, messageCells, messageAt, putMessage, triedOf};
+ghost use Rattle.actor.specs.Messages.{callerOf, callerTag, callerNumber, loggedOf, loggedTag, loggedNumber};
+ghost use Rattle.actor.specs.Messages.{messageOf, messageCells, messageAt, putMessage, triedOf};
 use log::LogId;
 
 // Who waits for the outcome (the Rust's `Reply.id`).

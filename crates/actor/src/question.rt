@@ -1,7 +1,8 @@
-// The questions that a pool puts, and the replies to them, as enums. A reply is read by its kind: yes or no, a clock, a count, a status.
-// Whether a reply fits a question is `fits`: the kinds are the same, and a clock is below 2^63.
+// The questions that a pool puts, and the replies to them, as enums. A reply is read by its kind: yes or no, a clock,
+// a count, a status. Whether a reply fits a question is `fits`: the kinds are the same, and a clock is below 2^63.
 ghost use mathlib.Core.Path.{_≡_};
-ghost use Rattle.actor.specs.Questions.{slotOf, yesIn, clockIn, countIn, ranIn, isTold, kindOf, kindWanted, fitsOf};
+ghost use Rattle.actor.specs.Questions.{slotOf, yesIn, clockIn, countIn, ranIn, isTold, kindOf, kindWanted};
+ghost use Rattle.actor.specs.Questions.{fitsOf};
 use crate::message::CallerId;
 use lists::Found;
 use log::Order;

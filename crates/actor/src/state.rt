@@ -1,8 +1,12 @@
-// The state of an actor: how it runs (fixed or eval), and plain fields. What it has in its mailbox and in its hands are lists of the crate `lists`.
+// The state of an actor: how it runs (fixed or eval), and plain fields. What it has in its mailbox and in its hands
+// are lists of the crate `lists`.
 ghost use mathlib.Core.Path.{_≡_};
 ghost use mathlib.Core.List.{[]};
 ghost use mathlib.Core.Bool.{Bool};
-ghost use Rattle.actor.specs.Actors.{modeOf, modeCell, flagOf, flagCell, wakeOf, wakeTag, wakeNumber, runOf, runTag, runNumber, actorOf, actorCells, actorAt, putActor, newActor, deliveredTo, scheduledAs, beganStep, startedAs, idledAs, consumedAs, runningTo, blockedTo, yieldedAs, wokenAs, deadlineOf, hasRun};
+ghost use Rattle.actor.specs.Actors.{modeOf, modeCell, flagOf, flagCell, wakeOf, wakeTag, wakeNumber, runOf};
+ghost use Rattle.actor.specs.Actors.{runTag, runNumber, actorOf, actorCells, actorAt, putActor, newActor};
+ghost use Rattle.actor.specs.Actors.{deliveredTo, scheduledAs, beganStep, startedAs, idledAs, consumedAs};
+ghost use Rattle.actor.specs.Actors.{runningTo, blockedTo, yieldedAs, wokenAs, deadlineOf, hasRun};
 
 // A fixed program that loops over receive(), or an evaluator of one message at a time.
 pub enum Mode {

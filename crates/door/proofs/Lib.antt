@@ -1,3 +1,2 @@
 -- Laws of the door.
-pub mod Local
 pub mod AdmitLaws

@@ -1,4 +1,5 @@
--- Admit: 14, 11, then 5 to 10; else the message is logged under the next id, unless a caller waits for its outcome, and queued in the inbox.
+-- Admit: 14, 11, then 5 to 10; else the message is logged under the next id, unless a caller waits for its outcome,
+-- and queued in the inbox.
 use mathlib.Core.Bool.{Bool, true, false}
 use mathlib.Core.List.{List}
 use Prim.Native.Nat.{ℕ}
@@ -42,29 +43,48 @@ abbrev pub roomCheck : Pool → Table → Check → Check
 roomCheck p t (check.Refuse r) = check.Refuse r
 roomCheck p t check.Fine =
     pick (leb (p .limits .inbox) (lenOf t INBOX)) (check.Refuse refusal.InboxFull)
-    (pick (p .closed) (check.Refuse refusal.Closed) (pick (eqb (lenOf t FREE) 0) (check.Refuse refusal.TooMany) check.Fine))
+    (pick (p .closed) (check.Refuse refusal.Closed) (pick (eqb (lenOf t FREE) 0) (check.Refuse refusal.TooMany)
+    check.Fine))
 
 unfoldable pub admitCheck : Pool → Table → ℕ → ℕ → Check
 admitCheck p t name body = roomCheck p t (lengthCheck name body)
 
 abbrev pub admittedBy : List ℕ → Table → Kept → Told → Admitted
-admittedBy bytes records k told = record { bytes = bytes; records = records; store = k .store; links = k .links; rows = k .rows; told = told }
+admittedBy bytes records k told = record {
+  bytes = bytes;
+  records = records;
+  store = k .store;
+  links = k .links;
+  rows =
+      k .rows;
+  told = told;
+}
 
 abbrev pub turnedAway : Pool → List ℕ → Table → List ℕ → Table → Table → Refusal → Admitted
-turnedAway p bytes records store t rows r = record { bytes = bytes; records = records; store = store; links = t; rows = rows; told = refusedBy p r }
+turnedAway p bytes records store t rows r = record {
+  bytes = bytes;
+  records = records;
+  store = store;
+  links = t;
+  rows =
+      rows;
+  told = refusedBy p r;
+}
 
 -- in the inbox, with its record ordered
 abbrev pub inboxed : Pool → Did → Order → Kept → Admitted
-inboxed p d o k = admittedBy (d .wal .bytes) (d .wal .table) k (shown (withDisk p (d .wal .counters) (disk.Waits o what.Record)) (k .links) (k .rows))
+inboxed p d o k = admittedBy (d .wal .bytes) (d .wal .table) k
+    (shown (withDisk p (d .wal .counters) (disk.Waits o what.Record)) (k .links) (k .rows))
 
 abbrev pub nextId : Counters → LogId
 nextId n = record { 0 = n .next }
 
 -- by what the log answered: 9 and 10 are the log's
 abbrev pub loggedBy : Pool → List ℕ → Table → Table → List ℕ → List ℕ → Did → of-log.Answer → Admitted
-loggedBy p store t rows name body d (logged.Ordered o) = inboxed p d o (keepOf store t rows name body caller.Nobody (id.As (nextId (p .turn .log))) INBOX)
-loggedBy p store t rows name body d logged.Nothing = turnedAway p (d .wal .bytes) (d .wal .table) store t rows refusal.NoRoom
-loggedBy p store t rows name body d (logged.Refused r) = turnedAway p (d .wal .bytes) (d .wal .table) store t rows (logRefusal r)
+loggedBy p store t rows name body d (logged.Ordered o) = inboxed p d o (keepOf store t rows name body caller.Nobody
+    (id.As (nextId (p .turn .log))) INBOX)
+loggedBy p store t rows name body d (logged.Refused r) = turnedAway p (d .wal .bytes) (d .wal .table) store t rows
+    (logRefusal r)
 
 -- the same without the log: what becomes of the message by the log's answer and the counters after it
 pub record Answered : Type 0 where
@@ -74,29 +94,44 @@ pub record Answered : Type 0 where
   pub told : Told
 
 abbrev pub answeredIn : Pool → Counters → Order → Kept → Answered
-answeredIn p n o k = record { store = k .store; links = k .links; rows = k .rows; told = shown (withDisk p n (disk.Waits o what.Record)) (k .links) (k .rows) }
+answeredIn p n o k = record {
+  store = k .store;
+  links = k .links;
+  rows = k .rows;
+  told =
+      shown (withDisk p n (disk.Waits o what.Record)) (k .links) (k .rows);
+}
 
 abbrev pub answeredOf : Pool → Counters → of-log.Answer → List ℕ → Table → Table → List ℕ → List ℕ → Answered
-answeredOf p n (logged.Ordered o) store t rows name body = answeredIn p n o (keepOf store t rows name body caller.Nobody (id.As (nextId (p .turn .log))) INBOX)
-answeredOf p n logged.Nothing store t rows name body = record { store = store; links = t; rows = rows; told = refusedBy p refusal.NoRoom }
-answeredOf p n (logged.Refused r) store t rows name body = record { store = store; links = t; rows = rows; told = refusedBy p (logRefusal r) }
+answeredOf p n (logged.Ordered o) store t rows name body = answeredIn p n o (keepOf store t rows name body
+    caller.Nobody (id.As (nextId (p .turn .log))) INBOX)
+answeredOf p n (logged.Refused r) store t rows name body = record {
+  store = store;
+  links = t;
+  rows = rows;
+  told =
+      refusedBy p (logRefusal r);
+}
 
 abbrev pub loggedDid : Pool → List ℕ → Table → Table → List ℕ → List ℕ → Did → Admitted
 loggedDid p store t rows name body d = loggedBy p store t rows name body d (d .answer)
 
 unfoldable pub admitLogged : Pool → List ℕ → Table → List ℕ → Table → Table → List ℕ → List ℕ → Admitted
-admitLogged p bytes records store t rows name body = loggedDid p store t rows name body (appendOf (state bytes records (p .turn .log)) name body)
+admitLogged p bytes records store t rows name body = loggedDid p store t rows name body
+    (appendOf (state bytes records (p .turn .log)) name body)
 
 abbrev pub callerKept : Pool → List ℕ → Table → Kept → Admitted
 callerKept p bytes records k = admittedBy bytes records k (shown p (k .links) (k .rows))
 
 unfoldable pub admitFit : Pool → List ℕ → Table → List ℕ → Table → Table → List ℕ → List ℕ → Caller → Admitted
-admitFit p bytes records store t rows name body (caller.From who) = callerKept p bytes records (keepOf store t rows name body (caller.From who) id.Never INBOX)
+admitFit p bytes records store t rows name body (caller.From who) = callerKept p bytes records
+    (keepOf store t rows name body (caller.From who) id.Never INBOX)
 admitFit p bytes records store t rows name body caller.Nobody = admitLogged p bytes records store t rows name body
 
 abbrev pub admitChecked : Pool → List ℕ → Table → List ℕ → Table → Table → List ℕ → List ℕ → Caller → Check → Admitted
 admitChecked p bytes records store t rows name body who (check.Refuse r) = turnedAway p bytes records store t rows r
-admitChecked p bytes records store t rows name body who check.Fine = admitFit p bytes records store t rows name body who
+admitChecked p bytes records store t rows name body who check.Fine = admitFit p bytes records store t rows name body
+    who
 
 unfoldable pub admitFree : Pool → List ℕ → Table → List ℕ → Table → Table → List ℕ → List ℕ → Caller → Admitted
 admitFree p bytes records store t rows name body who =
@@ -104,8 +139,10 @@ admitFree p bytes records store t rows name body who =
 
 abbrev pub admitIn : Pool → List ℕ → Table → List ℕ → Table → Table → List ℕ → List ℕ → Caller → Disk → Admitted
 admitIn p bytes records store t rows name body who disk.Free = admitFree p bytes records store t rows name body who
-admitIn p bytes records store t rows name body who (disk.Waits o w) = turnedAway p bytes records store t rows refusal.OrderWaits
-admitIn p bytes records store t rows name body who disk.Failed = turnedAway p bytes records store t rows refusal.StoreFailed
+admitIn p bytes records store t rows name body who (disk.Waits o w) = turnedAway p bytes records store t rows
+    refusal.OrderWaits
+admitIn p bytes records store t rows name body who disk.Failed = turnedAway p bytes records store t rows
+    refusal.StoreFailed
 
 unfoldable pub admitOf : Pool → List ℕ → Table → List ℕ → Table → Table → List ℕ → List ℕ → Caller → Admitted
 admitOf p bytes records store t rows name body who = admitIn p bytes records store t rows name body who (p .turn .disk)

@@ -1,5 +1,5 @@
--- An opening: refused by 1, a setting outside its range; 2, a lent size; 3 and 4, what the log says; else the tables at the start, the messages left in
--- pending in rising id order, and the order of a replace.
+-- An opening: refused by 1, a setting outside its range; 2, a lent size; 3 and 4, what the log says; else the tables
+-- at the start, the messages left in pending in rising id order, and the order of a replace.
 use mathlib.Core.Bool.{Bool, true, false}
 use mathlib.Core.List.{List, [], _∷_}
 use Prim.Native.Nat.{ℕ}
@@ -50,16 +50,32 @@ pub record PoolOpened : Type 0 where
 -- the lent tables: 8 groups, 262 lists, 256 messages, 34 lists of keys, 128 actors
 unfoldable pub tablesSized : ℕ → ℕ → ℕ → ℕ → ℕ → Bool
 tablesSized groups links rows keys actors =
-    pick (eqb groups 8) (pick (eqb links 262) (pick (eqb rows 256) (pick (eqb keys 34) (eqb actors 128) false) false) false) false
+    pick (eqb groups 8) (pick (eqb links 262) (pick (eqb rows 256) (pick (eqb keys 34) (eqb actors 128) false) false)
+    false) false
 
 abbrev pub limitsFrom : Settings → ℕ → Limits
-limitsFrom s groups = record { groups = groups; inbox = s .inbox; backlog = s .backlog; «compact_at» = s .«compact_at»; tick = s .tick }
+limitsFrom s groups = record {
+  groups = groups;
+  inbox = s .inbox;
+  backlog = s .backlog;
+  «compact_at» = s .«compact_at»;
+  tick = s .tick;
+}
 
 -- a pool at rest: nothing queued, nobody dead
 abbrev pub newPool : Limits → Counters → Disk → Pool
 newPool limits n d =
     record {
-      turn = record { at = at.Rest; disk = d; counts = record { queued = 0; losses = record { dead = 0; crashes = 0 }; stepped = false }; log = n };
+      turn = record {
+        at = at.Rest;
+        disk = d;
+        counts = record {
+          queued = 0;
+          losses = record { dead = 0; crashes = 0 };
+          stepped = false;
+        };
+        log = n;
+      };
       limits = limits;
       closed = false;
       seeded = false;
@@ -70,14 +86,19 @@ abbrev pub noPool : Pool
 noPool = newPool (record { groups = 0; inbox = 0; backlog = 0; «compact_at» = 0; tick = 0 }) log.noCounters disk.Failed
 
 abbrev pub openTold : Settings → ℕ → Counters → Order → Told
-openTold s groups n o = record { pool = newPool (limitsFrom s groups) n (disk.Waits o what.Nothing); answer = answer.Open (asked.Open (ask.Store o)) }
+openTold s groups n o = record {
+  pool = newPool (limitsFrom s groups) n (disk.Waits o what.Nothing);
+  answer =
+      answer.Open (asked.Open (ask.Store o));
+}
 
 abbrev pub filledBy : Table → Placed → Table → Told → Filled
 filledBy groups p keys told = record { groups = groups; links = p .links; rows = p .rows; keys = keys; told = told }
 
 unfoldable pub openPool : Settings → Table → Table → Counters → Order → Table → Table → Table → Table → Filled
 openPool s given left n o groups t rows keys =
-    filledBy (groupsFrom (s .«max_actors») groups given) (putLeft (startFrom 0 (length t)) rows left 0 (n .count)) (replicate (length keys) blankRow) (openTold s (length given) n o)
+    filledBy (groupsFrom (s .«max_actors») groups given) (putLeft (startFrom 0 (length t)) rows left 0 (n .count))
+    (replicate (length keys) blankRow) (openTold s (length given) n o)
 
 -- the messages left by the log: a table of 256 rows
 abbrev pub noLeft : Table
@@ -86,22 +107,43 @@ noLeft = replicate 256 (0 ∷ 0 ∷ 0 ∷ [])
 -- turned away: nothing has changed
 abbrev pub notOpened : List ℕ → List ℕ → Table → Table → Table → Table → Table → Refusal → PoolOpened
 notOpened bytes store records groups t rows keys r =
-    record { bytes = bytes; store = store; records = records; groups = groups; links = t; rows = rows; keys = keys; told = refusedBy noPool r }
+    record {
+      bytes = bytes;
+      store = store;
+      records = records;
+      groups = groups;
+      links = t;
+      rows = rows;
+      keys = keys;
+      told = refusedBy noPool r;
+    }
 
 abbrev pub openedPool : log.Opened → Filled → PoolOpened
 openedPool o f =
-    record { bytes = o .log; store = o .store; records = o .table; groups = f .groups; links = f .links; rows = f .rows; keys = f .keys; told = f .told }
+    record {
+      bytes = o .log;
+      store = o .store;
+      records = o .table;
+      groups = f .groups;
+      links = f .links;
+      rows =
+          f .rows;
+      keys = f .keys;
+      told = f .told;
+    }
 
 -- by what the log answered
 abbrev pub openedBy : Settings → Table → Table → Table → Table → Table → log.Opened → of-log.Answer → PoolOpened
-openedBy s given groups t rows keys o (logged.Ordered order) = openedPool o (openPool s given (o .left) (o .step .counters) order groups t rows keys)
-openedBy s given groups t rows keys o logged.Nothing = notOpened (o .log) (o .store) (o .table) groups t rows keys refusal.Sizes
-openedBy s given groups t rows keys o (logged.Refused r) = notOpened (o .log) (o .store) (o .table) groups t rows keys (logRefusal r)
+openedBy s given groups t rows keys o (logged.Ordered order) =
+    openedPool o (openPool s given (o .left) (o .step .counters) order groups t rows keys)
+openedBy s given groups t rows keys o (logged.Refused r) = notOpened (o .log) (o .store) (o .table) groups t rows keys
+    (logRefusal r)
 
 abbrev pub openedLog : Settings → Table → Table → Table → Table → Table → log.Opened → PoolOpened
 openedLog s given groups t rows keys o = openedBy s given groups t rows keys o (o .step .answer)
 
-unfoldable pub openOf : Settings → Table → List ℕ → ℕ → List ℕ → Table → Table → Table → Table → Table → Table → PoolOpened
+unfoldable pub openOf : Settings → Table → List ℕ → ℕ → List ℕ → Table → Table → Table → Table → Table → Table
+    → PoolOpened
 openOf s given bytes n store records groups t rows keys actors =
     pick (settingsFit s given)
     (pick (tablesSized (length groups) (length t) (length rows) (length keys) (length actors))

@@ -41,7 +41,8 @@ fn admit_check(pool: Pool, links: &[[u64; 4]], name: usize, body: usize) -> Chec
     }
 }
 
-// What the log answered, acted on: in the inbox under the id that was the next, with the counters as they are now; or turned away.
+// What the log answered, acted on: in the inbox under the id that was the next, with the counters as they are now; or
+// turned away.
 fn admit_answered(
     pool: Pool,
     counters: Counters,
@@ -52,7 +53,12 @@ fn admit_answered(
     name: &[u8],
     body: &[u8],
 ) -> Told
-    ensures { λ r. ⌜ record { store = now (store .exit); links = now (links .exit); rows = now (rows .exit); told = r } ≡ answeredOf pool counters answer (now (store .entry)) (now (links .entry)) (now (rows .entry)) (now (name .entry)) (now (body .entry)) ⌝ }
+    ensures { λ r. ⌜
+        record { store = now (store .exit); links = now (links .exit); rows = now (rows .exit); told = r }
+        ≡ answeredOf
+        pool counters answer (now (store .entry)) (now (links .entry)) (now (rows .entry)) (now (name .entry))
+        (now (body .entry))
+        ⌝ }
 {
     match answer {
         log::Answer::Ordered(order) => {
@@ -73,17 +79,8 @@ fn admit_answered(
             let p = state::with_disk(pool, counters, disk);
             state::shown_now(p, links, rows)
         }
-        log::Answer::Nothing => state::refused(pool, Refusal::NoRoom),
         log::Answer::Refused(r) => state::refused(pool, state::log_refusal(r)),
     }
-}
-
-// The log's counters, as the pool has them.
-fn counters_of(pool: Pool) -> Counters
-    ensures { λ r. ⌜ r ≡ pool .turn .log ⌝ }
-{
-    let turn = pool.turn;
-    turn.log
 }
 
 // Logged under the next id, then in the inbox: the log changes the pool's counters, lent to it by `&mut`.
@@ -97,10 +94,22 @@ fn admit_logged(
     name: &[u8],
     body: &[u8],
 ) -> Told
-    ensures { λ r. ⌜ record { bytes = now (log .exit); records = now (records .exit); store = now (store .exit); links = now (links .exit); rows = now (rows .exit); told = r } ≡ admitLogged pool (now (log .entry)) (now (records .entry)) (now (store .entry)) (now (links .entry)) (now (rows .entry)) (now (name .entry)) (now (body .entry)) ⌝ }
+    ensures { λ r. ⌜
+        record {
+          bytes = now (log .exit);
+          records = now (records .exit);
+          store = now (store .exit);
+          links = now (links .exit);
+          rows = now (rows .exit);
+          told = r;
+        }
+        ≡ admitLogged
+        pool (now (log .entry)) (now (records .entry)) (now (store .entry)) (now (links .entry))
+        (now (rows .entry)) (now (name .entry)) (now (body .entry))
+        ⌝ }
 {
-    let mut counters = counters_of(pool);
-    let answer = wal::append_in(&mut counters, log, records, name, body);
+    let mut counters = state::counters_of(pool);
+    let answer = wal::append(&mut counters, log, records, name, body);
     admit_answered(pool, counters, answer, store, links, rows, name, body)
 }
 
@@ -116,7 +125,19 @@ fn admit_fit(
     body: &[u8],
     caller: Caller,
 ) -> Told
-    ensures { λ r. ⌜ record { bytes = now (log .exit); records = now (records .exit); store = now (store .exit); links = now (links .exit); rows = now (rows .exit); told = r } ≡ admitFit pool (now (log .entry)) (now (records .entry)) (now (store .entry)) (now (links .entry)) (now (rows .entry)) (now (name .entry)) (now (body .entry)) caller ⌝ }
+    ensures { λ r. ⌜
+        record {
+          bytes = now (log .exit);
+          records = now (records .exit);
+          store = now (store .exit);
+          links = now (links .exit);
+          rows = now (rows .exit);
+          told = r;
+        }
+        ≡ admitFit
+        pool (now (log .entry)) (now (records .entry)) (now (store .entry)) (now (links .entry))
+        (now (rows .entry)) (now (name .entry)) (now (body .entry)) caller
+        ⌝ }
 {
     match caller {
         Caller::From(id) => {
@@ -147,7 +168,19 @@ fn admit_free(
     body: &[u8],
     caller: Caller,
 ) -> Told
-    ensures { λ r. ⌜ record { bytes = now (log .exit); records = now (records .exit); store = now (store .exit); links = now (links .exit); rows = now (rows .exit); told = r } ≡ admitFree pool (now (log .entry)) (now (records .entry)) (now (store .entry)) (now (links .entry)) (now (rows .entry)) (now (name .entry)) (now (body .entry)) caller ⌝ }
+    ensures { λ r. ⌜
+        record {
+          bytes = now (log .exit);
+          records = now (records .exit);
+          store = now (store .exit);
+          links = now (links .exit);
+          rows = now (rows .exit);
+          told = r;
+        }
+        ≡ admitFree
+        pool (now (log .entry)) (now (records .entry)) (now (store .entry)) (now (links .entry))
+        (now (rows .entry)) (now (name .entry)) (now (body .entry)) caller
+        ⌝ }
 {
     let check = admit_check(pool, links, name.len(), body.len());
     match check {
@@ -168,7 +201,19 @@ pub fn admit(
     body: &[u8],
     caller: Caller,
 ) -> Told
-    ensures { λ r. ⌜ record { bytes = now (log .exit); records = now (records .exit); store = now (store .exit); links = now (links .exit); rows = now (rows .exit); told = r } ≡ admitOf pool (now (log .entry)) (now (records .entry)) (now (store .entry)) (now (links .entry)) (now (rows .entry)) (now (name .entry)) (now (body .entry)) caller ⌝ }
+    ensures { λ r. ⌜
+        record {
+          bytes = now (log .exit);
+          records = now (records .exit);
+          store = now (store .exit);
+          links = now (links .exit);
+          rows = now (rows .exit);
+          told = r;
+        }
+        ≡ admitOf
+        pool (now (log .entry)) (now (records .entry)) (now (store .entry)) (now (links .entry))
+        (now (rows .entry)) (now (name .entry)) (now (body .entry)) caller
+        ⌝ }
 {
     let turn = pool.turn;
     let disk = turn.disk;

@@ -1,4 +1,5 @@
-// An opening: settings, sizes, the log; then the tables at the start, and the messages left in pending. Refused, nothing has changed.
+// An opening: settings, sizes, the log; then the tables at the start, and the messages left in pending. Refused,
+// nothing has changed.
 ghost use mathlib.Core.Path.{_≡_};
 ghost use Rattle.door.specs.Open.{tablesSized, limitsFrom, noPool, newPool, openPool, openOf};
 use actor::question::Asked;
@@ -110,7 +111,15 @@ fn open_pool(
     rows: &mut [[u64; 7]],
     lists: &mut [[u8; 65]],
 ) -> Told
-    ensures { λ r. ⌜ record { groups = now (groups .exit); links = now (links .exit); rows = now (rows .exit); keys = now (lists .exit); told = r } ≡ openPool settings (now (given .entry)) (now (left .entry)) counters order (now (groups .entry)) (now (links .entry)) (now (rows .entry)) (now (lists .entry)) ⌝ }
+    ensures { λ r. ⌜ record {
+      groups = now (groups .exit);
+      links = now (links .exit);
+      rows = now (rows .exit);
+      keys =
+          now (lists .exit);
+      told = r;
+    } ≡ openPool settings (now (given .entry)) (now (left .entry)) counters order
+        (now (groups .entry)) (now (links .entry)) (now (rows .entry)) (now (lists .entry)) ⌝ }
 {
     settings::put_groups(groups, given, settings.max_actors);
     lists::start(links);
@@ -140,7 +149,18 @@ pub fn open(
     lists: &mut [[u8; 65]],
     actors: &[[u64; 12]],
 ) -> Told
-    ensures { λ r. ⌜ record { bytes = now (log .exit); store = now (store .exit); records = now (records .exit); groups = now (groups .exit); links = now (links .exit); rows = now (rows .exit); keys = now (lists .exit); told = r } ≡ openOf settings (now (given .entry)) (now (log .entry)) n (now (store .entry)) (now (records .entry)) (now (groups .entry)) (now (links .entry)) (now (rows .entry)) (now (lists .entry)) (now (actors .entry)) ⌝ }
+    ensures { λ r. ⌜ record {
+      bytes = now (log .exit);
+      store = now (store .exit);
+      records = now (records .exit);
+      groups = now (groups .exit);
+      links = now (links .exit);
+      rows = now (rows .exit);
+      keys = now (lists .exit);
+      told = r;
+    } ≡ openOf settings (now (given .entry)) (now (log .entry)) n (now (store .entry))
+        (now (records .entry)) (now (groups .entry)) (now (links .entry)) (now (rows .entry)) (now (lists .entry))
+        (now (actors .entry)) ⌝ }
 {
     let fits = settings::settings_fit(settings, given);
     if fits {
@@ -168,7 +188,6 @@ pub fn open(
                     rows,
                     lists,
                 ),
-                log::Answer::Nothing => state::refused(no_pool(), Refusal::Sizes),
                 log::Answer::Refused(r) => state::refused(no_pool(), state::log_refusal(r)),
             }
         } else {

@@ -1,1 +1,2 @@
--- Laws of the pool's state.
+-- Laws of the pool's state and answers.
+pub mod AnswerLaws

@@ -19,7 +19,7 @@ use Rattle.front.specs.declared.state.Told.{Told}
 use Rattle.front.specs.declared.state.Check.{Check}
 use Rattle.front.specs.declared.state.Check.the-variants as check
 
--- 01's number of each refusal
+-- the number of each refusal (docs/RULES.md, 8)
 abbrev pub numberOf : Refusal → ℕ
 numberOf refusal.Setting = 1
 numberOf refusal.Sizes = 2
@@ -36,10 +36,12 @@ numberOf refusal.NoFit = 12
 numberOf refusal.InTurn = 13
 numberOf refusal.StoreFailed = 14
 
+-- a refusal of the log, as the pool's own
 abbrev pub logRefusal : of-log.Refusal → Refusal
 logRefusal logged.Sizes = refusal.Sizes
 logRefusal logged.LastId = refusal.LastId
 logRefusal logged.TooMuch = refusal.TooMuch
+logRefusal logged.TooLong = refusal.TooLong
 logRefusal logged.Full = refusal.TooMany
 logRefusal logged.NoId = refusal.NoId
 logRefusal logged.NoRoom = refusal.NoRoom

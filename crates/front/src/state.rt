@@ -1,6 +1,15 @@
 // The pool's own state; what a call answers; why one is turned away.
 ghost use mathlib.Core.Path.{_≡_};
-ghost use Rattle.front.specs.State.{numberOf, logRefusal, refusedBy, withTurn, withDisk, shown, atRest, lengthCheck};
+ghost use Rattle.front.specs.State.{
+  numberOf,
+  logRefusal,
+  refusedBy,
+  withTurn,
+  withDisk,
+  shown,
+  atRest,
+  lengthCheck,
+};
 use actor::question::Asked;
 use group::at::At;
 use log::Counters;
@@ -80,6 +89,7 @@ pub fn log_refusal(r: log::Refusal) -> Refusal
         log::Refusal::Sizes => Refusal::Sizes,
         log::Refusal::LastId => Refusal::LastId,
         log::Refusal::TooMuch => Refusal::TooMuch,
+        log::Refusal::TooLong => Refusal::TooLong,
         log::Refusal::Full => Refusal::TooMany,
         log::Refusal::NoId => Refusal::NoId,
         log::Refusal::NoRoom => Refusal::NoRoom,
@@ -106,6 +116,14 @@ pub fn with_turn(pool: Pool, turn: Turn) -> Pool
         closed: pool.closed,
         seeded: pool.seeded,
     }
+}
+
+// The log's counters, as the pool has them.
+pub fn counters_of(pool: Pool) -> Counters
+    ensures { λ r. ⌜ r ≡ pool .turn .log ⌝ }
+{
+    let turn = pool.turn;
+    turn.log
 }
 
 // The log's counters and the disk are these.
@@ -173,7 +191,7 @@ pub enum Check {
     Refuse(Refusal),
 }
 
-// A name over 32 bytes or a body over 128; no free entry.
+// Turned away: a name over 32 bytes or a body over 128.
 pub fn length_check(name: usize, body: usize) -> Check
     ensures { λ r. ⌜ r ≡ lengthCheck name body ⌝ }
 {

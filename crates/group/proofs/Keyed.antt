@@ -10,7 +10,9 @@ abbrev pub keyed : Table → Table → Keyed
 keyed keys actors = record { keys = keys; actors = actors }
 
 -- an actor that is there and not queued is queued
-pub schedule-new : (keys actors : Table) (g k : ℕ) → liveOf keys g k ≡ true → actorAt actors (slotAt g k) .scheduled ≡ false →
-    scheduleOf keys actors g k ≡ keyed (pushKey keys (readyRow g) k) (putActor actors (slotAt g k) (scheduledAs (actorAt actors (slotAt g k)) true))
+pub schedule-new : (keys actors : Table) (g k : ℕ) → liveOf keys g k ≡ true → actorAt actors (slotAt g k) .scheduled
+    ≡ false →
+    scheduleOf keys actors g k ≡ keyed (pushKey keys (readyRow g) k) (putActor actors (slotAt g k)
+    (scheduledAs (actorAt actors (slotAt g k)) true))
 unfolding scheduleOf
 schedule-new keys actors g k there absent = rw (there, absent)

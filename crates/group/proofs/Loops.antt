@@ -24,7 +24,8 @@ before n = omega arith
 -- ---- a name and the store, byte by byte
 
 module _ (row store : List ℕ) (from i n : ℕ) where
-  pub agrees-more : i < n → agrees row store from i (n - i) ≡ pick (eqb (getD row (5 + i) 0) (getD store (from + i) 0)) (agrees row store from (i + 1) (n - (i + 1))) false
+  pub agrees-more : i < n → agrees row store from i (n - i) ≡ pick (eqb (getD row (5 + i) 0) (getD store (from + i) 0))
+      (agrees row store from (i + 1) (n - (i + 1))) false
   unfolding agrees
   agrees-more inside = let more : n - i ≡ suc (n - (i + 1)) = omega arith in rw (more, add-one)
 
@@ -34,24 +35,29 @@ module _ (row store : List ℕ) (from i n : ℕ) where
 
 -- ---- the groups, from the last one down
 
-pub for-more : (groups : Table) (store : List ℕ) (entry len g : ℕ) → 0 < g → groupFor groups store entry len g ≡ pick (named (getD groups (g - 1) []) store entry len) (found.Group (g - 1)) (groupFor groups store entry len (g - 1))
+pub for-more : (groups : Table) (store : List ℕ) (entry len g : ℕ) → 0 < g → groupFor groups store entry len g
+    ≡ pick (named (getD groups (g - 1) []) store entry len) (found.Group (g - 1)) (groupFor groups store entry len
+    (g - 1))
 unfolding groupFor
 for-more groups store entry len zero some = absurd (not-suc-le-zero some)
 for-more groups store entry len (suc g) some = rw (before g)
 
-pub for-end : (groups : Table) (store : List ℕ) (entry len g : ℕ) → g ≤ 0 → groupFor groups store entry len g ≡ found.Nothing
+pub for-end : (groups : Table) (store : List ℕ) (entry len g : ℕ) → g ≤ 0 → groupFor groups store entry len g
+    ≡ found.Nothing
 unfolding groupFor
 for-end groups store entry len g out = let none : g ≡ 0 = omega arith in rw none
 
 -- ---- an idle list, from its end
 
 module _ (keys actors : Table) (g : ℕ) where
-  pub idle-more : (n : ℕ) (row : List ℕ) (k : ℕ) → 0 < n → lastOf row ≡ key.At k → popIdleRow keys actors g n row ≡ pick (idleKey keys actors g k) (popped (popEnd row) (key.At k)) (popIdleRow keys actors g (n - 1) (popEnd row))
+  pub idle-more : (n : ℕ) (row : List ℕ) (k : ℕ) → 0 < n → lastOf row ≡ key.At k → popIdleRow keys actors g n row
+      ≡ pick (idleKey keys actors g k) (popped (popEnd row) (key.At k)) (popIdleRow keys actors g (n - 1) (popEnd row))
   unfolding popIdleRow
   idle-more zero row k some last = absurd (not-suc-le-zero some)
   idle-more (suc n) row k some last = rw (before n, last, popIdleRow)
 
-  pub idle-past : (n : ℕ) (row : List ℕ) → 0 < n → lastOf row ≡ key.Nothing → popIdleRow keys actors g n row ≡ popIdleRow keys actors g (n - 1) (popEnd row)
+  pub idle-past : (n : ℕ) (row : List ℕ) → 0 < n → lastOf row ≡ key.Nothing → popIdleRow keys actors g n row
+      ≡ popIdleRow keys actors g (n - 1) (popEnd row)
   unfolding popIdleRow
   idle-past zero row some last = absurd (not-suc-le-zero some)
   idle-past (suc n) row some last = rw (before n, last, popIdleRow)
@@ -63,7 +69,8 @@ module _ (keys actors : Table) (g : ℕ) where
 -- ---- the keys, in rising order
 
 module _ (given : List ℕ) (links : Table) (g k : ℕ) (best : Key) where
-  pub least-more : k < 16 → leastFrom given links g (16 - k) k best ≡ leastFrom given links g (16 - (k + 1)) (k + 1) (pick (containsOf given k) (betterOf links g best k) best)
+  pub least-more : k < 16 → leastFrom given links g (16 - k) k best ≡ leastFrom given links g (16 - (k + 1)) (k + 1)
+      (pick (containsOf given k) (betterOf links g best k) best)
   unfolding leastFrom
   least-more inside = let more : 16 - k ≡ suc (16 - (k + 1)) = omega arith in rw more
 
@@ -73,7 +80,8 @@ module _ (given : List ℕ) (links : Table) (g k : ℕ) (best : Key) where
 
 -- ---- messages that are over
 
-pub over-more : (links rows : Table) (from n : ℕ) → 0 < n → overAll links rows from n ≡ overAll (overFirst links rows from) rows from (n - 1)
+pub over-more : (links rows : Table) (from n : ℕ) → 0 < n → overAll links rows from n
+    ≡ overAll (overFirst links rows from) rows from (n - 1)
 unfolding overAll
 over-more links rows from zero some = absurd (not-suc-le-zero some)
 over-more links rows from (suc n) some = rw (before n)

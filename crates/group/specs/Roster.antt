@@ -74,7 +74,10 @@ scheduleOf keys actors g k =
     pick (liveOf keys g k)
     (pick (actorAt actors (slotAt g k) .scheduled)
     (record { keys = keys; actors = actors })
-    (record { keys = pushKey keys (readyRow g) k; actors = putActor actors (slotAt g k) (scheduledAs (actorAt actors (slotAt g k)) true) }))
+    (record {
+      keys = pushKey keys (readyRow g) k;
+      actors = putActor actors (slotAt g k) (scheduledAs (actorAt actors (slotAt g k)) true);
+    }))
     (record { keys = keys; actors = actors })
 
 abbrev pub modeFor : Bool → Mode
@@ -84,7 +87,11 @@ modeFor false = mode.Fixed
 -- a new actor of this key, queued to run
 unfoldable pub spawnKey : Table → Table → ℕ → ℕ → Bool → Keyed
 spawnKey keys actors g k eval =
-    scheduleOf (set keys (slabRow g) (insertOf (keysAt keys (slabRow g)))) (putActor actors (slotAt g k) (newActor (modeFor eval))) g k
+    scheduleOf
+    (set keys (slabRow g) (insertOf (keysAt keys (slabRow g))))
+    (putActor actors (slotAt g k) (newActor (modeFor eval)))
+    g
+    k
 
 abbrev pub spawnedAs : Keyed → ℕ → Spawned
 spawnedAs s k = record { keys = s .keys; actors = s .actors; key = key.At k }
@@ -109,7 +116,8 @@ popped row k = record { row = row; key = k }
 unfoldable pub popIdleRow : Table → Table → ℕ → ℕ → List ℕ → Popped
 popIdleRow keys actors g zero row = popped row key.Nothing
 popIdleRow keys actors g (suc n) row = elim (lastOf row) [
-  | key.At k ↦ pick (idleKey keys actors g k) (popped (popEnd row) (key.At k)) (popIdleRow keys actors g n (popEnd row))
+  | key.At k ↦
+      pick (idleKey keys actors g k) (popped (popEnd row) (key.At k)) (popIdleRow keys actors g n (popEnd row))
   | key.Nothing ↦ popIdleRow keys actors g n (popEnd row)
 ]
 
@@ -117,7 +125,8 @@ abbrev pub popIdleIn : Table → ℕ → Popped → IdlePopped
 popIdleIn keys g p = record { keys = set keys (idleRow g) (p .row); key = p .key }
 
 unfoldable pub popIdleOf : Table → Table → ℕ → IdlePopped
-popIdleOf keys actors g = popIdleIn keys g (popIdleRow keys actors g (countOf (keysAt keys (idleRow g))) (keysAt keys (idleRow g)))
+popIdleOf keys actors g =
+    popIdleIn keys g (popIdleRow keys actors g (countOf (keysAt keys (idleRow g))) (keysAt keys (idleRow g)))
 
 -- ---- the least loaded, first of the equals
 
@@ -131,7 +140,8 @@ betterOf links g key.Nothing k = key.At k
 -- among n keys from k on
 unfoldable pub leastFrom : List ℕ → Table → ℕ → ℕ → ℕ → Key → Key
 leastFrom given links g zero k best = best
-leastFrom given links g (suc n) k best = leastFrom given links g n (k + 1) (pick (containsOf given k) (betterOf links g best k) best)
+leastFrom given links g (suc n) k best =
+    leastFrom given links g n (k + 1) (pick (containsOf given k) (betterOf links g best k) best)
 
 unfoldable pub leastOf : Table → Table → ℕ → Key
 leastOf keys links g = leastFrom (keysAt keys (slabRow g)) links g 16 0 key.Nothing

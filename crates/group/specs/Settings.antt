@@ -26,14 +26,17 @@ groupAt groups g = groupOf (getD groups g [])
 -- n bytes of a group's name, from byte i on, are those of the store from `from` + i on
 unfoldable pub agrees : List ℕ → List ℕ → ℕ → ℕ → ℕ → Bool
 agrees row store from i zero = true
-agrees row store from i (suc n) = pick (eqb (getD row (5 + i) 0) (getD store (from + i) 0)) (agrees row store from (suc i) n) false
+agrees row store from i (suc n) =
+    pick (eqb (getD row (5 + i) 0) (getD store (from + i) 0)) (agrees row store from (suc i) n) false
 
 -- the message of an entry, whose name has len bytes, is for the group of this row: the names are the same
 unfoldable pub named : List ℕ → List ℕ → ℕ → ℕ → Bool
 named row store entry len =
-    pick (leb 256 entry) false (pick (ltb 32 len) false (pick (eqb (getD row 4 0) len) (agrees row store (160 * entry) 0 len) false))
+    pick (leb 256 entry) false
+    (pick (ltb 32 len) false (pick (eqb (getD row 4 0) len) (agrees row store (160 * entry) 0 len) false))
 
 -- Two groups of one name: the later one gets the messages.
 unfoldable pub groupFor : Table → List ℕ → ℕ → ℕ → ℕ → Named
 groupFor groups store entry len zero = found.Nothing
-groupFor groups store entry len (suc g) = pick (named (getD groups g []) store entry len) (found.Group g) (groupFor groups store entry len g)
+groupFor groups store entry len (suc g) =
+    pick (named (getD groups g []) store entry len) (found.Group g) (groupFor groups store entry len g)

@@ -1,9 +1,13 @@
-// Where a turn stands: at a question, or between two. What is kept there is in the lists, the actors and the key lists; the rest is here.
+// Where a turn stands: at a question, or between two. What is kept there is in the lists, the actors and the key
+// lists; the rest is here.
 ghost use mathlib.Core.Path.{_≡_};
 ghost use Rattle.group.specs.At.{whoOf, readyAfter, fixedAfter, evalAfter, nextGroup};
 use actor::question::Who;
-use steps::eval::EvalAt;
-use steps::fixed::FixedAt;
+use steps::eval::EvalAsk;
+use steps::eval::EvalNext;
+use steps::fixed::FixedAsk;
+use steps::fixed::FixedNext;
+use steps::step::End;
 use steps::step::Step;
 
 // The step under way: its actor, the tick's clock, and how many keys its group still has to pop after it.
@@ -37,13 +41,13 @@ pub enum At {
     WakePoll(usize, u8, u64, u64),
     // the group's ready list is popped, so many times
     Ready(usize, u64, u64),
-    // a step of a fixed actor
-    Fixed(Cursor, FixedAt),
-    // a step of an eval actor
-    Eval(Cursor, EvalAt),
+    // a question of a fixed actor's step is asked
+    Fixed(Cursor, FixedAsk),
+    // a question of an eval actor's step is asked
+    Eval(Cursor, EvalAsk),
     // what the step finished gets its marks
-    StepEnd(Cursor, Step),
-    // Sends is asked
+    StepEnd(Cursor, End),
+    // Sends is asked, of a fixed actor
     Sends(Cursor, Step),
     // the actor is put back into a list, or released
     Settle(Cursor, Step),
@@ -84,59 +88,27 @@ pub fn ready_after(c: Cursor) -> At
 }
 
 // A step of a fixed actor is at its next question, or ended.
-pub fn fixed_after(c: Cursor, at: FixedAt) -> At
-    ensures { λ r. ⌜ r ≡ fixedAfter c at ⌝ }
+pub fn fixed_after(c: Cursor, next: FixedNext) -> At
+    ensures { λ r. ⌜ r ≡ fixedAfter c next ⌝ }
 {
-    match at {
-        FixedAt::Run(start) => {
-            let next = FixedAt::Run(start);
-            At::Fixed(c, next)
+    match next {
+        FixedNext::Asks(ask) => At::Fixed(c, ask),
+        FixedNext::Ended(step) => {
+            let end = End::Fixed(step);
+            At::StepEnd(c, end)
         }
-        FixedAt::Drain => {
-            let next = FixedAt::Drain;
-            At::Fixed(c, next)
-        }
-        FixedAt::Push => {
-            let next = FixedAt::Push;
-            At::Fixed(c, next)
-        }
-        FixedAt::Dispatch => {
-            let next = FixedAt::Dispatch;
-            At::Fixed(c, next)
-        }
-        FixedAt::End(end) => At::StepEnd(c, end),
     }
 }
 
 // A step of an eval actor is at its next question, or ended.
-pub fn eval_after(c: Cursor, at: EvalAt) -> At
-    ensures { λ r. ⌜ r ≡ evalAfter c at ⌝ }
+pub fn eval_after(c: Cursor, next: EvalNext) -> At
+    ensures { λ r. ⌜ r ≡ evalAfter c next ⌝ }
 {
-    match at {
-        EvalAt::Clock => {
-            let next = EvalAt::Clock;
-            At::Eval(c, next)
+    match next {
+        EvalNext::Asks(ask) => At::Eval(c, ask),
+        EvalNext::Ended(parked) => {
+            let end = End::Eval(parked);
+            At::StepEnd(c, end)
         }
-        EvalAt::Boot => {
-            let next = EvalAt::Boot;
-            At::Eval(c, next)
-        }
-        EvalAt::StartClock => {
-            let next = EvalAt::StartClock;
-            At::Eval(c, next)
-        }
-        EvalAt::Run(start) => {
-            let next = EvalAt::Run(start);
-            At::Eval(c, next)
-        }
-        EvalAt::Dispatch => {
-            let next = EvalAt::Dispatch;
-            At::Eval(c, next)
-        }
-        EvalAt::Tell(outcome) => {
-            let next = EvalAt::Tell(outcome);
-            At::Eval(c, next)
-        }
-        EvalAt::End(end) => At::StepEnd(c, end),
     }
 }

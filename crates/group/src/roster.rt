@@ -1,7 +1,26 @@
-// The keys of a group's actors: four rows of the table of key lists for each group (slab, ready, idle, waiting), and two rows for a turn:
-// what is left of a waiting list that is being gone through, and the keys of trapped actors.
+// The keys of a group's actors: four rows of the table of key lists for each group (slab, ready, idle, waiting), and
+// two rows for a turn: what is left of a waiting list that is being gone through, and the keys of trapped actors.
 ghost use mathlib.Core.Path.{_≡_};
-ghost use Rattle.group.specs.Roster.{slabRow, readyRow, idleRow, waitingRow, slotAt, pushKey, liveOf, scheduleOf, spawnKey, spawnOf, idleKey, popIdleRow, popIdleOf, betterOf, leastFrom, leastOf, modeFor, liveLen};
+ghost use Rattle.group.specs.Roster.{
+  slabRow,
+  readyRow,
+  idleRow,
+  waitingRow,
+  slotAt,
+  pushKey,
+  liveOf,
+  scheduleOf,
+  spawnKey,
+  spawnOf,
+  idleKey,
+  popIdleRow,
+  popIdleOf,
+  betterOf,
+  leastFrom,
+  leastOf,
+  modeFor,
+  liveLen,
+};
 ghost use Rattle.lists.specs.KeyLists.{keysAt, countOf};
 use crate::at;
 use actor::question;
@@ -86,7 +105,9 @@ pub fn live_len(lists: &[[u8; 65]], g: usize) -> u8
 
 // An actor is queued to run, once however often it is woken before its turn.
 pub fn schedule(lists: &mut [[u8; 65]], actors: &mut [[u64; 12]], g: usize, key: u8)
-    ensures { λ r. ⌜ record { keys = now (lists .exit); actors = now (actors .exit) } ≡ scheduleOf (now (lists .entry)) (now (actors .entry)) g key ⌝ }
+    ensures { λ r.
+        ⌜ record { keys = now (lists .exit); actors = now (actors .exit) }
+        ≡ scheduleOf (now (lists .entry)) (now (actors .entry)) g key ⌝ }
 {
     let there = live(lists, g, key);
     if there {
@@ -111,7 +132,9 @@ fn mode_for(eval: bool) -> Mode
 
 // A new actor of this key, queued to run.
 fn spawn_key(lists: &mut [[u8; 65]], actors: &mut [[u64; 12]], g: usize, key: u8, eval: bool)
-    ensures { λ r. ⌜ record { keys = now (lists .exit); actors = now (actors .exit) } ≡ spawnKey (now (lists .entry)) (now (actors .entry)) g key eval ⌝ }
+    ensures { λ r.
+        ⌜ record { keys = now (lists .exit); actors = now (actors .exit) }
+        ≡ spawnKey (now (lists .entry)) (now (actors .entry)) g key eval ⌝ }
 {
     let row = slab_row(g);
     let given = keys::keys_at(lists, row);
@@ -126,7 +149,9 @@ fn spawn_key(lists: &mut [[u8; 65]], actors: &mut [[u64; 12]], g: usize, key: u8
 
 // A new actor, queued to run, and its key.
 pub fn spawn(lists: &mut [[u8; 65]], actors: &mut [[u64; 12]], g: usize, eval: bool) -> Key
-    ensures { λ r. ⌜ record { keys = now (lists .exit); actors = now (actors .exit); key = r } ≡ spawnOf (now (lists .entry)) (now (actors .entry)) g eval ⌝ }
+    ensures { λ r.
+        ⌜ record { keys = now (lists .exit); actors = now (actors .exit); key = r }
+        ≡ spawnOf (now (lists .entry)) (now (actors .entry)) g eval ⌝ }
 {
     let row = slab_row(g);
     let given = keys::keys_at(lists, row);
@@ -191,7 +216,9 @@ fn pop_idle_row(lists: &[[u8; 65]], actors: &[[u64; 12]], g: usize, held: [u8; 6
 
 // An idle actor of the group, taken from its idle list.
 pub fn pop_idle(lists: &mut [[u8; 65]], actors: &[[u64; 12]], g: usize) -> Key
-    ensures { λ r. ⌜ record { keys = now (lists .exit); key = r } ≡ popIdleOf (now (lists .entry)) (now (actors .entry)) g ⌝ }
+    ensures { λ r.
+        ⌜ record { keys = now (lists .exit); key = r }
+        ≡ popIdleOf (now (lists .entry)) (now (actors .entry)) g ⌝ }
 {
     let row = idle_row(g);
     let held = keys::keys_at(lists, row);

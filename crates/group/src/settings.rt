@@ -1,4 +1,5 @@
-// A group's settings: a row of 37 cells, the ceiling, whether it is eval, the timeout, the retries, the length of its name, and the name's 32 bytes.
+// A group's settings: a row of 37 cells, the ceiling, whether it is eval, the timeout, the retries, the length of its
+// name, and the name's 32 bytes.
 ghost use mathlib.Core.Path.{_≡_};
 ghost use mathlib.Core.List.{[]};
 ghost use Prim.Native.Nat.{_+_, _*_, _<_};

@@ -20,13 +20,15 @@ use Rattle.handing.proofs.Filling.{Stand, Left, filled-none, put-left, 
 -- ---- of messages that stand in the rows from i on
 
 -- their ids are those of the messages
-ids-stand : (ms : List Message) (rows : Table) (i x : ℕ) → Stand rows i ms → idCount x rows (upFrom i (length ms)) ≡ count x (idsOf ms)
+ids-stand : (ms : List Message) (rows : Table) (i x : ℕ) → Stand rows i ms
+    → idCount x rows (upFrom i (length ms)) ≡ count x (idsOf ms)
 unfolding idCount upFrom count
 ids-stand [] rows i x stand = refl
 ids-stand (m ∷ ms) rows i x (here, later) = rw (here, ids-stand ms rows (suc i) x later)
 
 -- with their bytes they are what the entries of the store hold
-entries-stand : (ms : List Message) (store : List ℕ) (rows : Table) (i : ℕ) → Stand rows i ms → map (messageIn store rows) (upFrom i (length ms)) ≡ fromStore i (map leftRow ms) store
+entries-stand : (ms : List Message) (store : List ℕ) (rows : Table) (i : ℕ) → Stand rows i ms
+    → map (messageIn store rows) (upFrom i (length ms)) ≡ fromStore i (map leftRow ms) store
 unfolding upFrom fromStore
 entries-stand [] store rows i stand = refl
 entries-stand (m ∷ ms) store rows i (here, later) =
@@ -40,16 +42,28 @@ abbrev noRows : Table
 noRows = replicate 256 (0 ∷ 0 ∷ 0 ∷ [])
 
 -- written from the first row on, the messages' rows stand in front
-all-left : (ms : List Message) → drop 0 (write noRows 0 (map leftRow ms)) ≡ map leftRow ms ++ drop (0 + length (map leftRow ms)) noRows
+all-left : (ms : List Message)
+    → drop 0 (write noRows 0 (map leftRow ms)) ≡ map leftRow ms ++ drop (0 + length (map leftRow ms)) noRows
 unfolding write
 all-left ms = refl
 
-pub hands : (rows : Table) (store : List ℕ) (ms : List Message) → length rows ≡ 256 → length store ≡ 40960 → length ms ≤ 256 → allFit ms ≡ true → Hands rows store ms
+-- all of them are put, and stand in their rows
+pub put-all : (rows : Table) (ms : List Message) → length rows ≡ 256 → length ms ≤ 256
+    → Left rows 0 (length ms) ms (putMessages rows ms)
+put-all rows ms sized few =
+    put-left ms (startFrom 0 262) rows (write noRows 0 (map leftRow ms)) 0 (length ms)
+    (drop (0 + length (map leftRow ms)) noRows) (filled-none rows sized) (omega arith) few (all-left ms)
+
+-- an opening hands back the messages left
+pub hands : (rows : Table) (store : List ℕ) (ms : List Message) → length rows ≡ 256 → length store ≡ 40960
+    → length ms ≤ 256 → allFit ms ≡ true → Hands rows store ms
 hands rows store ms sized long few fit =
     record {
       sound = filled-sound links rows′ (length ms) (put .filled);
       same = λ x. filled-stands links rows′ (length ms) (put .filled) x ∙ ids-stand ms rows′ 0 x (put .stand);
-      back = ap (map (messageIn store′ rows′)) (put .filled .pending) ∙ (entries-stand ms store′ rows′ 0 (put .stand) ∙ read-back ms 0 store fit (omega arith));
+      back =
+          ap (map (messageIn store′ rows′)) (put .filled .pending)
+          ∙ (entries-stand ms store′ rows′ 0 (put .stand) ∙ read-back ms 0 store fit (omega arith));
     }
   where
     links : Table
@@ -62,4 +76,4 @@ hands rows store ms sized long few fit =
     store′ = stored 0 ms store
 
     put : Left rows 0 (length ms) ms (putMessages rows ms)
-    put = put-left ms (startFrom 0 262) rows (write noRows 0 (map leftRow ms)) 0 (length ms) (drop (0 + length (map leftRow ms)) noRows) (filled-none rows sized) (omega arith) few (all-left ms)
+    put = put-all rows ms sized few

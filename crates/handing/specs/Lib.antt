@@ -1,2 +1,3 @@
 -- Definitions and statements.
 pub mod Handing
+pub mod Shown

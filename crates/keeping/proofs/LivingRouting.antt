@@ -25,7 +25,8 @@ use Rattle.group.specs.declared.roster.Popped.{Popped}
 use Rattle.group.specs.declared.settings.Named.{Named}
 use Rattle.group.specs.declared.settings.Named.the-variants as named
 use Rattle.group.specs.Settings.{groupAt, groupFor}
-use Rattle.group.specs.Roster.{slabRow, idleRow, slotAt, liveOf, liveLen, spawnOf, popIdleOf, popIdleRow, idleKey, leastOf, leastFrom, betterOf, loadOf}
+use Rattle.group.specs.Roster.{slabRow, idleRow, slotAt, liveOf, liveLen, spawnOf, popIdleOf, popIdleRow, idleKey}
+use Rattle.group.specs.Roster.{leastOf, leastFrom, betterOf, loadOf}
 use Rattle.routing.specs.Seed.{Seeded, seedOf, seedBooted, seedBy, seedReply}
 use Rattle.routing.specs.Intake.{INBOX, PENDING, BATCH, Linked, batchOf, intakeOf}
 use Rattle.routing.specs.Route as to
@@ -33,7 +34,9 @@ use Rattle.routing.specs.Route.{Sent, routeOf, routeReply}
 use Rattle.places.proofs.Through.{mailbox-past, first-rule}
 use Rattle.places.proofs.Steps.{pick-rule}
 use Rattle.keeping.specs.Living.{handLen, stepHand, Lives}
-use Rattle.keeping.proofs.Living.{Slot, live-slot, live-given-key, Less, less-at, less-lives, first-less, all-less, over-less, FirstLens, first-lens, Same, same-lives, same-live, set-row, idle-row, put-schedule, changes-lives, spawn-lives}
+use Rattle.keeping.proofs.Living.{Slot, live-slot, live-given-key, Less, less-at, less-lives, first-less}
+use Rattle.keeping.proofs.Living.{all-less, over-less, FirstLens, first-lens, Same, same-lives, same-live}
+use Rattle.keeping.proofs.Living.{set-row, idle-row, put-schedule, changes-lives, spawn-lives}
 
 -- ---- the first turn's spawns
 
@@ -74,7 +77,8 @@ unfolding intakeOf
 intake-less t good q backlog left =
     pick-rule P (eqb left 0) (λ e. batch-less t good)
     (λ e. pick-rule P (leb backlog (capped (lenOf t PENDING + q))) (λ e. batch-less t good)
-    (λ e. pick-rule P (eqb (lenOf t INBOX) 0) (λ e. batch-less t good) (λ e. first-less t good INBOX PENDING (omega arith))))
+    (λ e. pick-rule P (eqb (lenOf t INBOX) 0) (λ e. batch-less t good) (λ e. first-less t good INBOX PENDING
+    (omega arith))))
   where
     P : Linked → Type 0
     P s = Less t (s .links)
@@ -85,7 +89,8 @@ abbrev In : List ℕ → Key → Type 0
 In s (key.At k) = containsOf s k ≡ true
 In s key.Nothing = 0 ≤ 0
 
-better-in : (s : List ℕ) (t : Table) (g : ℕ) (best : Key) (k : ℕ) → In s best → containsOf s k ≡ true → In s (betterOf t g best k)
+better-in : (s : List ℕ) (t : Table) (g : ℕ) (best : Key) (k : ℕ) → In s best → containsOf s k ≡ true
+    → In s (betterOf t g best k)
 unfolding betterOf
 better-in s t g (key.At b) k was is = pick-rule (In s) (ltb (loadOf t g k) (loadOf t g b)) (λ e. is) (λ e. was)
 better-in s t g key.Nothing k was is = is
@@ -94,9 +99,11 @@ least-in : (s : List ℕ) (t : Table) (g n k : ℕ) (best : Key) → In s best �
 unfolding leastFrom
 least-in s t g zero k best was = was
 least-in s t g (suc n) k best was =
-    least-in s t g n (k + 1) (pick (containsOf s k) (betterOf t g best k) best) (pick-rule (In s) (containsOf s k) (λ e. better-in s t g best k was e) (λ e. was))
+    least-in s t g n (k + 1) (pick (containsOf s k) (betterOf t g best k) best) (pick-rule (In s) (containsOf s k)
+    (λ e. better-in s t g best k was e) (λ e. was))
 
-live-in : (keys : Table) (g k : ℕ) → containsOf (keysAt keys (slabRow g)) k ≡ true → slotAt g k < 128 → liveOf keys g k ≡ true
+live-in : (keys : Table) (g k : ℕ) → containsOf (keysAt keys (slabRow g)) k ≡ true → slotAt g k < 128 → liveOf keys g k
+    ≡ true
 unfolding liveOf
 live-in keys g k is low = rw (lt-ltb (slotAt g k) 128 low) is
 
@@ -111,7 +118,8 @@ in-goes keys g key.Nothing is = is
 
 least-goes : (keys t : Table) (g : ℕ) → Goes keys g (leastOf keys t g)
 unfolding leastOf
-least-goes keys t g = in-goes keys g (leastFrom (keysAt keys (slabRow g)) t g 16 0 key.Nothing) (least-in (keysAt keys (slabRow g)) t g 16 0 key.Nothing (omega arith))
+least-goes keys t g = in-goes keys g (leastFrom (keysAt keys (slabRow g)) t g 16 0 key.Nothing)
+    (least-in (keysAt keys (slabRow g)) t g 16 0 key.Nothing (omega arith))
 
 idle-live : (keys actors : Table) (g k : ℕ) → idleKey keys actors g k ≡ true → liveOf keys g k ≡ true
 unfolding idleKey
@@ -126,12 +134,15 @@ unfolding popIdleRow
 pop-goes keys actors g zero row = omega arith
 pop-goes keys actors g (suc n) row = go (lastOf row) refl (pop-goes keys actors g n (popEnd row))
   where
-    go : (k : Key) → lastOf row ≡ k → Goes keys g (popIdleRow keys actors g n (popEnd row) .key) → Goes keys g (popIdleRow keys actors g (suc n) row .key)
+    go : (k : Key) → lastOf row ≡ k → Goes keys g (popIdleRow keys actors g n (popEnd row) .key)
+        → Goes keys g (popIdleRow keys actors g (suc n) row .key)
     go (key.At k) e later =
-        rw (e, popIdleRow) (pick-rule (λ (p : Popped). Goes keys g (p .key)) (idleKey keys actors g k) (λ f. λ low. idle-live keys actors g k f) (λ f. later))
+        rw (e, popIdleRow) (pick-rule (λ (p : Popped). Goes keys g (p .key)) (idleKey keys actors g k)
+        (λ f. λ low. idle-live keys actors g k f) (λ f. later))
     go key.Nothing e later = rw (e, popIdleRow) later
 
-goes-same : {keys actors keys′ actors′ : Table} → Same keys actors keys′ actors′ → (g : ℕ) (k : Key) → Goes keys g k → Goes keys′ g k
+goes-same : {keys actors keys′ actors′ : Table} → Same keys actors keys′ actors′ → (g : ℕ) (k : Key) → Goes keys g k
+    → Goes keys′ g k
 goes-same s g (key.At k) goes = λ low. same-live s g k (goes low)
 goes-same s g key.Nothing goes = goes
 
@@ -144,9 +155,11 @@ unfolding popIdleOf
 popped-goes keys actors g = pop-goes keys actors g (countOf (keysAt keys (idleRow g))) (keysAt keys (idleRow g))
 
 idle-goes : (keys actors : Table) (g : ℕ) → Goes (popIdleOf keys actors g .keys) g (popIdleOf keys actors g .key)
-idle-goes keys actors g = goes-same (idle-same keys actors g) g (popIdleOf keys actors g .key) (popped-goes keys actors g)
+idle-goes keys actors g = goes-same (idle-same keys actors g) g (popIdleOf keys actors g .key) (popped-goes keys actors
+    g)
 
-spawn-goes : (t keys actors : Table) (l : Lives t keys actors) (g : ℕ) (e : Bool) → Goes (spawnOf keys actors g e .keys) g (spawnOf keys actors g e .key)
+spawn-goes : (t keys actors : Table) (l : Lives t keys actors) (g : ℕ) (e : Bool)
+    → Goes (spawnOf keys actors g e .keys) g (spawnOf keys actors g e .key)
 spawn-goes t keys actors l g e = go (spawnOf keys actors g e .key) refl
   where
     go : (k : Key) → spawnOf keys actors g e .key ≡ k → Goes (spawnOf keys actors g e .keys) g k
@@ -161,7 +174,8 @@ module _ (t : Table) (good : Good t) (h : stepHand t ≤ 0) where
     pub free : stepHand r ≤ 0
 
   module _ (keys actors : Table) (l : Lives t keys actors) (g k : ℕ) where
-    mailed-in : slotAt g k < 128 → liveOf keys g k ≡ true → Rests (moveFirst t BATCH (mailboxOf (slotAt g k))) keys actors
+    mailed-in : slotAt g k < 128 → liveOf keys g k ≡ true → Rests (moveFirst t BATCH (mailboxOf (slotAt g k))) keys
+        actors
     mailed-in low live = record {
       lives =
           changes-lives g k (S .group) (S .key) (live-given-key keys g k live) (record {
@@ -179,7 +193,13 @@ module _ (t : Table) (good : Good t) (h : stepHand t ≤ 0) where
         S = live-slot keys g k live
 
         pair : Pair t BATCH (6 + 2 * (16 * g + k))
-        pair = record { good = good; from-is = omega arith; to-is = omega (arith, S .group, S .key); apart = λ e. omega arith }
+        pair = record {
+          good = good;
+          from-is = omega arith;
+          to-is = omega (arith, S .group, S .key);
+          apart =
+              λ e. omega arith;
+        }
 
         lens : FirstLens t (moveFirst t BATCH (mailboxOf (slotAt g k))) BATCH (6 + 2 * (16 * g + k))
         lens = rw (S .mail) (first-lens pair)
@@ -190,7 +210,8 @@ module _ (t : Table) (good : Good t) (h : stepHand t ≤ 0) where
     mailed-out : (slotAt g k < 128 → ⊥) → Rests (moveFirst t BATCH (mailboxOf (slotAt g k))) keys actors
     mailed-out out =
         rw (mailbox-past (slotAt g k) (omega arith))
-        (first-rule t good BATCH LISTS (λ (r : Table). Rests r keys actors) (record { lives = l; free = h }) (λ pair. absurd (omega (arith, pair .to-is))))
+        (first-rule t good BATCH LISTS (λ (r : Table). Rests r keys actors) (record { lives = l; free = h })
+        (λ pair. absurd (omega (arith, pair .to-is))))
 
     mailed : Goes keys g (key.At k) → Rests (moveFirst t BATCH (mailboxOf (slotAt g k))) keys actors
     mailed goes = go (decLt (slotAt g k) 128)
@@ -199,78 +220,105 @@ module _ (t : Table) (good : Good t) (h : stepHand t ≤ 0) where
         go (yes p) = mailed-in p (goes p)
         go (no p) = mailed-out p
 
-  same-rests : {r keys actors keys′ actors′ : Table} → Same keys actors keys′ actors′ → Rests r keys actors → Rests r keys′ actors′
+  same-rests : {r keys actors keys′ actors′ : Table} → Same keys actors keys′ actors′ → Rests r keys actors
+      → Rests r keys′ actors′
   same-rests s x = record { lives = same-lives s (x .lives); free = x .free }
 
   abbrev SentRests : Sent → Type 0
   SentRests s = Rests (s .links) (s .keys) (s .actors)
 
   module _ (rows : Table) (q left : ℕ) where
-    sent : (keys actors : Table) → Lives t keys actors → (g k : ℕ) → Goes keys g (key.At k) → SentRests (to.deliver t keys actors g k q left)
+    sent : (keys actors : Table) → Lives t keys actors → (g k : ℕ) → Goes keys g (key.At k)
+        → SentRests (to.deliver t keys actors g k q left)
     unfolding to.deliver to.deliverTo to.wakeAt
     sent keys actors l g k goes =
-        same-rests (put-schedule keys actors g k (deliveredTo (actorAt actors (slotAt g k))) refl refl) (mailed keys actors l g k goes)
+        same-rests (put-schedule keys actors g k (deliveredTo (actorAt actors (slotAt g k))) refl refl)
+        (mailed keys actors l g k goes)
 
-    lost : (keys actors : Table) → Lives t keys actors → SentRests (to.lostTo (to.undeliverable t rows left) keys actors q)
+    lost : (keys actors : Table) → Lives t keys actors → SentRests (to.lostTo (to.undeliverable t rows left) keys
+        actors q)
     unfolding to.undeliverable
     lost keys actors l = record {
       lives = less-lives t _ keys actors (over-less t rows good BATCH) l;
       free = omega (arith, less-at t _ (over-less t rows good BATCH) 5 (omega arith));
     }
 
-    by-key : (keys actors : Table) → Lives t keys actors → (g : ℕ) (k : Key) → Goes keys g k → SentRests (to.deliverKey t rows keys actors g k q left)
+    by-key : (keys actors : Table) → Lives t keys actors → (g : ℕ) (k : Key) → Goes keys g k
+        → SentRests (to.deliverKey t rows keys actors g k q left)
     unfolding to.deliverKey
     by-key keys actors l g (key.At k) goes = sent keys actors l g k goes
     by-key keys actors l g key.Nothing goes = lost keys actors l
 
-    by-spawn : (keys actors : Table) → Lives t keys actors → (g : ℕ) (e : Bool) → SentRests (to.routeSpawned t rows keys actors g e q left)
-    unfolding to.routeSpawned
-    by-spawn keys actors l g e = by-key _ _ (spawn-lives t keys actors l g e .lives) g (spawnOf keys actors g e .key) (spawn-goes t keys actors l g e)
-
-    by-least : (keys actors : Table) → Lives t keys actors → (g : ℕ) → SentRests (to.routeLeast t rows keys actors g q left)
+    by-least : (keys actors : Table) → Lives t keys actors → (g : ℕ)
+        → SentRests (to.routeLeast t rows keys actors g q left)
     unfolding to.routeLeast
     by-least keys actors l g = by-key keys actors l g (leastOf keys t g) (least-goes keys t g)
 
-    by-new : (groups keys actors : Table) → Lives t keys actors → (g : ℕ) → SentRests (to.routeNew groups t rows keys actors g q left)
+    by-spawned : (keys actors : Table) → Lives t keys actors → (g : ℕ) (k : Key) → Goes keys g k
+        → SentRests (to.spawnedSent t rows g q left keys actors k)
+    by-spawned keys actors l g (key.At k) goes = sent keys actors l g k goes
+    by-spawned keys actors l g key.Nothing goes = by-least keys actors l g
+
+    by-spawn : (keys actors : Table) → Lives t keys actors → (g : ℕ) (e : Bool)
+        → SentRests (to.routeSpawned t rows keys actors g e q left)
+    unfolding to.routeSpawned
+    by-spawn keys actors l g e =
+        by-spawned _ _ (spawn-lives t keys actors l g e .lives) g (spawnOf keys actors g e .key)
+        (spawn-goes t keys actors l g e)
+
+    by-new : (groups keys actors : Table) → Lives t keys actors → (g : ℕ)
+        → SentRests (to.routeNew groups t rows keys actors g q left)
     unfolding to.routeNew
     by-new groups keys actors l g =
         pick-rule SentRests (ltb (liveLen keys g) (groupAt groups g .ceiling))
-        (λ e. pick-rule SentRests (groupAt groups g .eval) (λ e. by-spawn keys actors l g true) (λ e. record { lives = l; free = h }))
+        (λ e. pick-rule SentRests (groupAt groups g .eval) (λ e. by-spawn keys actors l g true)
+        (λ e. record { lives = l; free = h }))
         (λ e. by-least keys actors l g)
 
-    by-idle : (groups keys actors : Table) → Lives t keys actors → (g : ℕ) (k : Key) → Goes keys g k → SentRests (to.routeIdle groups t rows actors g q left keys k)
+    by-idle : (groups keys actors : Table) → Lives t keys actors → (g : ℕ) (k : Key) → Goes keys g k
+        → SentRests (to.routeIdle groups t rows actors g q left keys k)
     by-idle groups keys actors l g (key.At k) goes = sent keys actors l g k goes
     by-idle groups keys actors l g key.Nothing goes = by-new groups keys actors l g
 
-    by-group : (groups keys actors : Table) → Lives t keys actors → (g : ℕ) → SentRests (to.routeTo groups t rows keys actors g q left)
+    by-group : (groups keys actors : Table) → Lives t keys actors → (g : ℕ)
+        → SentRests (to.routeTo groups t rows keys actors g q left)
     unfolding to.routeTo
     by-group groups keys actors l g =
-        by-idle groups (popIdleOf keys actors g .keys) actors (same-lives (idle-same keys actors g) l) g (popIdleOf keys actors g .key) (idle-goes keys actors g)
+        by-idle groups (popIdleOf keys actors g .keys) actors (same-lives (idle-same keys actors g) l) g
+        (popIdleOf keys actors g .key) (idle-goes keys actors g)
 
-    by-named : (groups keys actors : Table) → Lives t keys actors → (n : Named) → SentRests (to.routeNamed groups t rows keys actors q left n)
+    by-named : (groups keys actors : Table) → Lives t keys actors → (n : Named)
+        → SentRests (to.routeNamed groups t rows keys actors q left n)
     by-named groups keys actors l (named.Group g) = by-group groups keys actors l g
     by-named groups keys actors l named.Nothing = lost keys actors l
 
-    by-first : (groups : Table) (count : ℕ) (store : List ℕ) (keys actors : Table) → Lives t keys actors → (f : Found) → SentRests (to.routeFirst groups count store t rows keys actors q left f)
+    by-first : (groups : Table) (count : ℕ) (store : List ℕ) (keys actors : Table) → Lives t keys actors → (f : Found)
+        → SentRests (to.routeFirst groups count store t rows keys actors q left f)
     unfolding to.routeOne
-    by-first groups count store keys actors l (found.Entry e) = by-named groups keys actors l (groupFor groups store e (messageAt rows e .name) count)
+    by-first groups count store keys actors l (found.Entry e) = by-named groups keys actors l (groupFor groups store e
+        (messageAt rows e .name) count)
     by-first groups count store keys actors l found.Nothing = record { lives = l; free = h }
 
-    pub route-rests : (groups : Table) (count : ℕ) (store : List ℕ) (keys actors : Table) → Lives t keys actors → SentRests (routeOf groups count store t rows keys actors q left)
+    pub route-rests : (groups : Table) (count : ℕ) (store : List ℕ) (keys actors : Table) → Lives t keys actors
+        → SentRests (routeOf groups count store t rows keys actors q left)
     unfolding to.routeOf
     route-rests groups count store keys actors l =
-        pick-rule SentRests (eqb left 0) (λ e. record { lives = l; free = h }) (λ e. by-first groups count store keys actors l (firstOf t BATCH))
+        pick-rule SentRests (eqb left 0) (λ e. record { lives = l; free = h }) (λ e. by-first groups count store keys
+        actors l (firstOf t BATCH))
 
-    by-boot : (keys actors : Table) → Lives t keys actors → (g : ℕ) (b : Bool) → SentRests (to.routeBooted t rows keys actors g q left b)
+    by-boot : (keys actors : Table) → Lives t keys actors → (g : ℕ) (b : Bool)
+        → SentRests (to.routeBooted t rows keys actors g q left b)
     unfolding to.routeBooted
     by-boot keys actors l g true = by-spawn keys actors l g false
     by-boot keys actors l g false = by-least keys actors l g
 
-    by-yes : (keys actors : Table) → Lives t keys actors → (g : ℕ) (y : YesIn) → SentRests (to.routeBy t rows keys actors g q left y)
+    by-yes : (keys actors : Table) → Lives t keys actors → (g : ℕ) (y : YesIn)
+        → SentRests (to.routeBy t rows keys actors g q left y)
     by-yes keys actors l g yes.Yes = by-boot keys actors l g true
     by-yes keys actors l g yes.No = by-boot keys actors l g false
     by-yes keys actors l g yes.Other = record { lives = l; free = h }
 
-    pub route-reply-rests : (keys actors : Table) → Lives t keys actors → (g : ℕ) (r : Reply) → SentRests (routeReply t rows keys actors g q left r)
+    pub route-reply-rests : (keys actors : Table) → Lives t keys actors → (g : ℕ) (r : Reply)
+        → SentRests (routeReply t rows keys actors g q left r)
     unfolding to.routeReply
     route-reply-rests keys actors l g r = by-yes keys actors l g (yesIn r)

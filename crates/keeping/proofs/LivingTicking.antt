@@ -24,15 +24,21 @@ use Rattle.actor.specs.Questions.{yesIn, countIn}
 use Rattle.actor.specs.Messages.{messageAt}
 use Rattle.actor.specs.Actors.{actorAt, putActor, scheduledAs, beganStep, startedAs, blockedTo, yieldedAs, wokenAs}
 use Rattle.steps.specs.declared.step.Step.{Step}
-use Rattle.steps.specs.declared.step.Step.the-variants as end
-use Rattle.steps.specs.declared.fixed.FixedAt.{FixedAt}
-use Rattle.steps.specs.declared.fixed.FixedAt.the-variants as fixed
-use Rattle.steps.specs.declared.eval.EvalAt.{EvalAt}
-use Rattle.steps.specs.declared.eval.EvalAt.the-variants as eval
-use Rattle.steps.specs.Steps.{HAND}
+use Rattle.steps.specs.declared.step.Step.the-variants as step
+use Rattle.steps.specs.declared.step.End.{End}
+use Rattle.steps.specs.declared.step.End.the-variants as end
+use Rattle.steps.specs.declared.step.Parked.{Parked}
+use Rattle.steps.specs.declared.step.Parked.the-variants as parked
+use Rattle.steps.specs.declared.fixed.FixedAsk.{FixedAsk}
+use Rattle.steps.specs.declared.fixed.FixedNext.{FixedNext}
+use Rattle.steps.specs.declared.fixed.FixedNext.the-variants as fixed
+use Rattle.steps.specs.declared.eval.EvalNext.{EvalNext}
+use Rattle.steps.specs.declared.eval.EvalNext.the-variants as eval
+use Rattle.steps.specs.Steps.{HAND, overFirst}
 use Rattle.steps.specs.StepFixed.{fixedStart}
 use Rattle.steps.specs.StepEval.{evalStart}
 use Rattle.group.specs.declared.at.At.{At}
+use Rattle.group.specs.declared.at.At.the-variants as at
 use Rattle.group.specs.declared.at.Cursor.{Cursor}
 use Rattle.group.specs.At.{fixedAfter, evalAfter}
 use Rattle.group.specs.Settings.{groupAt}
@@ -47,9 +53,14 @@ use Rattle.ticking.specs.Settle.{PENDING, slotOn, stepEnd, settleOf}
 use Rattle.ticking.specs.Crash as crashing
 use Rattle.ticking.specs.Crash.{Dying, Crashing, crashOf, trapReply, trappedReply, doomedOf}
 use Rattle.places.proofs.Steps.{pick-rule}
-use Rattle.keeping.specs.Living.{mailLen, handLen, stepHand, Lives, EndHands, FixedHands, EvalHands, Lively, IsFixed, AtLives}
-use Rattle.keeping.proofs.Living.{Slot, Less, less-same, less-then, less-at, less-lives, first-less, first-left, all-less, all-left, over-less, over-left, over-all-less, over-all-left, Same, same-both, same-then, same-lives, set-row, ready-row, idle-row, waiting-row, high-row, push-row, put-same, put-schedule, remove-lives}
-use Rattle.keeping.proofs.LivingSteps.{eval-begins}
+use Rattle.keeping.specs.Living.{mailLen, handLen, stepHand, Lives, StepHands, EndHands, Lively, IsFixed}
+use Rattle.keeping.specs.Living.{AtLives}
+use Rattle.keeping.proofs.Living.{Slot, live-slot, Less, less-same, less-then, less-at, less-lives, first-less}
+use Rattle.keeping.proofs.Living.{first-left, all-less, all-left, over-less, over-left, over-all-less}
+use Rattle.keeping.proofs.Living.{over-all-left, Same, same-both, same-then, same-lives, same-live, set-row}
+use Rattle.keeping.proofs.Living.{ready-row, idle-row, waiting-row, high-row, push-row, put-same, put-schedule}
+use Rattle.keeping.proofs.Living.{remove-lives}
+use Rattle.keeping.proofs.LivingSteps.{FixedNextHands, EvalNextHands, eval-begins}
 
 -- ---- waking changes keys and actors elsewhere
 
@@ -57,23 +68,28 @@ module _ (keys actors : Table) where
   abbrev WakedSame : Waked → Type 0
   WakedSame s = Same keys actors (s .keys) (s .actors)
 
-  woken-same : (g k : ℕ) (b : Bool) → Same keys actors (waking.wokenTo keys actors g k b .keys) (waking.wokenTo keys actors g k b .actors)
+  woken-same : (g k : ℕ) (b : Bool) → Same keys actors (waking.wokenTo keys actors g k b .keys)
+      (waking.wokenTo keys actors g k b .actors)
   unfolding waking.wokenTo
   woken-same g k true = put-schedule keys actors g k (wokenAs (actorAt actors (slotAt g k))) refl refl
   woken-same g k false =
-      pick-rule (λ (s : Keyed). Same keys actors (s .keys) (s .actors)) (actorAt actors (slotAt g k) .idle) (λ e. same-both keys actors)
+      pick-rule (λ (s : Keyed). Same keys actors (s .keys) (s .actors)) (actorAt actors (slotAt g k) .idle)
+      (λ e. same-both keys actors)
       (λ e. push-row keys actors (waitingRow g) k (waiting-row g))
 
   one-same : (g k clock left : ℕ) → WakedSame (waking.wakeOne keys actors g k clock left)
   unfolding waking.wakeOne
   one-same g k clock left =
       pick-rule WakedSame (liveOf keys g k)
-      (λ e. pick-rule WakedSame (waking.lateAt (actorAt actors (slotAt g k) .«wake_at») clock) (λ e. woken-same g k true)
-      (λ e. pick-rule WakedSame (waking.pollsOf (actorAt actors (slotAt g k))) (λ e. same-both keys actors) (λ e. woken-same g k false)))
+      (λ e. pick-rule WakedSame (waking.lateAt (actorAt actors (slotAt g k) .«wake_at») clock)
+      (λ e. woken-same g k true)
+      (λ e. pick-rule WakedSame (waking.pollsOf (actorAt actors (slotAt g k))) (λ e. same-both keys actors)
+      (λ e. woken-same g k false)))
       (λ e. same-both keys actors)
 
   by-poll : (g k clock left : ℕ) (n : CountIn) → WakedSame (waking.pollBy keys actors g k clock left n)
-  by-poll g k clock left (count.Of n) = pick-rule WakedSame (ltb 0 n) (λ e. woken-same g k true) (λ e. woken-same g k false)
+  by-poll g k clock left (count.Of n) = pick-rule WakedSame (ltb 0 n) (λ e. woken-same g k true)
+      (λ e. woken-same g k false)
   by-poll g k clock left count.Other = same-both keys actors
 
   pub poll-same : (g k clock left : ℕ) (r : Reply) → WakedSame (pollReply keys actors g k clock left r)
@@ -85,7 +101,8 @@ module _ (keys actors : Table) where
   wake-same n g clock =
       pick-rule P (leb n g) (λ e. same-both keys actors)
       (λ e. pick-rule P (leb 8 g) (λ e. same-both keys actors)
-      (λ e. same-then (set-row keys actors REST _ (high-row REST (omega arith))) (set-row _ actors (waitingRow g) blankRow (waiting-row g))))
+      (λ e. same-then (set-row keys actors REST _ (high-row REST (omega arith))) (set-row _ actors (waitingRow g)
+      blankRow (waiting-row g))))
     where
       P : Listed → Type 0
       P s = Same keys actors (s .keys) actors
@@ -108,15 +125,20 @@ module _ (keys actors : Table) where
   unfolding trappedReply
   trapped-same c k r = trapped-by c k (yesIn r)
 
-wake-first-same : (keys actors : Table) (g clock left : ℕ) (k : Key) → Same keys actors (waking.wakeFirst keys actors g clock left k .keys) (waking.wakeFirst keys actors g clock left k .actors)
+wake-first-same : (keys actors : Table) (g clock left : ℕ) (k : Key)
+    → Same keys actors (waking.wakeFirst keys actors g clock left k .keys) (waking.wakeFirst keys actors g clock left k
+    .actors)
 wake-first-same keys actors g clock left (key.At k) =
-    same-then (set-row keys actors REST _ (high-row REST (omega arith))) (one-same (set keys REST (popFront (keysAt keys REST))) actors g k clock (left - 1))
+    same-then (set-row keys actors REST _ (high-row REST (omega arith)))
+    (one-same (set keys REST (popFront (keysAt keys REST))) actors g k clock (left - 1))
 wake-first-same keys actors g clock left key.Nothing = same-both keys actors
 
-pub wake-next-same : (keys actors : Table) (g clock left : ℕ) → Same keys actors (wakeNext keys actors g clock left .keys) (wakeNext keys actors g clock left .actors)
+pub wake-next-same : (keys actors : Table) (g clock left : ℕ)
+    → Same keys actors (wakeNext keys actors g clock left .keys) (wakeNext keys actors g clock left .actors)
 unfolding wakeNext
 wake-next-same keys actors g clock left =
-    pick-rule (λ (s : Waked). Same keys actors (s .keys) (s .actors)) (eqb left 0) (λ e. same-both keys actors) (λ e. wake-first-same keys actors g clock left (frontOf (keysAt keys REST)))
+    pick-rule (λ (s : Waked). Same keys actors (s .keys) (s .actors)) (eqb left 0) (λ e. same-both keys actors)
+    (λ e. wake-first-same keys actors g clock left (frontOf (keysAt keys REST)))
 
 -- ---- a step begins
 
@@ -125,57 +147,63 @@ pub record Stands (a : At) (t keys actors : Table) : Type 0 where
   pub lives : Lives t keys actors
   pub ok : AtLives a t keys actors
 
-pub fixed-after-lives : (t keys actors : Table) (c : Cursor) (a : FixedAt) → Lively keys c → IsFixed actors c → FixedHands c a t → AtLives (fixedAfter c a) t keys actors
-fixed-after-lives t keys actors c (fixed.Run start) live is h = ((live, is), h)
-fixed-after-lives t keys actors c fixed.Drain live is h = ((live, is), h)
-fixed-after-lives t keys actors c fixed.Push live is h = ((live, is), h)
-fixed-after-lives t keys actors c fixed.Dispatch live is h = ((live, is), h)
-fixed-after-lives t keys actors c (fixed.End e) live is h = h
+pub fixed-after-lives : (t keys actors : Table) (c : Cursor) (n : FixedNext) → Lively keys c → IsFixed actors c
+    → FixedNextHands c n t
+    → AtLives (fixedAfter c n) t keys actors
+fixed-after-lives t keys actors c (fixed.Asks a) live is h = ((live, is), h)
+fixed-after-lives t keys actors c (fixed.Ended s) live is h = h
 
-pub eval-after-lives : (t keys actors : Table) (c : Cursor) (a : EvalAt) → Lively keys c → EvalHands c a t → AtLives (evalAfter c a) t keys actors
-eval-after-lives t keys actors c eval.Clock live h = (live, h)
-eval-after-lives t keys actors c eval.Boot live h = (live, h)
-eval-after-lives t keys actors c eval.StartClock live h = (live, h)
-eval-after-lives t keys actors c (eval.Run start) live h = (live, h)
-eval-after-lives t keys actors c eval.Dispatch live h = (live, h)
-eval-after-lives t keys actors c (eval.Tell o) live h = (live, h)
-eval-after-lives t keys actors c (eval.End e) live h = h
+pub eval-after-lives : (t keys actors : Table) (c : Cursor) (n : EvalNext) → Lively keys c → EvalNextHands c n t
+    → AtLives (evalAfter c n) t keys actors
+eval-after-lives t keys actors c (eval.Asks a) live h = (live, h)
+eval-after-lives t keys actors c (eval.Ended p) live h = h
 
 module _ (t keys : Table) (good : Good t) (h : stepHand t ≤ 0) (q : ℕ) where
   abbrev StepStands : Stepping → Type 0
   StepStands s = Stands (s .begun .at) (s .links) keys (s .actors)
 
-  fixed-begins : (actors : Table) → Lives t keys actors → (c : Cursor) → Lively keys c → actorAt actors (slotOn c) .mode ≡ mode.Fixed
+  fixed-begins : (actors : Table) → Lives t keys actors → (c : Cursor) → Lively keys c
+      → actorAt actors (slotOn c) .mode ≡ mode.Fixed
       → StepStands (readying.fixedBegun t q (readying.beginFixed actors c (slotOn c)))
   unfolding readying.beginFixed fixedStart
   fixed-begins actors l c live is = record {
     lives = same-lives started l;
-    ok = pick-rule (λ (a : FixedAt). AtLives (fixedAfter c a) t keys (putActor actors (slotOn c) (startedAs (actorAt actors (slotOn c))))) (actorAt actors (slotOn c) .started)
+    ok = pick-rule (λ (a : FixedAsk). AtLives (at.Fixed c a) t keys (putActor actors (slotOn c)
+        (startedAs (actorAt actors (slotOn c))))) (actorAt actors (slotOn c) .started)
         (λ e. ((live, started .modes (slotOn c) ∙ is), h)) (λ e. ((live, started .modes (slotOn c) ∙ is), h));
   }
     where
       started : Same keys actors keys (putActor actors (slotOn c) (startedAs (actorAt actors (slotOn c))))
       started = put-same keys actors (slotOn c) (startedAs (actorAt actors (slotOn c))) refl refl
 
-  eval-starts : (actors : Table) → Lives t keys actors → (c : Cursor) → Lively keys c → actorAt actors (slotOn c) .mode ≡ mode.Eval
+  eval-starts : (actors : Table) → Lives t keys actors → (c : Cursor) → Lively keys c → actorAt actors (slotOn c) .mode
+      ≡ mode.Eval
       → StepStands (readying.beginEval t actors c (slotOn c) q)
   unfolding readying.beginEval
   eval-starts actors l c live is =
       let begun = eval-begins t t keys actors good l c live is q h in
-      record { lives = begun .lives; ok = eval-after-lives _ keys _ c (evalStart t actors (slotOn c) q .step .at) live (begun .hands) }
+      record {
+        lives = begun .lives;
+        ok = eval-after-lives _ keys _ c (evalStart t actors (slotOn c) q .step .next)
+            live (begun .hands);
+      }
 
-  step-begins : (actors : Table) → Lives t keys actors → (c : Cursor) → Lively keys c → StepStands (readying.beginStep t actors c (slotOn c) q)
+  step-begins : (actors : Table) → Lives t keys actors → (c : Cursor) → Lively keys c
+      → StepStands (readying.beginStep t actors c (slotOn c) q)
   unfolding readying.beginStep
   step-begins actors l c live = go (actorAt actors (slotOn c) .mode) refl
     where
       began : Same keys actors keys (putActor actors (slotOn c) (beganStep (actorAt actors (slotOn c))))
       began = put-same keys actors (slotOn c) (beganStep (actorAt actors (slotOn c))) refl refl
 
-      go : (m : Mode) → actorAt actors (slotOn c) .mode ≡ m → StepStands (readying.beginBy t (putActor actors (slotOn c) (beganStep (actorAt actors (slotOn c)))) c (slotOn c) q m)
+      go : (m : Mode) → actorAt actors (slotOn c) .mode ≡ m
+          → StepStands (readying.beginBy t (putActor actors (slotOn c) (beganStep (actorAt actors (slotOn c)))) c
+          (slotOn c) q m)
       go mode.Fixed e = fixed-begins _ (same-lives began l) c live (began .modes (slotOn c) ∙ e)
       go mode.Eval e = eval-starts _ (same-lives began l) c live (began .modes (slotOn c) ∙ e)
 
-  ready-key : (actors : Table) → Lives t keys actors → (c : Cursor) (stepped : Bool) → StepStands (readying.readyKey t keys actors c q stepped)
+  ready-key : (actors : Table) → Lives t keys actors → (c : Cursor) (stepped : Bool)
+      → StepStands (readying.readyKey t keys actors c q stepped)
   unfolding readying.readyKey
   ready-key actors l c stepped =
       pick-rule StepStands (liveOf keys (c .group) (c .key))
@@ -187,28 +215,29 @@ module _ (t keys : Table) (good : Good t) (h : stepHand t ≤ 0) (q : ℕ) where
       unscheduled : Same keys actors keys (readying.unscheduled actors (slotOn c))
       unscheduled = put-same keys actors (slotOn c) (scheduledAs (actorAt actors (slotOn c)) false) refl refl
 
-module _ (t keys actors : Table) (good : Good t) (l : Lives t keys actors) (h : stepHand t ≤ 0) (q : ℕ) (stepped : Bool) (g clock pops : ℕ) where
+module _ (t keys actors : Table) (good : Good t) (l : Lives t keys actors) (h : stepHand t ≤ 0) (q : ℕ)
+    (stepped : Bool) (g clock pops : ℕ) where
   abbrev ReadyStands : Readied → Type 0
   ReadyStands s = Stands (s .begun .at) (s .links) (s .keys) (s .actors)
 
   ready-front : (k : Key) → ReadyStands (readying.readyFront t keys actors q stepped g clock pops k)
   ready-front (key.At k) =
-      ready-key t (readying.popReady keys g) good h q actors (same-lives (set-row keys actors (readyRow g) _ (ready-row g)) l) (readying.cursorAt g k clock (pops - 1)) stepped
+      ready-key t (readying.popReady keys g) good h q actors
+      (same-lives (set-row keys actors (readyRow g) _ (ready-row g)) l) (readying.cursorAt g k clock (pops - 1))
+      stepped
   ready-front key.Nothing = record { lives = l; ok = h }
 
   pub ready-stands : ReadyStands (readyOf t keys actors q stepped g clock pops)
   unfolding readyOf
-  ready-stands = pick-rule ReadyStands (eqb pops 0) (λ e. record { lives = l; ok = h }) (λ e. ready-front (frontOf (keysAt keys (readyRow g))))
+  ready-stands = pick-rule ReadyStands (eqb pops 0) (λ e. record { lives = l; ok = h })
+      (λ e. ready-front (frontOf (keysAt keys (readyRow g))))
 
 -- ---- a step ends
 
-pub step-end-lives : (t keys actors : Table) (c : Cursor) (s : Step) → EndHands c s t → AtLives (stepEnd actors c s) t keys actors
-unfolding stepEnd
-step-end-lives t keys actors c s h = go (actorAt actors (slotOn c) .mode)
-  where
-    go : (m : Mode) → AtLives (settling.endBy c s m) t keys actors
-    go mode.Fixed = h
-    go mode.Eval = h
+pub step-end-lives : (t keys actors : Table) (c : Cursor) (e : End) → EndHands c e t → AtLives (stepEnd c e) t keys
+    actors
+step-end-lives t keys actors c (end.Fixed s) h = h
+step-end-lives t keys actors c (end.Eval p) h = h
 
 -- the mailbox of an actor that leaves its group
 pub record Emptied (t r : Table) (g k : ℕ) : Type 0 where
@@ -218,17 +247,24 @@ pub record Emptied (t r : Table) (g k : ℕ) : Type 0 where
 back-empties : (t : Table) → Good t → (g k : ℕ) → Emptied t (moveAll t (mailboxOf (slotAt g k)) PENDING) g k
 back-empties t good g k = record {
   less = all-less t good (mailboxOf (slotAt g k)) PENDING (omega arith);
-  mail = λ S. rw (S .mail) (all-left t good (6 + 2 * (16 * g + k)) PENDING (omega arith) (omega (arith, S .group, S .key)) (omega arith));
+  mail = λ S. rw (S .mail) (all-left t good (6 + 2 * (16 * g + k)) PENDING (omega arith)
+      (omega (arith, S .group, S .key)) (omega arith));
 }
 
-over-empties : (t rows : Table) → Good t → (g k : ℕ) → Emptied t (overAll t rows (mailboxOf (slotAt g k)) (lenOf t (mailboxOf (slotAt g k)))) g k
+over-empties : (t rows : Table) → Good t → (g k : ℕ)
+    → Emptied t (overAll t rows (mailboxOf (slotAt g k)) (lenOf t (mailboxOf (slotAt g k)))) g k
 over-empties t rows good g k = record {
   less = over-all-less (lenOf t (mailboxOf (slotAt g k))) t rows good (mailboxOf (slotAt g k));
   mail = λ S. rw (S .mail)
-      (omega (arith, over-all-left (lenOf t (6 + 2 * (16 * g + k))) t rows good (6 + 2 * (16 * g + k)) (omega arith) (omega (arith, S .group, S .key))));
+      (omega (
+        arith,
+        over-all-left (lenOf t (6 + 2 * (16 * g + k))) t rows good (6 + 2 * (16 * g + k)) (omega arith)
+            (omega (arith, S .group, S .key)),
+      ));
 }
 
-go-empties : (t rows : Table) → Good t → (g k : ℕ) (consumed : Bool) (q : ℕ) → Emptied t (settling.letGo t rows (slotAt g k) consumed q .links) g k
+go-empties : (t rows : Table) → Good t → (g k : ℕ) (consumed : Bool) (q : ℕ)
+    → Emptied t (settling.letGo t rows (slotAt g k) consumed q .links) g k
 unfolding settling.letGo
 go-empties t rows good g k true q = back-empties t good g k
 go-empties t rows good g k false q = over-empties t rows good g k
@@ -237,30 +273,43 @@ module _ (t rows keys actors : Table) (good : Good t) (l : Lives t keys actors) 
   abbrev SettleStands : settling.Settling → Type 0
   SettleStands s = Stands (s .settled .at) (s .links) (s .keys) (s .actors)
 
-  let-go : Emptied t (settling.letGo t rows (slotOn c) (actorAt actors (slotOn c) .consumed) q .links) (c .group) (c .key)
+  let-go : Emptied t (settling.letGo t rows (slotOn c) (actorAt actors (slotOn c) .consumed) q .links) (c .group)
+      (c .key)
   let-go = go-empties t rows good (c .group) (c .key) (actorAt actors (slotOn c) .consumed) q
 
-  release-lives : handLen t (c .group) (c .key) ≤ 0 → Lives (settling.releaseOf t rows keys actors c q .links) (settling.releaseOf t rows keys actors c q .keys) actors
+  release-lives : handLen t (c .group) (c .key) ≤ 0 → Lives (settling.releaseOf t rows keys actors c q .links)
+      (settling.releaseOf t rows keys actors c q .keys) actors
   unfolding settling.releaseOf
   release-lives empty =
       remove-lives _ keys actors (less-lives t _ keys actors (let-go .less) l) (c .group) (c .key)
-      (λ S. (let-go .mail S, omega (arith, less-at t _ (let-go .less) (7 + 2 * (16 * c .group + c .key)) (omega arith))))
+      (λ S. (
+        let-go .mail S,
+        omega (
+          arith,
+          less-at t _ (let-go .less) (7 + 2 * (16 * c .group + c .key))
+              (omega arith),
+        ),
+      ))
 
   release-hand : (n : ℕ) → stepHand t ≤ n → stepHand (settling.releaseOf t rows keys actors c q .links) ≤ n
   unfolding settling.releaseOf
   release-hand n h = omega (arith, less-at t _ (let-go .less) 5 (omega arith))
 
-  pub settle-stands : (s : Step) → EndHands c s t → SettleStands (settleOf t rows keys actors c s q)
-  unfolding settleOf settling.blockAt settling.yieldAt
-  settle-stands end.Done h = record { lives = release-lives (h .1); ok = release-hand 0 (h .0) }
-  settle-stands end.Waiting h = record { lives = same-lives (push-row keys actors (idleRow (c .group)) (c .key) (idle-row (c .group))) l; ok = h }
-  settle-stands (end.Blocked until) h = record {
-    lives = same-lives (same-then (push-row keys actors (waitingRow (c .group)) (c .key) (waiting-row (c .group)))
-        (put-same _ actors (slotOn c) (blockedTo (actorAt actors (slotOn c)) until) refl refl)) l;
-    ok = h;
-  }
-  settle-stands end.Yield h = record { lives = same-lives (put-schedule keys actors (c .group) (c .key) (yieldedAs (actorAt actors (slotOn c))) refl refl) l; ok = h }
-  settle-stands end.Failed h = record { lives = release-lives (h .1); ok = release-hand 1 (h .0) }
+  park-same : (p : Parked) → Same keys actors (settling.parkAt keys actors c p .keys) (settling.parkAt keys actors c p
+      .actors)
+  unfolding settling.parkAt settling.blockAt settling.yieldAt
+  park-same parked.Waiting = push-row keys actors (idleRow (c .group)) (c .key) (idle-row (c .group))
+  park-same (parked.Blocked until) =
+      same-then (push-row keys actors (waitingRow (c .group)) (c .key) (waiting-row (c .group)))
+      (put-same _ actors (slotOn c) (blockedTo (actorAt actors (slotOn c)) until) refl refl)
+  park-same parked.Yield = put-schedule keys actors (c .group) (c .key) (yieldedAs (actorAt actors (slotOn c))) refl
+      refl
+
+  pub settle-stands : (s : Step) → StepHands c s t → SettleStands (settleOf t rows keys actors c s q)
+  unfolding settleOf
+  settle-stands step.Done h = record { lives = release-lives (h .1); ok = release-hand 0 (h .0) }
+  settle-stands (step.Parked p) h = record { lives = same-lives (park-same p) l; ok = h }
+  settle-stands step.Failed h = record { lives = release-lives (h .1); ok = release-hand 1 (h .0) }
 
 -- ---- a message crashed
 
@@ -273,34 +322,52 @@ module _ (groups t rows : Table) (good : Good t) (g from dead : ℕ) where
   unfolding crashing.crashedEntry
   entry-crashes e =
       pick-rule (λ (d : Dying). Crashes t (d .links) from) (ltb (messageAt rows e .attempts) (groupAt groups g .retry))
-      (λ b. record { less = first-less t good from PENDING (omega arith); left = λ high is. first-left t good from PENDING high is (omega arith) })
+      (λ b. record {
+        less = first-less t good from PENDING (omega arith);
+        left = λ high is. first-left t good from
+            PENDING high is (omega arith);
+      })
       (λ b. record { less = over-less t rows good from; left = λ high is. over-left t rows good from high is })
 
   pub first-crashes : Crashes t (crashing.crashedFirst groups t rows g from dead .links) from
   unfolding crashing.crashedFirst
   first-crashes =
-      pick-rule (λ (f : Found). Crashes t (crashing.crashedFound groups t rows g from dead f .links) from) (eqb (lenOf t from) 0)
+      pick-rule (λ (f : Found). Crashes t (crashing.crashedFound groups t rows g from dead f .links) from)
+      (eqb (lenOf t from) 0)
       (λ e. record { less = less-same t; left = λ high is. omega (arith, eqb-true (lenOf t from) 0 e) })
       (λ e. entry-crashes (headOf t from))
 
-pub crash-lives : (groups t rows keys actors : Table) → Good t → Lives t keys actors → (c : Cursor) (x : Losses) → Lives (crashOf groups t rows c x .links) keys actors
+pub crash-lives : (groups t rows keys actors : Table) → Good t → Lives t keys actors → (c : Cursor) (x : Losses)
+    → Lives (crashOf groups t rows c x .links) keys actors
 unfolding crashOf
-crash-lives groups t rows keys actors good l c x = less-lives t _ keys actors (first-crashes groups t rows good (c .group) HAND (x .dead) .less) l
+crash-lives groups t rows keys actors good l c x = less-lives t _ keys actors (first-crashes groups t rows good
+    (c .group) HAND (x .dead) .less) l
 
-pub crash-hand : (groups t rows : Table) → Good t → stepHand t ≤ 1 → (c : Cursor) (x : Losses) → stepHand (crashOf groups t rows c x .links) ≤ 0
+pub crash-hand : (groups t rows : Table) → Good t → stepHand t ≤ 1 → (c : Cursor) (x : Losses)
+    → stepHand (crashOf groups t rows c x .links) ≤ 0
 unfolding crashOf
-crash-hand groups t rows good h c x = omega (arith, first-crashes groups t rows good (c .group) HAND (x .dead) .left (omega arith) (omega arith))
+crash-hand groups t rows good h c x = omega (
+  arith,
+  first-crashes groups t rows good (c .group) HAND (x .dead) .left
+      (omega arith) (omega arith),
+)
 
 -- ---- those that were trapped are retired
 
-module _ (groups t rows keys actors : Table) (good : Good t) (l : Lives t keys actors) (h : stepHand t ≤ 0) (c : Cursor) (left q : ℕ) (x : Losses) where
+module _ (groups t rows keys actors : Table) (good : Good t) (l : Lives t keys actors) (h : stepHand t ≤ 0)
+    (c : Cursor) (left q : ℕ) (x : Losses) where
   abbrev DoomStands : Crashing → Type 0
   DoomStands s = Lives (s .links) (s .keys) actors × (stepHand (s .links) ≤ 0)
 
-  doomed-key : (names : Table) → Lives t names actors → (k n : ℕ) → DoomStands (crashing.doomedKey groups t rows names c k n q x)
+  doomed-key : (names : Table) → Lives t names actors → (k n : ℕ)
+      → DoomStands (crashing.doomedKey groups t rows names c k n q x)
   unfolding crashing.doomedKey
   doomed-key names ln k n = (
-    remove-lives _ names actors (less-lives t _ names actors less ln) (c .group) k (λ S. (omega (arith, back .mail S, less-at _ _ (crash .less) (6 + 2 * (16 * c .group + k)) (omega arith)), held S)),
+    remove-lives _ names actors (less-lives t _ names actors less ln) (c .group) k
+        (λ S. (
+          omega (arith, back .mail S, less-at _ _ (crash .less) (6 + 2 * (16 * c .group + k)) (omega arith)),
+          held S,
+        )),
     omega (arith, less-at t _ less 5 (omega arith)),
   )
     where
@@ -310,24 +377,30 @@ module _ (groups t rows keys actors : Table) (good : Good t) (l : Lives t keys a
       back : Emptied t mailed (c .group) k
       back = back-empties t good (c .group) k
 
-      crash : Crashes mailed (crashing.crashedFirst groups mailed rows (c .group) (handOf (slotAt (c .group) k)) (x .dead) .links) (handOf (slotAt (c .group) k))
-      crash = first-crashes groups mailed rows (move-all-good t good (mailboxOf (slotAt (c .group) k)) PENDING) (c .group) (handOf (slotAt (c .group) k)) (x .dead)
+      crash : Crashes mailed (crashing.crashedFirst groups mailed rows (c .group) (handOf (slotAt (c .group) k))
+          (x .dead) .links) (handOf (slotAt (c .group) k))
+      crash = first-crashes groups mailed rows (move-all-good t good (mailboxOf (slotAt (c .group) k)) PENDING)
+          (c .group) (handOf (slotAt (c .group) k)) (x .dead)
 
-      less : Less t (crashing.crashedFirst groups mailed rows (c .group) (handOf (slotAt (c .group) k)) (x .dead) .links)
+      less : Less t (crashing.crashedFirst groups mailed rows (c .group) (handOf (slotAt (c .group) k)) (x .dead)
+          .links)
       less = less-then t mailed _ (back .less) (crash .less)
 
-      held : Slot (c .group) k → handLen (crashing.crashedFirst groups mailed rows (c .group) (handOf (slotAt (c .group) k)) (x .dead) .links) (c .group) k ≡ 0
+      held : Slot (c .group) k → handLen (crashing.crashedFirst groups mailed rows (c .group)
+          (handOf (slotAt (c .group) k)) (x .dead) .links) (c .group) k ≡ 0
       held S =
           omega (
             arith,
-            subst (λ j. lenOf (crashing.crashedFirst groups mailed rows (c .group) (handOf (slotAt (c .group) k)) (x .dead) .links) j ≡ lenOf mailed j - 1) (S .hand)
+            subst (λ j. lenOf (crashing.crashedFirst groups mailed rows (c .group) (handOf (slotAt (c .group) k))
+                (x .dead) .links) j ≡ lenOf mailed j - 1) (S .hand)
                 (crash .left (omega (arith, S .hand)) (omega (arith, S .hand, S .group, S .key))),
             less-at t mailed (back .less) (7 + 2 * (16 * c .group + k)) (omega arith),
             l .one (c .group) k (S .group) (S .key),
           )
 
   doomed-front : (k : Key) → DoomStands (crashing.doomedFront groups t rows keys c left q x k)
-  doomed-front (key.At k) = doomed-key (set keys DOOMED (popFront (keysAt keys DOOMED))) (same-lives (set-row keys actors DOOMED _ (high-row DOOMED (omega arith))) l) k (left - 1)
+  doomed-front (key.At k) = doomed-key (set keys DOOMED (popFront (keysAt keys DOOMED)))
+      (same-lives (set-row keys actors DOOMED _ (high-row DOOMED (omega arith))) l) k (left - 1)
   doomed-front key.Nothing = (l, h)
 
   pub doomed-stands : DoomStands (doomedOf groups t rows keys c left q x)

@@ -24,7 +24,8 @@ use Rattle.routing.specs.Intake.{INBOX, PENDING, BATCH, Linked, batchOf, intake
 use Rattle.routing.specs.Route as to
 use Rattle.routing.specs.Route.{Sent, routeOf, routeReply}
 use Rattle.places.specs.Places.{Sound, Keeps}
-use Rattle.places.proofs.Moves.{desk-inbox, desk-pending, desk-batch, same-keeps, move-keeps, move-all-keeps, over-keeps, to-mailbox}
+use Rattle.places.proofs.Moves.{desk-inbox, desk-pending, desk-batch, same-keeps, move-keeps, move-all-keeps}
+use Rattle.places.proofs.Moves.{over-keeps, to-mailbox}
 use Rattle.places.proofs.Steps.{pick-rule}
 use Rattle.keeping.specs.Keeping.{Calm}
 
@@ -33,7 +34,8 @@ use Rattle.keeping.specs.Keeping.{Calm}
 abbrev SeededCalm : Seeded → Type 0
 SeededCalm s = Calm (s .at)
 
-pub seed-calm : (groups : Table) (count : ℕ) (keys actors : Table) (g : ℕ) → Calm (seedOf groups count keys actors g .at)
+pub seed-calm : (groups : Table) (count : ℕ) (keys actors : Table) (g : ℕ)
+    → Calm (seedOf groups count keys actors g .at)
 unfolding seedOf
 seed-calm groups count keys actors g =
     pick-rule SeededCalm (leb count g) (λ e. omega arith)
@@ -63,7 +65,8 @@ intake-rule : (t : Table) (q backlog left : ℕ) (P : Linked → Type 0) → P (
 unfolding intakeOf
 intake-rule t q backlog left P batch more =
     pick-rule P (eqb left 0) (λ e. batch)
-    (λ e. pick-rule P (leb backlog (capped (lenOf t PENDING + q))) (λ e. batch) (λ e. pick-rule P (eqb (lenOf t INBOX) 0) (λ e. batch) (λ e. more)))
+    (λ e. pick-rule P (leb backlog (capped (lenOf t PENDING + q))) (λ e. batch)
+    (λ e. pick-rule P (eqb (lenOf t INBOX) 0) (λ e. batch) (λ e. more)))
 
 batch-keeps : (t rows : Table) (q : ℕ) → Sound t rows q → Keeps t rows (batchOf t .links) rows q
 unfolding batchOf
@@ -73,7 +76,8 @@ batch-calm : (t : Table) → Calm (batchOf t .at)
 unfolding batchOf
 batch-calm t = omega arith
 
-pub intake-keeps : (t rows : Table) (q backlog left : ℕ) → Sound t rows q → Keeps t rows (intakeOf t q backlog left .links) rows q
+pub intake-keeps : (t rows : Table) (q backlog left : ℕ) → Sound t rows q
+    → Keeps t rows (intakeOf t q backlog left .links) rows q
 intake-keeps t rows q backlog left sound =
     intake-rule t q backlog left (λ (s : Linked). Keeps t rows (s .links) rows q) (batch-keeps t rows q sound)
     (move-keeps t rows q sound INBOX PENDING desk-inbox desk-pending)
@@ -87,7 +91,13 @@ intake-calm t q backlog left = intake-rule t q backlog left (λ (s : Linked). Ca
 record Routes (t rows : Table) (q left : ℕ) (P : Sent → Type 0) : Type 0 where
   over : (keys actors : Table) → P (to.lostTo (to.undeliverable t rows left) keys actors q)
   sent : (keys actors : Table) (g k : ℕ) → P (to.deliver t keys actors g k q left)
-  asks : (keys actors : Table) (g : ℕ) → P (record { links = t; keys = keys; actors = actors; routed = to.routedTo (at.RouteBoot g left) q })
+  asks : (keys actors : Table) (g : ℕ) → P (record {
+    links = t;
+    keys = keys;
+    actors = actors;
+    routed =
+        to.routedTo (at.RouteBoot g left) q;
+  })
   done : (keys actors : Table) → P (to.clockNext t keys actors q)
 
 -- what holds of these four holds of every way through routing
@@ -97,13 +107,17 @@ module _ (t rows : Table) (q left : ℕ) (P : Sent → Type 0) (ways : Routes t 
   by-key keys actors g (key.At k) = ways .sent keys actors g k
   by-key keys actors g key.Nothing = ways .over keys actors
 
-  by-spawn : (keys actors : Table) (g : ℕ) (eval : Bool) → P (to.routeSpawned t rows keys actors g eval q left)
-  unfolding to.routeSpawned
-  by-spawn keys actors g eval = by-key (spawnOf keys actors g eval .keys) (spawnOf keys actors g eval .actors) g (spawnOf keys actors g eval .key)
-
   by-least : (keys actors : Table) (g : ℕ) → P (to.routeLeast t rows keys actors g q left)
   unfolding to.routeLeast
   by-least keys actors g = by-key keys actors g (leastOf keys t g)
+
+  by-spawned : (g : ℕ) (keys actors : Table) (k : Key) → P (to.spawnedSent t rows g q left keys actors k)
+  by-spawned g keys actors (key.At k) = ways .sent keys actors g k
+  by-spawned g keys actors key.Nothing = by-least keys actors g
+
+  by-spawn : (keys actors : Table) (g : ℕ) (eval : Bool) → P (to.routeSpawned t rows keys actors g eval q left)
+  unfolding to.routeSpawned
+  by-spawn keys actors g eval = let s = spawnOf keys actors g eval in by-spawned g (s .keys) (s .actors) (s .key)
 
   by-new : (groups keys actors : Table) (g : ℕ) → P (to.routeNew groups t rows keys actors g q left)
   unfolding to.routeNew
@@ -118,21 +132,26 @@ module _ (t rows : Table) (q left : ℕ) (P : Sent → Type 0) (ways : Routes t 
 
   by-group : (groups keys actors : Table) (g : ℕ) → P (to.routeTo groups t rows keys actors g q left)
   unfolding to.routeTo
-  by-group groups keys actors g = by-idle groups (popIdleOf keys actors g .keys) actors g (popIdleOf keys actors g .key)
+  by-group groups keys actors g = by-idle groups (popIdleOf keys actors g .keys) actors g (popIdleOf keys actors g
+      .key)
 
   by-named : (groups keys actors : Table) (n : Named) → P (to.routeNamed groups t rows keys actors q left n)
   by-named groups keys actors (named.Group g) = by-group groups keys actors g
   by-named groups keys actors named.Nothing = ways .over keys actors
 
-  by-first : (groups : Table) (count : ℕ) (store : List ℕ) (keys actors : Table) (f : Found) → P (to.routeFirst groups count store t rows keys actors q left f)
+  by-first : (groups : Table) (count : ℕ) (store : List ℕ) (keys actors : Table) (f : Found)
+      → P (to.routeFirst groups count store t rows keys actors q left f)
   unfolding to.routeOne
-  by-first groups count store keys actors (found.Entry e) = by-named groups keys actors (groupFor groups store e (messageAt rows e .name) count)
+  by-first groups count store keys actors (found.Entry e) = by-named groups keys actors (groupFor groups store e
+      (messageAt rows e .name) count)
   by-first groups count store keys actors found.Nothing = ways .done keys actors
 
-  route-rule : (groups : Table) (count : ℕ) (store : List ℕ) (keys actors : Table) → P (routeOf groups count store t rows keys actors q left)
+  route-rule : (groups : Table) (count : ℕ) (store : List ℕ) (keys actors : Table)
+      → P (routeOf groups count store t rows keys actors q left)
   unfolding to.routeOf
   route-rule groups count store keys actors =
-      pick-rule P (eqb left 0) (λ e. ways .done keys actors) (λ e. by-first groups count store keys actors (firstOf t BATCH))
+      pick-rule P (eqb left 0) (λ e. ways .done keys actors) (λ e. by-first groups count store keys actors
+      (firstOf t BATCH))
 
   by-boot : (keys actors : Table) (g : ℕ) (b : Bool) → P (to.routeBooted t rows keys actors g q left b)
   unfolding to.routeBooted
@@ -167,19 +186,33 @@ ways-keep t rows q left sound =
 ways-calm : (t rows : Table) (q left : ℕ) → Routes t rows q left SentCalm
 unfolding to.undeliverable to.deliver
 ways-calm t rows q left =
-    record { over = λ keys actors. omega arith; sent = λ keys actors g k. omega arith; asks = λ keys actors g. omega arith; done = λ keys actors. omega arith }
+    record {
+      over = λ keys actors. omega arith;
+      sent = λ keys actors g k. omega arith;
+      asks = λ keys actors g. omega
+          arith;
+      done = λ keys actors. omega arith;
+    }
 
-pub route-keeps : (groups : Table) (count : ℕ) (store : List ℕ) (t rows keys actors : Table) (q left : ℕ) → Sound t rows q
-    → Keeps t rows (routeOf groups count store t rows keys actors q left .links) rows (routeOf groups count store t rows keys actors q left .routed .queued)
-route-keeps groups count store t rows keys actors q left sound = route-rule t rows q left (SentKeeps t rows) (ways-keep t rows q left sound) groups count store keys actors
+pub route-keeps : (groups : Table) (count : ℕ) (store : List ℕ) (t rows keys actors : Table) (q left : ℕ)
+    → Sound t rows q
+    → Keeps t rows (routeOf groups count store t rows keys actors q left .links) rows (routeOf groups count store t
+    rows keys actors q left .routed .queued)
+route-keeps groups count store t rows keys actors q left sound = route-rule t rows q left (SentKeeps t rows)
+    (ways-keep t rows q left sound) groups count store keys actors
 
-pub route-calm : (groups : Table) (count : ℕ) (store : List ℕ) (t rows keys actors : Table) (q left : ℕ) → Calm (routeOf groups count store t rows keys actors q left .routed .at)
+pub route-calm : (groups : Table) (count : ℕ) (store : List ℕ) (t rows keys actors : Table) (q left : ℕ)
+    → Calm (routeOf groups count store t rows keys actors q left .routed .at)
 route-calm groups count store t rows keys actors q left =
     route-rule t rows q left SentCalm (ways-calm t rows q left) groups count store keys actors
 
 pub route-reply-keeps : (t rows keys actors : Table) (g q left : ℕ) (r : Reply) → Sound t rows q
-    → Keeps t rows (routeReply t rows keys actors g q left r .links) rows (routeReply t rows keys actors g q left r .routed .queued)
-route-reply-keeps t rows keys actors g q left r sound = reply-rule t rows q left (SentKeeps t rows) (ways-keep t rows q left sound) keys actors g r
+    → Keeps t rows (routeReply t rows keys actors g q left r .links) rows (routeReply t rows keys actors g q left r
+    .routed .queued)
+route-reply-keeps t rows keys actors g q left r sound = reply-rule t rows q left (SentKeeps t rows)
+    (ways-keep t rows q left sound) keys actors g r
 
-pub route-reply-calm : (t rows keys actors : Table) (g q left : ℕ) (r : Reply) → Calm (routeReply t rows keys actors g q left r .routed .at)
-route-reply-calm t rows keys actors g q left r = reply-rule t rows q left SentCalm (ways-calm t rows q left) keys actors g r
+pub route-reply-calm : (t rows keys actors : Table) (g q left : ℕ) (r : Reply)
+    → Calm (routeReply t rows keys actors g q left r .routed .at)
+route-reply-calm t rows keys actors g q left r = reply-rule t rows q left SentCalm (ways-calm t rows q left) keys
+    actors g r

@@ -27,17 +27,19 @@ use Rattle.actor.specs.Questions.{yesIn, countIn}
 use Rattle.actor.specs.Messages.{messageAt, triedOf}
 use Rattle.actor.specs.Actors.{actorAt, putActor, beganStep}
 use Rattle.steps.specs.declared.step.Step.{Step}
-use Rattle.steps.specs.declared.step.Step.the-variants as end
-use Rattle.steps.specs.declared.fixed.FixedAt.{FixedAt}
-use Rattle.steps.specs.declared.eval.EvalAt.{EvalAt}
-use Rattle.steps.specs.declared.eval.EvalAt.the-variants as eval
+use Rattle.steps.specs.declared.step.Step.the-variants as step
+use Rattle.steps.specs.declared.step.End.{End}
+use Rattle.steps.specs.declared.step.End.the-variants as end
+use Rattle.steps.specs.declared.fixed.FixedAsk.{FixedAsk}
+use Rattle.steps.specs.declared.eval.EvalNext.{EvalNext}
+use Rattle.steps.specs.declared.eval.EvalNext.the-variants as eval
 use Rattle.steps.specs.Steps.{HAND}
 use Rattle.steps.specs.StepFixed.{fixedStart}
 use Rattle.steps.specs.StepEval.{evalStart}
 use Rattle.group.specs.declared.at.At.{At}
 use Rattle.group.specs.declared.at.At.the-variants as at
 use Rattle.group.specs.declared.at.Cursor.{Cursor}
-use Rattle.group.specs.At.{readyAfter, fixedAfter, evalAfter}
+use Rattle.group.specs.At.{readyAfter, evalAfter}
 use Rattle.group.specs.Settings.{groupAt}
 use Rattle.group.specs.Roster.{REST, DOOMED, slabRow, readyRow, slotAt, pushKey, liveOf}
 use Rattle.ticking.specs.declared.crash.Losses.{Losses}
@@ -51,7 +53,8 @@ use Rattle.ticking.specs.Settle.{PENDING, slotOn, stepEnd, settleOf}
 use Rattle.ticking.specs.Crash as crashing
 use Rattle.ticking.specs.Crash.{Dying, Crashing, crashOf, trapReply, trappedReply, doomedOf}
 use Rattle.places.specs.Places.{Sound, Keeps, Desk}
-use Rattle.places.proofs.Moves.{desk-pending, desk-hand, desk-held, then-keeps, same-keeps, move-keeps, over-keeps, empty-mailbox, over-mailbox, row-keeps}
+use Rattle.places.proofs.Moves.{desk-pending, desk-hand, desk-held, then-keeps, same-keeps, move-keeps, over-keeps}
+use Rattle.places.proofs.Moves.{empty-mailbox, over-mailbox, row-keeps}
 use Rattle.places.proofs.Steps.{pick-rule, eval-start-keeps}
 use Rattle.keeping.specs.Keeping.{Calm, AtOk}
 
@@ -70,7 +73,7 @@ calm-ok (at.WakePoll g k clock left) t calm = calm
 calm-ok (at.Ready g clock pops) t calm = calm
 calm-ok (at.Fixed c a) t calm = absurd calm
 calm-ok (at.Eval c a) t calm = absurd calm
-calm-ok (at.StepEnd c s) t calm = absurd calm
+calm-ok (at.StepEnd c e) t calm = absurd calm
 calm-ok (at.Sends c s) t calm = absurd calm
 calm-ok (at.Settle c s) t calm = absurd calm
 calm-ok (at.Crash c) t calm = absurd calm
@@ -90,7 +93,8 @@ WakedCalm s = Calm (s .at)
 pub wake-calm : (keys : Table) (n g clock : ℕ) → Calm (wakeOf keys n g clock .at)
 unfolding wakeOf
 wake-calm keys n g clock =
-    pick-rule ListedCalm (leb n g) (λ e. omega arith) (λ e. pick-rule ListedCalm (leb 8 g) (λ e. omega arith) (λ e. omega arith))
+    pick-rule ListedCalm (leb n g) (λ e. omega arith) (λ e. pick-rule ListedCalm (leb 8 g) (λ e. omega arith)
+    (λ e. omega arith))
 
 one-calm : (keys actors : Table) (g k clock left : ℕ) → Calm (waking.wakeOne keys actors g k clock left .at)
 unfolding waking.wakeOne
@@ -100,20 +104,25 @@ one-calm keys actors g k clock left =
     (λ e. pick-rule WakedCalm (waking.pollsOf (actorAt actors (slotAt g k))) (λ e. omega arith) (λ e. omega arith)))
     (λ e. omega arith)
 
-first-calm : (keys actors : Table) (g clock left : ℕ) (k : Key) → Calm (waking.wakeFirst keys actors g clock left k .at)
-first-calm keys actors g clock left (key.At k) = one-calm (set keys REST (popFront (keysAt keys REST))) actors g k clock (left - 1)
+first-calm : (keys actors : Table) (g clock left : ℕ) (k : Key)
+    → Calm (waking.wakeFirst keys actors g clock left k .at)
+first-calm keys actors g clock left (key.At k) = one-calm (set keys REST (popFront (keysAt keys REST))) actors g k
+    clock (left - 1)
 first-calm keys actors g clock left key.Nothing = omega arith
 
 pub wake-next-calm : (keys actors : Table) (g clock left : ℕ) → Calm (wakeNext keys actors g clock left .at)
 unfolding wakeNext
 wake-next-calm keys actors g clock left =
-    pick-rule WakedCalm (eqb left 0) (λ e. omega arith) (λ e. first-calm keys actors g clock left (frontOf (keysAt keys REST)))
+    pick-rule WakedCalm (eqb left 0) (λ e. omega arith) (λ e. first-calm keys actors g clock left
+    (frontOf (keysAt keys REST)))
 
-poll-calm : (keys actors : Table) (g k clock left : ℕ) (n : CountIn) → Calm (waking.pollBy keys actors g k clock left n .at)
+poll-calm : (keys actors : Table) (g k clock left : ℕ) (n : CountIn)
+    → Calm (waking.pollBy keys actors g k clock left n .at)
 poll-calm keys actors g k clock left (count.Of n) = pick-rule WakedCalm (ltb 0 n) (λ e. omega arith) (λ e. omega arith)
 poll-calm keys actors g k clock left count.Other = omega arith
 
-pub poll-reply-calm : (keys actors : Table) (g k clock left : ℕ) (r : Reply) → Calm (pollReply keys actors g k clock left r .at)
+pub poll-reply-calm : (keys actors : Table) (g k clock left : ℕ) (r : Reply)
+    → Calm (pollReply keys actors g k clock left r .at)
 unfolding pollReply
 poll-reply-calm keys actors g k clock left r = poll-calm keys actors g k clock left (countIn r)
 
@@ -126,12 +135,14 @@ test-first false b both = both
 
 live-slot : (keys : Table) (g k : ℕ) → liveOf keys g k ≡ true → slotAt g k < 128
 unfolding liveOf
-live-slot keys g k live = ltb-true (slotAt g k) 128 (test-first (ltb (slotAt g k) 128) (containsOf (keysAt keys (slabRow g)) k) live)
+live-slot keys g k live = ltb-true (slotAt g k) 128 (test-first (ltb (slotAt g k) 128)
+    (containsOf (keysAt keys (slabRow g)) k) live)
 
 -- what holds where no step begins, and of a step that begins, holds of the ready list
 module _ (t : Table) (q : ℕ) (P : Table → Begun → Type 0)
     (none : (a : At) (stepped : Bool) → Calm a → P t (readying.begunAt a q stepped))
-    (begins : (actors : Table) (c : Cursor) → slotOn c < 128 → P (readying.beginStep t actors c (slotOn c) q .links) (readying.beginStep t actors c (slotOn c) q .begun)) where
+    (begins : (actors : Table) (c : Cursor) → slotOn c < 128 → P (readying.beginStep t actors c (slotOn c) q .links)
+    (readying.beginStep t actors c (slotOn c) q .begun)) where
   abbrev Holds : Stepping → Type 0
   Holds s = P (s .links) (s .begun)
 
@@ -145,8 +156,10 @@ module _ (t : Table) (q : ℕ) (P : Table → Begun → Type 0)
       (λ e. none (readyAfter c) stepped (omega arith))
 
   front-rule : (keys actors : Table) (stepped : Bool) (g clock pops : ℕ) (k : Key)
-      → P (readying.readyFront t keys actors q stepped g clock pops k .links) (readying.readyFront t keys actors q stepped g clock pops k .begun)
-  front-rule keys actors stepped g clock pops (key.At k) = key-rule (readying.popReady keys g) actors (readying.cursorAt g k clock (pops - 1)) stepped
+      → P (readying.readyFront t keys actors q stepped g clock pops k .links) (readying.readyFront t keys actors q
+      stepped g clock pops k .begun)
+  front-rule keys actors stepped g clock pops (key.At k) = key-rule (readying.popReady keys g) actors
+      (readying.cursorAt g k clock (pops - 1)) stepped
   front-rule keys actors stepped g clock pops key.Nothing = none _ stepped (omega arith)
 
   ready-rule : (keys actors : Table) (stepped : Bool) (g clock pops : ℕ)
@@ -157,63 +170,64 @@ module _ (t : Table) (q : ℕ) (P : Table → Begun → Type 0)
       (λ e. front-rule keys actors stepped g clock pops (frontOf (keysAt keys (readyRow g))))
 
 begin-by-keeps : (t rows actors : Table) (c : Cursor) (slot q : ℕ) → Sound t rows q → slot < 128 → (m : Mode)
-    → Keeps t rows (readying.beginBy t actors c slot q m .links) rows (readying.beginBy t actors c slot q m .begun .queued)
+    → Keeps t rows (readying.beginBy t actors c slot q m .links) rows (readying.beginBy t actors c slot q m .begun
+    .queued)
 unfolding readying.beginEval
 begin-by-keeps t rows actors c slot q sound slot-is mode.Fixed = same-keeps t rows q sound
 begin-by-keeps t rows actors c slot q sound slot-is mode.Eval = eval-start-keeps t rows actors q slot sound slot-is
 
 begin-keeps : (t rows actors : Table) (c : Cursor) (slot q : ℕ) → Sound t rows q → slot < 128
-    → Keeps t rows (readying.beginStep t actors c slot q .links) rows (readying.beginStep t actors c slot q .begun .queued)
+    → Keeps t rows (readying.beginStep t actors c slot q .links) rows (readying.beginStep t actors c slot q .begun
+    .queued)
 unfolding readying.beginStep
 begin-keeps t rows actors c slot q sound slot-is =
-    begin-by-keeps t rows (putActor actors slot (beganStep (actorAt actors slot))) c slot q sound slot-is (actorAt actors slot .mode)
+    begin-by-keeps t rows (putActor actors slot (beganStep (actorAt actors slot))) c slot q sound slot-is
+    (actorAt actors slot .mode)
 
 pub ready-keeps : (t rows keys actors : Table) (q : ℕ) (b : Bool) (g clock pops : ℕ) → Sound t rows q
-    → Keeps t rows (readyOf t keys actors q b g clock pops .links) rows (readyOf t keys actors q b g clock pops .begun .queued)
+    → Keeps t rows (readyOf t keys actors q b g clock pops .links) rows (readyOf t keys actors q b g clock pops .begun
+    .queued)
 ready-keeps t rows keys actors q b g clock pops sound =
-    ready-rule t q (λ (r : Table) (s : Begun). Keeps t rows r rows (s .queued)) (λ a stepped calm. same-keeps t rows q sound)
+    ready-rule t q (λ (r : Table) (s : Begun). Keeps t rows r rows (s .queued)) (λ a stepped calm. same-keeps t rows q
+    sound)
     (λ l c slot-is. begin-keeps t rows l c (slotOn c) q sound slot-is) keys actors b g clock pops
 
 module _ (t : Table) (c : Cursor) (slot-is : slotOn c < 128) where
   -- a step of a fixed actor begins at Run
   fixed-ok : (actors : Table) (slot : ℕ) → AtOk (readying.beginFixed actors c slot .at) t
   unfolding readying.beginFixed fixedStart
-  fixed-ok actors slot = pick-rule (λ (a : FixedAt). AtOk (fixedAfter c a) t) (actorAt actors slot .started) (λ e. (slot-is, omega arith)) (λ e. (slot-is, omega arith))
+  fixed-ok actors slot = pick-rule (λ (a : FixedAsk). AtOk (at.Fixed c a) t) (actorAt actors slot .started)
+      (λ e. (slot-is, omega arith)) (λ e. (slot-is, omega arith))
 
-  pub eval-ok : (a : EvalAt) → AtOk (evalAfter c a) t
-  eval-ok eval.Clock = slot-is
-  eval-ok eval.Boot = slot-is
-  eval-ok eval.StartClock = slot-is
-  eval-ok (eval.Run start) = slot-is
-  eval-ok eval.Dispatch = slot-is
-  eval-ok (eval.Tell o) = slot-is
-  eval-ok (eval.End e) = omega arith
+  pub eval-ok : (n : EvalNext) → AtOk (evalAfter c n) t
+  eval-ok (eval.Asks a) = slot-is
+  eval-ok (eval.Ended p) = omega arith
 
 begin-by-ok : (t actors : Table) (c : Cursor) (slot q : ℕ) → slotOn c < 128 → (m : Mode)
     → AtOk (readying.beginBy t actors c slot q m .begun .at) (readying.beginBy t actors c slot q m .links)
 unfolding readying.beginEval
 begin-by-ok t actors c slot q slot-is mode.Fixed = fixed-ok t c slot-is actors slot
-begin-by-ok t actors c slot q slot-is mode.Eval = eval-ok (evalStart t actors slot q .links) c slot-is (evalStart t actors slot q .step .at)
+begin-by-ok t actors c slot q slot-is mode.Eval = eval-ok (evalStart t actors slot q .links) c slot-is
+    (evalStart t actors slot q .step .next)
 
-begin-ok : (t actors : Table) (c : Cursor) (slot q : ℕ) → slotOn c < 128 → AtOk (readying.beginStep t actors c slot q .begun .at) (readying.beginStep t actors c slot q .links)
+begin-ok : (t actors : Table) (c : Cursor) (slot q : ℕ) → slotOn c < 128
+    → AtOk (readying.beginStep t actors c slot q .begun .at) (readying.beginStep t actors c slot q .links)
 unfolding readying.beginStep
-begin-ok t actors c slot q slot-is = begin-by-ok t (putActor actors slot (beganStep (actorAt actors slot))) c slot q slot-is (actorAt actors slot .mode)
+begin-ok t actors c slot q slot-is = begin-by-ok t (putActor actors slot (beganStep (actorAt actors slot))) c slot q
+    slot-is (actorAt actors slot .mode)
 
 pub ready-ok : (t keys actors : Table) (q : ℕ) (b : Bool) (g clock pops : ℕ)
     → AtOk (readyOf t keys actors q b g clock pops .begun .at) (readyOf t keys actors q b g clock pops .links)
 ready-ok t keys actors q b g clock pops =
-    ready-rule t q (λ (r : Table) (s : Begun). AtOk (s .at) r) (λ a stepped calm. calm-ok a t calm) (λ l c slot-is. begin-ok t l c (slotOn c) q slot-is)
+    ready-rule t q (λ (r : Table) (s : Begun). AtOk (s .at) r) (λ a stepped calm. calm-ok a t calm)
+    (λ l c slot-is. begin-ok t l c (slotOn c) q slot-is)
     keys actors b g clock pops
 
 -- ---- a step ends
 
-end-ok : (t : Table) (c : Cursor) (s : Step) (m : Mode) → AtOk (settling.endBy c s m) t
-end-ok t c s mode.Fixed = omega arith
-end-ok t c s mode.Eval = omega arith
-
-pub step-end-ok : (t actors : Table) (c : Cursor) (s : Step) → AtOk (stepEnd actors c s) t
-unfolding stepEnd
-step-end-ok t actors c s = end-ok t c s (actorAt actors (slotOn c) .mode)
+pub step-end-ok : (t : Table) (c : Cursor) (e : End) → AtOk (stepEnd c e) t
+step-end-ok t c (end.Fixed s) = omega arith
+step-end-ok t c (end.Eval p) = omega arith
 
 let-go-keeps : (t rows : Table) (slot : ℕ) (consumed : Bool) (q : ℕ) → Sound t rows q
     → Keeps t rows (settling.letGo t rows slot consumed q .links) rows (settling.letGo t rows slot consumed q .queued)
@@ -222,26 +236,25 @@ let-go-keeps t rows slot true q sound = empty-mailbox t rows q sound slot PENDIN
 let-go-keeps t rows slot false q sound = over-mailbox t rows q sound slot (lenOf t (mailboxOf slot))
 
 release-keeps : (t rows keys actors : Table) (c : Cursor) (q : ℕ) → Sound t rows q
-    → Keeps t rows (settling.releaseOf t rows keys actors c q .links) rows (settling.releaseOf t rows keys actors c q .queued)
+    → Keeps t rows (settling.releaseOf t rows keys actors c q .links) rows (settling.releaseOf t rows keys actors c q
+    .queued)
 unfolding settling.releaseOf
-release-keeps t rows keys actors c q sound = let-go-keeps t rows (slotOn c) (actorAt actors (slotOn c) .consumed) q sound
+release-keeps t rows keys actors c q sound = let-go-keeps t rows (slotOn c) (actorAt actors (slotOn c) .consumed) q
+    sound
 
 pub settle-keeps : (t rows keys actors : Table) (c : Cursor) (s : Step) (q : ℕ) → Sound t rows q
     → Keeps t rows (settleOf t rows keys actors c s q .links) rows (settleOf t rows keys actors c s q .settled .queued)
 unfolding settleOf
-settle-keeps t rows keys actors c end.Done q sound = release-keeps t rows keys actors c q sound
-settle-keeps t rows keys actors c end.Waiting q sound = same-keeps t rows q sound
-settle-keeps t rows keys actors c (end.Blocked until) q sound = same-keeps t rows q sound
-settle-keeps t rows keys actors c end.Yield q sound = same-keeps t rows q sound
-settle-keeps t rows keys actors c end.Failed q sound = release-keeps t rows keys actors c q sound
+settle-keeps t rows keys actors c step.Done q sound = release-keeps t rows keys actors c q sound
+settle-keeps t rows keys actors c (step.Parked p) q sound = same-keeps t rows q sound
+settle-keeps t rows keys actors c step.Failed q sound = release-keeps t rows keys actors c q sound
 
-pub settle-ok : (r t rows keys actors : Table) (c : Cursor) (s : Step) (q : ℕ) → AtOk (settleOf t rows keys actors c s q .settled .at) r
+pub settle-ok : (r t rows keys actors : Table) (c : Cursor) (s : Step) (q : ℕ)
+    → AtOk (settleOf t rows keys actors c s q .settled .at) r
 unfolding settleOf
-settle-ok r t rows keys actors c end.Done q = omega arith
-settle-ok r t rows keys actors c end.Waiting q = omega arith
-settle-ok r t rows keys actors c (end.Blocked until) q = omega arith
-settle-ok r t rows keys actors c end.Yield q = omega arith
-settle-ok r t rows keys actors c end.Failed q = omega arith
+settle-ok r t rows keys actors c step.Done q = omega arith
+settle-ok r t rows keys actors c (step.Parked p) q = omega arith
+settle-ok r t rows keys actors c step.Failed q = omega arith
 
 -- ---- a message crashed
 
@@ -259,10 +272,12 @@ module _ (groups t rows : Table) (g q : ℕ) (sound : Sound t rows q) where
   entry-keeps from e dead desk =
       let again = move-keeps t rows q sound from PENDING desk desk-pending in
       pick-rule (DyingKeeps t rows q) (ltb (messageAt rows e .attempts) (groupAt groups g .retry))
-      (λ b. then-keeps again (row-keeps (moveFirst t from PENDING) rows q (again .sound) e (triedOf (messageAt rows e)) refl))
+      (λ b. then-keeps again (row-keeps (moveFirst t from PENDING) rows q (again .sound) e (triedOf (messageAt rows e))
+      refl))
       (λ b. over-keeps t rows q sound from desk)
 
-  found-keeps : (from dead : ℕ) → Desk from → (f : Found) → DyingKeeps t rows q (crashing.crashedFound groups t rows g from dead f)
+  found-keeps : (from dead : ℕ) → Desk from → (f : Found) → DyingKeeps t rows q (crashing.crashedFound groups t rows g
+      from dead f)
   found-keeps from dead desk (found.Entry e) = entry-keeps from e dead desk
   found-keeps from dead desk found.Nothing = same-keeps t rows q sound
 
@@ -273,7 +288,8 @@ module _ (groups t rows : Table) (g q : ℕ) (sound : Sound t rows q) where
   -- where there is no such list nothing crashed
   past-keeps : (from dead : ℕ) → LISTS ≤ from → DyingKeeps t rows q (crashing.crashedFirst groups t rows g from dead)
   unfolding crashing.crashedFirst
-  past-keeps from dead past = rw (eq-eqb (lenOf t from) 0 (len-past t from (omega (arith, sound .good .sized)))) (same-keeps t rows q sound)
+  past-keeps from dead past = rw (eq-eqb (lenOf t from) 0 (len-past t from (omega (arith, sound .good .sized))))
+      (same-keeps t rows q sound)
 
   held-keeps : (slot dead : ℕ) → DyingKeeps t rows q (crashing.crashedFirst groups t rows g (handOf slot) dead)
   held-keeps slot dead = go (decLt slot 128)
@@ -282,7 +298,8 @@ module _ (groups t rows : Table) (g q : ℕ) (sound : Sound t rows q) where
       go (yes p) = first-keeps (handOf slot) dead (desk-held slot p)
       go (no p) = past-keeps (handOf slot) dead (no-hand slot p)
 
-pub crash-keeps : (groups t rows : Table) (c : Cursor) (l : Losses) (q : ℕ) → Sound t rows q → Keeps t rows (crashOf groups t rows c l .links) (crashOf groups t rows c l .rows) q
+pub crash-keeps : (groups t rows : Table) (c : Cursor) (l : Losses) (q : ℕ) → Sound t rows q
+    → Keeps t rows (crashOf groups t rows c l .links) (crashOf groups t rows c l .rows) q
 unfolding crashOf
 crash-keeps groups t rows c l q sound = first-keeps groups t rows (c .group) q sound HAND (l .dead) desk-hand
 
@@ -320,21 +337,27 @@ abbrev CrashingKeeps : Table → Table → Crashing → Type 0
 CrashingKeeps t rows s = Keeps t rows (s .links) (s .rows) (s .crashed .queued)
 
 module _ (groups t rows keys : Table) (c : Cursor) (left q : ℕ) (l : Losses) where
-  doomed-key-keeps : (names : Table) (k n : ℕ) → Sound t rows q → CrashingKeeps t rows (crashing.doomedKey groups t rows names c k n q l)
+  doomed-key-keeps : (names : Table) (k n : ℕ) → Sound t rows q
+      → CrashingKeeps t rows (crashing.doomedKey groups t rows names c k n q l)
   unfolding crashing.doomedKey
   doomed-key-keeps names k n sound =
       let back = empty-mailbox t rows q sound (slotAt (c .group) k) PENDING desk-pending in
-      then-keeps back (held-keeps groups (crashing.mailBack t (slotAt (c .group) k)) rows (c .group) _ (back .sound) (slotAt (c .group) k) (l .dead))
+      then-keeps back (held-keeps groups (crashing.mailBack t (slotAt (c .group) k)) rows (c .group) _ (back .sound)
+      (slotAt (c .group) k) (l .dead))
 
-  doomed-front-keeps : Sound t rows q → (k : Key) → CrashingKeeps t rows (crashing.doomedFront groups t rows keys c left q l k)
-  doomed-front-keeps sound (key.At k) = doomed-key-keeps (set keys DOOMED (popFront (keysAt keys DOOMED))) k (left - 1) sound
+  doomed-front-keeps : Sound t rows q → (k : Key) → CrashingKeeps t rows (crashing.doomedFront groups t rows keys c
+      left q l k)
+  doomed-front-keeps sound (key.At k) = doomed-key-keeps (set keys DOOMED (popFront (keysAt keys DOOMED))) k (left - 1)
+      sound
   doomed-front-keeps sound key.Nothing = same-keeps t rows q sound
 
   pub doomed-keeps : Sound t rows q
-      → Keeps t rows (doomedOf groups t rows keys c left q l .links) (doomedOf groups t rows keys c left q l .rows) (doomedOf groups t rows keys c left q l .crashed .queued)
+      → Keeps t rows (doomedOf groups t rows keys c left q l .links) (doomedOf groups t rows keys c left q l .rows)
+      (doomedOf groups t rows keys c left q l .crashed .queued)
   unfolding doomedOf
   doomed-keeps sound =
-      pick-rule (CrashingKeeps t rows) (eqb left 0) (λ e. same-keeps t rows q sound) (λ e. doomed-front-keeps sound (frontOf (keysAt keys DOOMED)))
+      pick-rule (CrashingKeeps t rows) (eqb left 0) (λ e. same-keeps t rows q sound) (λ e. doomed-front-keeps sound
+      (frontOf (keysAt keys DOOMED)))
 
   doomed-front-calm : (k : Key) → Calm (crashing.doomedFront groups t rows keys c left q l k .crashed .at)
   unfolding crashing.doomedKey
@@ -343,4 +366,5 @@ module _ (groups t rows keys : Table) (c : Cursor) (left q : ℕ) (l : Losses) w
 
   pub doomed-calm : Calm (doomedOf groups t rows keys c left q l .crashed .at)
   unfolding doomedOf
-  doomed-calm = pick-rule (λ (s : Crashing). Calm (s .crashed .at)) (eqb left 0) (λ e. omega arith) (λ e. doomed-front-calm (frontOf (keysAt keys DOOMED)))
+  doomed-calm = pick-rule (λ (s : Crashing). Calm (s .crashed .at)) (eqb left 0) (λ e. omega arith)
+      (λ e. doomed-front-calm (frontOf (keysAt keys DOOMED)))

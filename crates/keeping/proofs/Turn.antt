@@ -10,9 +10,10 @@ use Rattle.actor.specs.declared.question.ClockIn.{ClockIn}
 use Rattle.actor.specs.declared.question.ClockIn.the-variants as clock
 use Rattle.actor.specs.Questions.{clockIn}
 use Rattle.steps.specs.declared.step.Step.{Step}
-use Rattle.steps.specs.declared.fixed.FixedAt.{FixedAt}
-use Rattle.steps.specs.declared.fixed.FixedAt.the-variants as fixed
-use Rattle.steps.specs.declared.eval.EvalAt.{EvalAt}
+use Rattle.steps.specs.declared.fixed.FixedAsk.{FixedAsk}
+use Rattle.steps.specs.declared.fixed.FixedNext.{FixedNext}
+use Rattle.steps.specs.declared.fixed.FixedNext.the-variants as fixed
+use Rattle.steps.specs.declared.eval.EvalAsk.{EvalAsk}
 use Rattle.steps.specs.StepFixed.{FixedBoth}
 use Rattle.steps.specs.StepEval.{EvalBoth, stepEval}
 use Rattle.group.specs.declared.at.At.{At}
@@ -23,12 +24,14 @@ use Rattle.group.specs.Roster.{slotAt}
 use Rattle.turn.specs.declared.state.Counts.{Counts}
 use Rattle.turn.specs.declared.state.Limits.{Limits}
 use Rattle.turn.specs.Go.{Gone, GoneActors, gone, goRoute, goReady, goSettle, goCrash, goDoomed, goOf}
-use Rattle.turn.specs.Resume.{clockBy, clockReply, sendsReply, routeResumed, fixedDone, fixedResumed, limitOf, evalDone, evalResumed, resumed, stepResumed, runResumed, resumeOf}
-use Rattle.places.specs.Places.{Sound, Keeps, HandFull}
+use Rattle.turn.specs.Resume.{clockBy, clockReply, sendsReply, routeResumed, fixedDone, fixedResumed, limitOf}
+use Rattle.turn.specs.Resume.{evalDone, evalResumed, resumed, stepResumed, runResumed, resumeOf}
+use Rattle.places.specs.Places.{Sound, Keeps, NextFull}
 use Rattle.places.proofs.Moves.{same-keeps}
 use Rattle.places.proofs.Steps.{FixedKeeps, fixed-keeps, eval-keeps}
 use Rattle.keeping.specs.Keeping.{Calm, AtOk}
-use Rattle.keeping.proofs.Routing.{seed-calm, seed-reply-calm, intake-keeps, intake-calm, route-keeps, route-calm, route-reply-keeps, route-reply-calm}
+use Rattle.keeping.proofs.Routing.{seed-calm, seed-reply-calm, intake-keeps, intake-calm, route-keeps}
+use Rattle.keeping.proofs.Routing.{route-calm, route-reply-keeps, route-reply-calm}
 use Rattle.keeping.proofs.Ticking as tick
 
 pub record GoKeeps (t rows : Table) (g : Gone) : Type 0 where
@@ -54,19 +57,25 @@ module _ (t rows : Table) (n : Counts) (sound : Sound t rows (n .queued)) where
   goes-calm : (keys actors : Table) (a : At) → Calm a → GoKeeps t rows (gone t rows keys actors a n)
   goes-calm keys actors a calm = goes-to keys actors a (tick.calm-ok a t calm)
 
-pub go-keeps : (a : At) (n : Counts) (limits : Limits) (store : List ℕ) (groups t rows keys actors : Table) → Sound t rows (n .queued) → AtOk a t
+pub go-keeps : (a : At) (n : Counts) (limits : Limits) (store : List ℕ) (groups t rows keys actors : Table)
+    → Sound t rows (n .queued) → AtOk a t
     → GoKeeps t rows (goOf a n limits store groups t rows keys actors)
 unfolding goOf goRoute goReady goSettle goCrash goDoomed
 go-keeps at.Rest n limits store groups t rows keys actors sound ok = goes-to t rows n sound keys actors at.Rest ok
-go-keeps (at.Seed g) n limits store groups t rows keys actors sound ok = goes-calm t rows n sound _ _ _ (seed-calm groups (limits .groups) keys actors g)
-go-keeps (at.SeedBoot g) n limits store groups t rows keys actors sound ok = goes-to t rows n sound keys actors (at.SeedBoot g) ok
+go-keeps (at.Seed g) n limits store groups t rows keys actors sound ok = goes-calm t rows n sound _ _ _
+    (seed-calm groups (limits .groups) keys actors g)
+go-keeps (at.SeedBoot g) n limits store groups t rows keys actors sound ok = goes-to t rows n sound keys actors
+    (at.SeedBoot g) ok
 go-keeps (at.Intake left) n limits store groups t rows keys actors sound ok =
-    calm-goes _ (intake-keeps t rows (n .queued) (limits .backlog) left sound) (intake-calm t (n .queued) (limits .backlog) left)
+    calm-goes _ (intake-keeps t rows (n .queued) (limits .backlog) left sound) (intake-calm t (n .queued)
+    (limits .backlog) left)
 go-keeps (at.Route left) n limits store groups t rows keys actors sound ok =
     calm-goes _ (route-keeps groups (limits .groups) store t rows keys actors (n .queued) left sound)
     (route-calm groups (limits .groups) store t rows keys actors (n .queued) left)
-go-keeps (at.RouteBoot g left) n limits store groups t rows keys actors sound ok = goes-to t rows n sound keys actors (at.RouteBoot g left) ok
-go-keeps at.TickClock n limits store groups t rows keys actors sound ok = goes-to t rows n sound keys actors at.TickClock ok
+go-keeps (at.RouteBoot g left) n limits store groups t rows keys actors sound ok = goes-to t rows n sound keys actors
+    (at.RouteBoot g left) ok
+go-keeps at.TickClock n limits store groups t rows keys actors sound ok = goes-to t rows n sound keys actors
+    at.TickClock ok
 go-keeps (at.Wake g clock) n limits store groups t rows keys actors sound ok =
     goes-calm t rows n sound _ _ _ (tick.wake-calm keys (limits .groups) g clock)
 go-keeps (at.WakeNext g clock left) n limits store groups t rows keys actors sound ok =
@@ -78,19 +87,31 @@ go-keeps (at.Ready g clock pops) n limits store groups t rows keys actors sound 
       keeps = tick.ready-keeps t rows keys actors (n .queued) (n .stepped) g clock pops sound;
       ok = tick.ready-ok t keys actors (n .queued) (n .stepped) g clock pops;
     }
-go-keeps (at.Fixed c a) n limits store groups t rows keys actors sound ok = goes-to t rows n sound keys actors (at.Fixed c a) ok
-go-keeps (at.Eval c a) n limits store groups t rows keys actors sound ok = goes-to t rows n sound keys actors (at.Eval c a) ok
-go-keeps (at.StepEnd c s) n limits store groups t rows keys actors sound ok = goes-to t rows n sound _ _ _ (tick.step-end-ok t actors c s)
-go-keeps (at.Sends c s) n limits store groups t rows keys actors sound ok = goes-to t rows n sound keys actors (at.Sends c s) ok
+go-keeps (at.Fixed c a) n limits store groups t rows keys actors sound ok = goes-to t rows n sound keys actors
+    (at.Fixed c a) ok
+go-keeps (at.Eval c a) n limits store groups t rows keys actors sound ok = goes-to t rows n sound keys actors
+    (at.Eval c a) ok
+go-keeps (at.StepEnd c e) n limits store groups t rows keys actors sound ok = goes-to t rows n sound _ _ _
+    (tick.step-end-ok t c e)
+go-keeps (at.Sends c s) n limits store groups t rows keys actors sound ok = goes-to t rows n sound keys actors
+    (at.Sends c s) ok
 go-keeps (at.Settle c s) n limits store groups t rows keys actors sound ok =
-    record { keeps = tick.settle-keeps t rows keys actors c s (n .queued) sound; ok = tick.settle-ok _ t rows keys actors c s (n .queued) }
+    record {
+      keeps = tick.settle-keeps t rows keys actors c s (n .queued) sound;
+      ok = tick.settle-ok _ t rows keys
+          actors c s (n .queued);
+    }
 go-keeps (at.Crash c) n limits store groups t rows keys actors sound ok =
     calm-goes _ (tick.crash-keeps groups t rows c (n .losses) (n .queued) sound) (omega arith)
-go-keeps (at.AskTrap c) n limits store groups t rows keys actors sound ok = goes-calm t rows n sound keys actors (at.Trap c) (omega arith)
-go-keeps (at.Trap c) n limits store groups t rows keys actors sound ok = goes-to t rows n sound keys actors (at.Trap c) ok
-go-keeps (at.Trapped c k) n limits store groups t rows keys actors sound ok = goes-to t rows n sound keys actors (at.Trapped c k) ok
+go-keeps (at.AskTrap c) n limits store groups t rows keys actors sound ok = goes-calm t rows n sound keys actors
+    (at.Trap c) (omega arith)
+go-keeps (at.Trap c) n limits store groups t rows keys actors sound ok = goes-to t rows n sound keys actors (at.Trap c)
+    ok
+go-keeps (at.Trapped c k) n limits store groups t rows keys actors sound ok = goes-to t rows n sound keys actors
+    (at.Trapped c k) ok
 go-keeps (at.Doomed c left) n limits store groups t rows keys actors sound ok =
-    calm-goes _ (tick.doomed-keeps groups t rows keys c left (n .queued) (n .losses) sound) (tick.doomed-calm groups t rows keys c left (n .queued) (n .losses))
+    calm-goes _ (tick.doomed-keeps groups t rows keys c left (n .queued) (n .losses) sound) (tick.doomed-calm groups t
+    rows keys c left (n .queued) (n .losses))
 
 -- ---- replies
 
@@ -123,12 +144,9 @@ sends-reply-ok t c s reply.Failed = omega arith
 
 -- the next point of a step: it is still of an actor that there can be, or the step ended
 module _ (t : Table) (c : Cursor) (slot-is : slotAt (c .group) (c .key) < 128) where
-  fixed-after-ok : (a : FixedAt) → HandFull a t → AtOk (fixedAfter c a) t
-  fixed-after-ok (fixed.Run start) full = (slot-is, full)
-  fixed-after-ok fixed.Drain full = (slot-is, full)
-  fixed-after-ok fixed.Push full = (slot-is, full)
-  fixed-after-ok fixed.Dispatch full = (slot-is, full)
-  fixed-after-ok (fixed.End e) full = full
+  fixed-after-ok : (n : FixedNext) → NextFull n t → AtOk (fixedAfter c n) t
+  fixed-after-ok (fixed.Asks a) full = (slot-is, full)
+  fixed-after-ok (fixed.Ended s) full = full
 
 -- a reply that moves no message, and one to a step of an actor
 module _ (t rows : Table) (n : Counts) (sound : Sound t rows (n .queued)) where
@@ -139,49 +157,77 @@ module _ (t rows : Table) (n : Counts) (sound : Sound t rows (n .queued)) where
   resumes-calm keys actors a calm = resumes-to keys actors a (tick.calm-ok a t calm)
 
   -- a step is at its next point
-  fixed-done : (keys : Table) (c : Cursor) → slotAt (c .group) (c .key) < 128 → (s : FixedBoth) → FixedKeeps t rows s → ResumeKeeps t rows (stepResumed keys (fixedDone n c s))
-  fixed-done keys c slot-is s next = record { keeps = next .keeps; ok = fixed-after-ok (s .links) c slot-is (s .step .at) (next .full) }
+  fixed-done : (keys : Table) (c : Cursor) → slotAt (c .group) (c .key) < 128 → (s : FixedBoth) → FixedKeeps t rows s
+      → ResumeKeeps t rows (stepResumed keys (fixedDone n c s))
+  fixed-done keys c slot-is s next = record {
+    keeps = next .keeps;
+    ok = fixed-after-ok (s .links) c slot-is
+        (s .step .next) (next .full);
+  }
 
-  eval-done : (keys : Table) (c : Cursor) → slotAt (c .group) (c .key) < 128 → (s : EvalBoth) → Keeps t rows (s .links) rows (n .queued)
+  eval-done : (keys : Table) (c : Cursor) → slotAt (c .group) (c .key) < 128 → (s : EvalBoth)
+      → Keeps t rows (s .links) rows (n .queued)
       → ResumeKeeps t rows (runResumed keys n (evalDone c s))
-  eval-done keys c slot-is s keeps = record { keeps = keeps; ok = tick.eval-ok (s .links) c slot-is (s .at) }
+  eval-done keys c slot-is s keeps = record { keeps = keeps; ok = tick.eval-ok (s .links) c slot-is (s .next) }
 
-  fixed-resumes : (keys actors : Table) (c : Cursor) (a : FixedAt) (r : Reply) → AtOk (at.Fixed c a) t
+  fixed-resumes : (keys actors : Table) (c : Cursor) (a : FixedAsk) (r : Reply) → AtOk (at.Fixed c a) t
       → ResumeKeeps t rows (stepResumed keys (fixedResumed n t rows actors c a r))
   unfolding fixedResumed
   fixed-resumes keys actors c a r (slot-is, full) =
-      fixed-done keys c slot-is _ (fixed-keeps t rows actors (n .queued) (slotAt (c .group) (c .key)) sound slot-is a full r)
+      fixed-done keys c slot-is _ (fixed-keeps t rows actors (n .queued) (slotAt (c .group) (c .key)) sound slot-is a
+      full r)
 
-  eval-resumes : (limits : Limits) (groups keys actors : Table) (c : Cursor) (a : EvalAt) (r : Reply) → AtOk (at.Eval c a) t
+  eval-resumes : (limits : Limits) (groups keys actors : Table) (c : Cursor) (a : EvalAsk) (r : Reply)
+      → AtOk (at.Eval c a) t
       → ResumeKeeps t rows (runResumed keys n (evalResumed limits groups t rows actors c a r))
   unfolding evalResumed
   eval-resumes limits groups keys actors c a r slot-is =
       eval-done keys c slot-is (stepEval t rows actors (slotAt (c .group) (c .key)) (limitOf limits groups c) a r)
       (eval-keeps t rows actors (n .queued) (slotAt (c .group) (c .key)) sound slot-is (limitOf limits groups c) a r)
 
-pub resume-keeps : (a : At) (n : Counts) (limits : Limits) (groups t rows keys actors : Table) (r : Reply) → Sound t rows (n .queued) → AtOk a t
+pub resume-keeps : (a : At) (n : Counts) (limits : Limits) (groups t rows keys actors : Table) (r : Reply)
+    → Sound t rows (n .queued) → AtOk a t
     → ResumeKeeps t rows (resumeOf a n limits groups t rows keys actors r)
 unfolding resumeOf routeResumed
 resume-keeps at.Rest n limits groups t rows keys actors r sound ok = resumes-to t rows n sound keys actors at.Rest ok
-resume-keeps (at.Seed g) n limits groups t rows keys actors r sound ok = resumes-to t rows n sound keys actors (at.Seed g) ok
-resume-keeps (at.SeedBoot g) n limits groups t rows keys actors r sound ok = resumes-calm t rows n sound _ _ _ (seed-reply-calm keys actors g r)
-resume-keeps (at.Intake left) n limits groups t rows keys actors r sound ok = resumes-to t rows n sound keys actors (at.Intake left) ok
-resume-keeps (at.Route left) n limits groups t rows keys actors r sound ok = resumes-to t rows n sound keys actors (at.Route left) ok
+resume-keeps (at.Seed g) n limits groups t rows keys actors r sound ok = resumes-to t rows n sound keys actors
+    (at.Seed g) ok
+resume-keeps (at.SeedBoot g) n limits groups t rows keys actors r sound ok = resumes-calm t rows n sound _ _ _
+    (seed-reply-calm keys actors g r)
+resume-keeps (at.Intake left) n limits groups t rows keys actors r sound ok = resumes-to t rows n sound keys actors
+    (at.Intake left) ok
+resume-keeps (at.Route left) n limits groups t rows keys actors r sound ok = resumes-to t rows n sound keys actors
+    (at.Route left) ok
 resume-keeps (at.RouteBoot g left) n limits groups t rows keys actors r sound ok =
-    calm-resumes _ (route-reply-keeps t rows keys actors g (n .queued) left r sound) (route-reply-calm t rows keys actors g (n .queued) left r)
-resume-keeps at.TickClock n limits groups t rows keys actors r sound ok = resumes-calm t rows n sound keys actors _ (clock-reply-calm r)
-resume-keeps (at.Wake g clock) n limits groups t rows keys actors r sound ok = resumes-to t rows n sound keys actors (at.Wake g clock) ok
-resume-keeps (at.WakeNext g clock left) n limits groups t rows keys actors r sound ok = resumes-to t rows n sound keys actors (at.WakeNext g clock left) ok
+    calm-resumes _ (route-reply-keeps t rows keys actors g (n .queued) left r sound) (route-reply-calm t rows keys
+    actors g (n .queued) left r)
+resume-keeps at.TickClock n limits groups t rows keys actors r sound ok = resumes-calm t rows n sound keys actors _
+    (clock-reply-calm r)
+resume-keeps (at.Wake g clock) n limits groups t rows keys actors r sound ok = resumes-to t rows n sound keys actors
+    (at.Wake g clock) ok
+resume-keeps (at.WakeNext g clock left) n limits groups t rows keys actors r sound ok = resumes-to t rows n sound keys
+    actors (at.WakeNext g clock left) ok
 resume-keeps (at.WakePoll g k clock left) n limits groups t rows keys actors r sound ok =
     resumes-calm t rows n sound _ _ _ (tick.poll-reply-calm keys actors g k clock left r)
-resume-keeps (at.Ready g clock pops) n limits groups t rows keys actors r sound ok = resumes-to t rows n sound keys actors (at.Ready g clock pops) ok
-resume-keeps (at.Fixed c a) n limits groups t rows keys actors r sound ok = fixed-resumes t rows n sound keys actors c a r ok
-resume-keeps (at.Eval c a) n limits groups t rows keys actors r sound ok = eval-resumes t rows n sound limits groups keys actors c a r ok
-resume-keeps (at.StepEnd c s) n limits groups t rows keys actors r sound ok = resumes-to t rows n sound keys actors (at.StepEnd c s) ok
-resume-keeps (at.Sends c s) n limits groups t rows keys actors r sound ok = resumes-to t rows n sound keys actors _ (sends-reply-ok t c s r)
-resume-keeps (at.Settle c s) n limits groups t rows keys actors r sound ok = resumes-to t rows n sound keys actors (at.Settle c s) ok
-resume-keeps (at.Crash c) n limits groups t rows keys actors r sound ok = resumes-to t rows n sound keys actors (at.Crash c) ok
-resume-keeps (at.AskTrap c) n limits groups t rows keys actors r sound ok = resumes-to t rows n sound keys actors (at.AskTrap c) ok
-resume-keeps (at.Trap c) n limits groups t rows keys actors r sound ok = resumes-calm t rows n sound _ actors _ (tick.trap-reply-calm keys c r)
-resume-keeps (at.Trapped c k) n limits groups t rows keys actors r sound ok = resumes-calm t rows n sound _ actors _ (tick.trapped-reply-calm keys c k r)
-resume-keeps (at.Doomed c left) n limits groups t rows keys actors r sound ok = resumes-to t rows n sound keys actors (at.Doomed c left) ok
+resume-keeps (at.Ready g clock pops) n limits groups t rows keys actors r sound ok = resumes-to t rows n sound keys
+    actors (at.Ready g clock pops) ok
+resume-keeps (at.Fixed c a) n limits groups t rows keys actors r sound ok = fixed-resumes t rows n sound keys actors c
+    a r ok
+resume-keeps (at.Eval c a) n limits groups t rows keys actors r sound ok = eval-resumes t rows n sound limits groups
+    keys actors c a r ok
+resume-keeps (at.StepEnd c e) n limits groups t rows keys actors r sound ok = resumes-to t rows n sound keys actors
+    (at.StepEnd c e) ok
+resume-keeps (at.Sends c s) n limits groups t rows keys actors r sound ok = resumes-to t rows n sound keys actors _
+    (sends-reply-ok t c s r)
+resume-keeps (at.Settle c s) n limits groups t rows keys actors r sound ok = resumes-to t rows n sound keys actors
+    (at.Settle c s) ok
+resume-keeps (at.Crash c) n limits groups t rows keys actors r sound ok = resumes-to t rows n sound keys actors
+    (at.Crash c) ok
+resume-keeps (at.AskTrap c) n limits groups t rows keys actors r sound ok = resumes-to t rows n sound keys actors
+    (at.AskTrap c) ok
+resume-keeps (at.Trap c) n limits groups t rows keys actors r sound ok = resumes-calm t rows n sound _ actors _
+    (tick.trap-reply-calm keys c r)
+resume-keeps (at.Trapped c k) n limits groups t rows keys actors r sound ok = resumes-calm t rows n sound _ actors _
+    (tick.trapped-reply-calm keys c k r)
+resume-keeps (at.Doomed c left) n limits groups t rows keys actors r sound ok = resumes-to t rows n sound keys actors
+    (at.Doomed c left) ok

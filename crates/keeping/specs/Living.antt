@@ -11,11 +11,13 @@ use Rattle.lists.specs.Slabs.{containsOf}
 use Rattle.actor.specs.declared.state.Mode.the-variants as mode
 use Rattle.actor.specs.Actors.{actorAt, hasRun}
 use Rattle.steps.specs.declared.step.Step.{Step}
-use Rattle.steps.specs.declared.step.Step.the-variants as end
-use Rattle.steps.specs.declared.fixed.FixedAt.{FixedAt}
-use Rattle.steps.specs.declared.fixed.FixedAt.the-variants as fixed
-use Rattle.steps.specs.declared.eval.EvalAt.{EvalAt}
-use Rattle.steps.specs.declared.eval.EvalAt.the-variants as eval
+use Rattle.steps.specs.declared.step.Step.the-variants as step
+use Rattle.steps.specs.declared.step.End.{End}
+use Rattle.steps.specs.declared.step.End.the-variants as end
+use Rattle.steps.specs.declared.fixed.FixedAsk.{FixedAsk}
+use Rattle.steps.specs.declared.fixed.FixedAsk.the-variants as fixed
+use Rattle.steps.specs.declared.eval.EvalAsk.{EvalAsk}
+use Rattle.steps.specs.declared.eval.EvalAsk.the-variants as eval
 use Rattle.group.specs.declared.at.At.{At}
 use Rattle.group.specs.declared.at.At.the-variants as at
 use Rattle.group.specs.declared.at.Cursor.{Cursor}
@@ -35,8 +37,8 @@ stepHand t = lenOf t 5
 abbrev pub given : Table → ℕ → ℕ → Bool
 given keys g k = containsOf (keysAt keys (4 * g)) k
 
--- the invariant: the slabs are sound; who is not there holds nothing; a hand holds at most one message, and none of an
--- eval actor that runs nothing
+-- the invariant: the slabs are sound; who is not there holds nothing; a hand holds at most one message, and none of
+-- an eval actor that runs nothing
 pub record Lives (t keys actors : Table) : Type 0 where
   pub keys-are : length keys ≡ 34
   pub actors-are : length actors ≡ 128
@@ -48,29 +50,30 @@ pub record Lives (t keys actors : Table) : Type 0 where
 
 -- ---- where a turn stands: the step's hand, and the hand of the step's actor
 
--- a step ended: with its message over or in the step's hand its actor holds none
-abbrev pub EndHands : Cursor → Step → Table → Type 0
-EndHands c end.Done t = (stepHand t ≤ 0) × (handLen t (c .group) (c .key) ≤ 0)
-EndHands c end.Waiting t = stepHand t ≤ 0
-EndHands c (end.Blocked until) t = stepHand t ≤ 0
-EndHands c end.Yield t = stepHand t ≤ 0
-EndHands c end.Failed t = (stepHand t ≤ 1) × (handLen t (c .group) (c .key) ≤ 0)
+-- a step of a fixed actor ended: with its message over or in the step's hand its actor holds none
+abbrev pub StepHands : Cursor → Step → Table → Type 0
+StepHands c step.Done t = (stepHand t ≤ 0) × (handLen t (c .group) (c .key) ≤ 0)
+StepHands c (step.Parked p) t = stepHand t ≤ 0
+StepHands c step.Failed t = (stepHand t ≤ 1) × (handLen t (c .group) (c .key) ≤ 0)
 
-abbrev pub FixedHands : Cursor → FixedAt → Table → Type 0
+abbrev pub EndHands : Cursor → End → Table → Type 0
+EndHands c (end.Fixed s) t = StepHands c s t
+EndHands c (end.Eval p) t = stepHand t ≤ 0
+
+-- a question of a step is open
+abbrev pub FixedHands : Cursor → FixedAsk → Table → Type 0
 FixedHands c (fixed.Run start) t = stepHand t ≤ 0
 FixedHands c fixed.Drain t = (stepHand t ≤ 0) × (handLen t (c .group) (c .key) ≤ 0)
 FixedHands c fixed.Push t = (stepHand t ≤ 1) × (handLen t (c .group) (c .key) ≤ 0)
 FixedHands c fixed.Dispatch t = stepHand t ≤ 0
-FixedHands c (fixed.End e) t = EndHands c e t
 
-abbrev pub EvalHands : Cursor → EvalAt → Table → Type 0
+abbrev pub EvalHands : Cursor → EvalAsk → Table → Type 0
 EvalHands c eval.Clock t = stepHand t ≤ 0
 EvalHands c eval.Boot t = (stepHand t ≤ 1) × (handLen t (c .group) (c .key) ≤ 0)
 EvalHands c eval.StartClock t = (stepHand t ≤ 1) × (handLen t (c .group) (c .key) ≤ 0)
 EvalHands c (eval.Run start) t = stepHand t ≤ 0
 EvalHands c eval.Dispatch t = stepHand t ≤ 0
 EvalHands c (eval.Tell o) t = stepHand t ≤ 1
-EvalHands c (eval.End e) t = EndHands c e t
 
 -- the actor of a step lives
 abbrev pub Lively : Table → Cursor → Type 0
@@ -93,9 +96,9 @@ AtLives (at.WakePoll g k clock left) t keys actors = stepHand t ≤ 0
 AtLives (at.Ready g clock pops) t keys actors = stepHand t ≤ 0
 AtLives (at.Fixed c a) t keys actors = (Lively keys c × IsFixed actors c) × FixedHands c a t
 AtLives (at.Eval c a) t keys actors = Lively keys c × EvalHands c a t
-AtLives (at.StepEnd c s) t keys actors = EndHands c s t
-AtLives (at.Sends c s) t keys actors = EndHands c s t
-AtLives (at.Settle c s) t keys actors = EndHands c s t
+AtLives (at.StepEnd c e) t keys actors = EndHands c e t
+AtLives (at.Sends c s) t keys actors = StepHands c s t
+AtLives (at.Settle c s) t keys actors = StepHands c s t
 AtLives (at.Crash c) t keys actors = stepHand t ≤ 1
 AtLives (at.AskTrap c) t keys actors = stepHand t ≤ 0
 AtLives (at.Trap c) t keys actors = stepHand t ≤ 0

@@ -6,7 +6,7 @@ use Prim.Native.Nat.{ℕ, suc, _+_, _-_, _≤_, _<_}
 use native.Mathlib.Omega.{arith}
 use borrow.Author.Tests.{eqb-true, leb-true, leb-false, ltb-true, ltb-false}
 use lib.Dec.{eqb, leb, ltb}
-use lib.ListN.{length, take, drop, getD, length-take, length-drop}
+use lib.ListN.{length, take, drop, length-take, length-drop}
 use Rattle.text.specs.Format.{LF, lines}
 use Rattle.text.specs.Bytes.{part}
 use Rattle.text.specs.Answers.{First, NextLine}
@@ -20,13 +20,15 @@ use Rattle.lines.specs.Lines.{turnOf, turnAt}
 part-length : (s : List ℕ) (a e : ℕ) → e ≤ length s → length (part s a e) ≡ e - a
 part-length s a e h = simp (length-take, length-drop) (omega arith)
 
-pub turn-line : (s : List ℕ) (at e : ℕ) → NextLine s at e → e < length s → _≡_ {A = Turn} (record { line = At at e; at = e + 1 }) (turnAt s at)
+pub turn-line : (s : List ℕ) (at e : ℕ) → NextLine s at e → e < length s
+    → _≡_ {A = Turn} (record { line = At at e; at = e + 1 }) (turnAt s at)
 unfolding turnAt
 turn-line s at e n h =
     let k : at + length (part s at e) ≡ e = omega (arith, part-length s at e (n .within), n .low h) in
     sym (ap (λ ls. turnOf ls at) (n .whole h) ∙ ap (λ j. record { line = At at j; at = j + 1 }) k)
 
-pub turn-none : (s : List ℕ) (at : ℕ) → lines (drop at s) ≡ [] → _≡_ {A = Turn} (record { line = End; at = at }) (turnAt s at)
+pub turn-none : (s : List ℕ) (at : ℕ) → lines (drop at s) ≡ [] → _≡_ {A = Turn} (record { line = End; at = at })
+    (turnAt s at)
 unfolding turnAt
 turn-none s at h = sym (ap (λ ls. turnOf ls at) h)
 
@@ -36,12 +38,36 @@ record FirstLF (s : List ℕ) : Type 0 where
   first : First s LF place
 
 first-lf : (s : List ℕ) → FirstLF s
-first-lf [] = record { place = 0; first = record { within = omega arith; before = tt; there = λ (h : 0 < 0). absurd (omega arith) } }
+first-lf [] = record {
+  place = 0;
+  first = record {
+    within = omega arith;
+    before = tt;
+    there = λ (h : 0 < 0). absurd
+        (omega arith);
+  };
+}
 first-lf (b ∷ bs) = at (eqb b LF) refl (first-lf bs)
   where
     at : (t : Bool) → eqb b LF ≡ t → FirstLF bs → FirstLF (b ∷ bs)
-    at true e f = record { place = 0; first = record { within = omega arith; before = tt; there = λ _. eqb-true b LF e } }
-    at false e f = record { place = suc (f .place); first = record { within = omega (arith, f .first .within); before = (e, f .first .before); there = λ (h : suc (f .place) < suc (length bs)). f .first .there (omega arith) } }
+    at true e f = record {
+      place = 0;
+      first = record {
+        within = omega arith;
+        before = tt;
+        there =
+            λ _. eqb-true b LF e;
+      };
+    }
+    at false e f = record {
+      place = suc (f .place);
+      first = record {
+        within = omega (arith, f .first .within);
+        before =
+            (e, f .first .before);
+        there = λ (h : suc (f .place) < suc (length bs)). f .first .there (omega arith);
+      };
+    }
 
 -- so a next line from a place on ends somewhere, or nowhere
 record Ends (s : List ℕ) (at : ℕ) : Type 0 where
@@ -55,11 +81,31 @@ ends s at = by (leb at (length s)) refl
     by true e =
         let l = first-lf (take (length s - at) (drop at s)) in
         let f = first-from s at LF (l .place) (leb-true at (length s) e) (l .first) in
-        record { end = at + l .place; next = record { within = f .within; low = λ _. f .low; whole = whole-from _ _ _ _ f refl; feed = feed-from _ _ _ _ f refl; torn = torn-from _ _ _ _ f refl } }
+        record {
+          end = at + l .place;
+          next = record {
+            within = f .within;
+            low = λ _. f .low;
+            whole =
+                whole-from _ _ _ _ f refl;
+            feed = feed-from _ _ _ _ f refl;
+            torn = torn-from _ _ _ _ f refl;
+          };
+        }
     by false e =
         let n : length s < length s → ⊥ = λ h. omega arith in
         let past : length s ≤ at = omega (arith, leb-false at (length s) e) in
-        record { end = length s; next = record { within = omega arith; low = λ h. absurd (n h); whole = λ h. absurd (n h); feed = λ h. absurd (n h); torn = λ _. none-past s at past } }
+        record {
+          end = length s;
+          next = record {
+            within = omega arith;
+            low = λ h. absurd (n h);
+            whole =
+                λ h. absurd (n h);
+            feed = λ h. absurd (n h);
+            torn = λ _. none-past s at past;
+          };
+        }
 
 -- a line that was handed back: where it stands, and where the reader then is
 pub record Found (s : List ℕ) (at a e to : ℕ) : Type 0 where
@@ -93,7 +139,14 @@ module _ (s : List ℕ) (at : ℕ) (t : Turn) (is : t ≡ turnAt s at) where
           let b : a ≡ at = ap startOf m in
           let f : e ≡ x .end = ap endOf m in
           let p : t .at ≡ x .end + 1 = ap (λ u. u .at) v in
-          record { start = b; past = omega (arith, p, f); low = omega (arith, b, f, x .next .low i); inside = omega (arith, f); whole = rw (b, f, p) (x .next .whole i) }
+          record {
+            start = b;
+            past = omega (arith, p, f);
+            low = omega (arith, b, f, x .next .low i);
+            inside =
+                omega (arith, f);
+            whole = rw (b, f, p) (x .next .whole i);
+          }
       by x false h =
           let i = ltb-false (x .end) (length s) h in
           absurd (false≢true (sym (ap isAt (sym l ∙ ap (λ u. u .line) (is ∙ sym (turn-none s at (x .next .torn i)))))))

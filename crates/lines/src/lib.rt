@@ -1,6 +1,8 @@
-// A line reader that remembers the log and how far it has read, lent by `&mut`: each call hands back the next whole line and moves on past it.
-// The work is in `turn_at`, on a slice and a place. `reader` and `next`, which have the struct, and `turn_from`, which makes one, are proved by walks (tools/held.py);
-// `turn_from` has plain parameters, so whoever calls it needs none. Every reader of the log's lines goes through it.
+// A line reader that remembers the log and how far it has read, lent by `&mut`: each call hands back the next whole
+// line and moves on past it.
+// The work is in `turn_at`, on a slice and a place. `reader` and `next`, which have the struct, and `turn_from`, which
+// makes one, are proved by walks (tools/held.py). A pass over a file makes one reader and lends it to `next`, line by
+// line; `turn_from` has plain parameters, so whoever reads a single line needs no walk.
 ghost use mathlib.Core.Path.{_≡_};
 ghost use lib.ListN.{drop};
 ghost use Rattle.text.specs.Format.{lines};
@@ -50,7 +52,9 @@ pub fn reader<'a>(log: &'a [u8], at: usize) -> Lines<'a>
 
 // The next whole line; the reader is then past it. Where there is none, or only a torn one, it stays.
 pub fn next<'s, 'a>(r: &'s mut Lines<'a>) -> Line
-    ensures { λ l. ⌜ (record { line = l; at = now (r .exit) .at } ≡ turnAt (now (now (r .entry) .log)) (now (r .entry) .at)) × (now (r .exit) .log ≡ now (r .entry) .log) ⌝ }
+    ensures { λ l. ⌜ (record { line = l; at = now (r .exit) .at }
+        ≡ turnAt (now (now (r .entry) .log)) (now (r .entry) .at))
+        × (now (r .exit) .log ≡ now (r .entry) .log) ⌝ }
 {
     let t = turn_at(r.log, r.at);
     r.at = t.at;

@@ -9,7 +9,8 @@ use borrow.Author.Tests.{ne-eqb}
 use lib.ListN.{length, getD, set, length-set, List·getD-eq-default}
 use lib.Seq.{getD-set-same, getD-set-other, ext-getD}
 use Rattle.lists.specs.declared.Link.{Link}
-use Rattle.lists.specs.Links.{LISTS, ENTRIES, FREE, Table, linkOf, linkAt, headOf, tailOf, lenOf, nextOf, startRow, startFrom}
+use Rattle.lists.specs.Links.{LISTS, ENTRIES, FREE, Table, linkOf, linkAt, headOf, tailOf, lenOf, nextOf}
+use Rattle.lists.specs.Links.{startRow, startFrom}
 use Rattle.lists.specs.Family.{count, lastD, total, upFrom, view, Started}
 use Rattle.lists.proofs.Counts.{put, put-one, total-single, length-up, lastD-up, count-up-in, count-up-past}
 use Rattle.lists.proofs.Chains.{chain-up}

@@ -9,7 +9,8 @@ use borrow.Author.Tests.{le-leb}
 use lib.ListN.{length, getD, set, length-set}
 use lib.Seq.{getD-set-same, getD-set-other, set-out}
 use Rattle.lists.specs.declared.Link.{Link}
-use Rattle.lists.specs.Links.{ENTRIES, Table, linkOf, linkAt, headOf, tailOf, lenOf, nextOf, setEnds, setNext, capped}
+use Rattle.lists.specs.Links.{ENTRIES, Table, linkOf, linkAt, headOf, tailOf, lenOf, nextOf, setEnds, setNext}
+use Rattle.lists.specs.Links.{capped}
 
 pub capped-small : (x : ℕ) → x ≤ ENTRIES → capped x ≡ x
 unfolding capped

@@ -1,5 +1,5 @@
--- Laws of lists of entries, whatever table they come from: updates of a function, counts, last elements, sums over lists.
--- They hold for any number of entries and of lists. Assumes nothing.
+-- Laws of lists of entries, whatever table they come from: updates of a function, counts, last elements, sums over
+-- lists. They hold for any number of entries and of lists. Assumes nothing.
 use mathlib.Core.Path.{_≡_, refl, sym, ap, _∙_, fun-ext}
 use mathlib.Core.Logic.{_≢_}
 use mathlib.Core.List.{List, [], _∷_, _++_}
@@ -34,7 +34,8 @@ put-one {A} g f i x at-i others = fun-ext (λ k. go k (ℕ-discrete k i))
     go k (no p) = rw (put-other f i x k p) (others k p)
 
 -- a function that is x at i, y at j and f elsewhere
-pub put-two : {A : Type 0} (g f : ℕ → A) (i j : ℕ) (x y : A) → i ≢ j → g i ≡ x → g j ≡ y → ((k : ℕ) → k ≢ i → k ≢ j → g k ≡ f k) → g ≡ put (put f i x) j y
+pub put-two : {A : Type 0} (g f : ℕ → A) (i j : ℕ) (x y : A) → i ≢ j → g i ≡ x → g j ≡ y → ((k : ℕ) → k ≢ i → k ≢ j
+    → g k ≡ f k) → g ≡ put (put f i x) j y
 put-two {A} g f i j x y apart at-i at-j others = fun-ext (λ k. go k (ℕ-discrete k i) (ℕ-discrete k j))
   where
     go : (k : ℕ) → Dec (k ≡ i) → Dec (k ≡ j) → g k ≡ put (put f i x) j y k
@@ -114,13 +115,15 @@ last-in t (x ∷ xs) some p = rw p at (count-last t x xs)
 -- ---- total
 
 -- a list past the first n does not count
-pub total-put-past : (w : List ℕ → ℕ) (n : ℕ) (f : ℕ → List ℕ) (k : ℕ) (l : List ℕ) → n ≤ k → total w n (put f k l) ≡ total w n f
+pub total-put-past : (w : List ℕ → ℕ) (n : ℕ) (f : ℕ → List ℕ) (k : ℕ) (l : List ℕ) → n ≤ k → total w n (put f k l)
+    ≡ total w n f
 unfolding total
 total-put-past w zero f k l h = refl
 total-put-past w (suc n) f k l h =
     rw (total-put-past w n f k l (omega arith), put-other f k l n (omega arith))
 
-pub total-put : (w : List ℕ → ℕ) (n : ℕ) (f : ℕ → List ℕ) (k : ℕ) (l : List ℕ) → k < n → total w n (put f k l) + w (f k) ≡ total w n f + w l
+pub total-put : (w : List ℕ → ℕ) (n : ℕ) (f : ℕ → List ℕ) (k : ℕ) (l : List ℕ) → k < n
+    → total w n (put f k l) + w (f k) ≡ total w n f + w l
 unfolding total
 total-put w zero f k l h = absurd (omega arith)
 total-put w (suc n) f k l h = go (ℕ-discrete k n) (total-put w n f k l)
@@ -183,6 +186,7 @@ unfolding upFrom
 count-up-in e h zero p q = absurd (omega arith)
 count-up-in e h (suc n) p q = go (ℕ-discrete h e) (count-up-in e (suc h) n)
   where
-    go : Dec (h ≡ e) → (suc h ≤ e → e < suc h + n → count e (upFrom (suc h) n) ≡ 1) → count e (h ∷ upFrom (suc h) n) ≡ 1
+    go : Dec (h ≡ e) → (suc h ≤ e → e < suc h + n → count e (upFrom (suc h) n) ≡ 1) → count e (h ∷ upFrom (suc h) n)
+        ≡ 1
     go (yes r) later = omega (arith, count-same e h (upFrom (suc h) n) r, count-up-below e (suc h) n (omega arith))
     go (no r) later = count-other e h (upFrom (suc h) n) r ∙ later (omega arith) (omega arith)

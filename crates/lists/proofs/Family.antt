@@ -56,12 +56,21 @@ unfolding count
 count-more e x xs = omega arith
 
 -- of two places of a list that have the same, each counts
-pub count-twice : (xs : List ℕ) (i j : ℕ) → i < j → j < length xs → getD xs i 0 ≡ getD xs j 0 → 1 < count (getD xs j 0) xs
+pub count-twice : (xs : List ℕ) (i j : ℕ) → i < j → j < length xs → getD xs i 0 ≡ getD xs j 0
+    → 1 < count (getD xs j 0) xs
 count-twice [] i j p q same = absurd (omega arith)
 count-twice (x ∷ xs) zero zero p q same = absurd (omega arith)
-count-twice (x ∷ xs) zero (suc j) p q same = omega (arith, count-same (getD xs j 0) x xs same, count-at xs j (omega arith))
+count-twice (x ∷ xs) zero (suc j) p q same = omega (
+  arith,
+  count-same (getD xs j 0) x xs same,
+  count-at xs j (omega arith),
+)
 count-twice (x ∷ xs) (suc i) zero p q same = absurd (omega arith)
-count-twice (x ∷ xs) (suc i) (suc j) p q same = omega (arith, count-twice xs i j (omega arith) (omega arith) same, count-more (getD xs j 0) x xs)
+count-twice (x ∷ xs) (suc i) (suc j) p q same = omega (
+  arith,
+  count-twice xs i j (omega arith) (omega arith) same,
+  count-more (getD xs j 0) x xs,
+)
 
 -- past the table's end every list is empty
 pub len-past : (t : Table) (k : ℕ) → length t ≤ k → lenOf t k ≡ 0
@@ -103,7 +112,11 @@ module _ (t : Table) (good : Good t) where
 
   -- so no chain has a circle: what stands at two places of a list is not the same
   pub no-circle : (k i j : ℕ) → k < LISTS → i < j → j < length (view t k) → getD (view t k) i 0 ≢ getD (view t k) j 0
-  no-circle k i j k-is before inside same = omega (arith, count-twice (view t k) i j before inside same, single (getD (view t k) j 0) k k-is)
+  no-circle k i j k-is before inside same = omega (
+    arith,
+    count-twice (view t k) i j before inside same,
+    single (getD (view t k) j 0) k k-is,
+  )
 
   -- an entry of one list stands in no other
   pub nowhere-else : (e k j : ℕ) → k < LISTS → 0 < count e (view t k) → j ≢ k → count e (view t j) ≡ 0
@@ -119,7 +132,12 @@ module _ (t : Table) (good : Good t) where
     where
       go : Dec (e < ENTRIES) → e < ENTRIES
       go (yes p) = p
-      go (no q) = absurd (omega (arith, good .none e (omega arith), total-one (count e) LISTS (view t) k k-is (count-none e)))
+      go (no q) = absurd (omega (
+        arith,
+        good .none e (omega arith),
+        total-one (count e) LISTS (view t) k k-is
+            (count-none e),
+      ))
 
   -- a list holds no more than all the entries
   pub at-most-all : (k : ℕ) → k < LISTS → length (view t k) ≤ ENTRIES
@@ -128,7 +146,13 @@ module _ (t : Table) (good : Good t) where
   -- two lists hold no more than all the entries
   pub room : (i j : ℕ) → i < LISTS → j < LISTS → i ≢ j → lenOf t i + lenOf t j ≤ ENTRIES
   room i j i-is j-is apart =
-      omega (arith, good .whole, total-two length LISTS (view t) i j i-is j-is apart refl, length-view t i, length-view t j)
+      omega (
+        arith,
+        good .whole,
+        total-two length LISTS (view t) i j i-is j-is apart refl,
+        length-view t i,
+        length-view t j,
+      )
 
   -- the tail of a list that is not empty stands in it
   pub tail-in : (k : ℕ) → 0 < length (view t k) → 0 < count (tailOf t k) (view t k)
@@ -139,8 +163,10 @@ module _ (t : Table) (good : Good t) where
     change-view : view r ≡ put (put (view t) i a) j b
     change-view = put-two (view r) (view t) i j a b (change .apart) (change .at-i) (change .at-j) (change .others)
 
-    weigh : (w : List ℕ → ℕ) → w a + w b ≡ w (view t i) + w (view t j) → total w LISTS (view r) ≡ total w LISTS (view t)
-    weigh w same = rw change-view (total-kept w LISTS (view t) i j (change .i-is) (change .j-is) (change .apart) a b same)
+    weigh : (w : List ℕ → ℕ) → w a + w b ≡ w (view t i) + w (view t j) → total w LISTS (view r)
+        ≡ total w LISTS (view t)
+    weigh w same = rw change-view (total-kept w LISTS (view t) i j (change .i-is) (change .j-is) (change .apart) a b
+        same)
 
     change-lasts : (k : ℕ) → lastD (tailOf r k) (view r k) ≡ tailOf r k
     change-lasts k = go (ℕ-discrete k i) (ℕ-discrete k j)

@@ -10,12 +10,16 @@ use borrow.Author.Tests.{eq-eqb, ne-eqb, le-leb, lt-leb}
 use lib.ListN.{length, getD, take, drop, length-append}
 use lib.Seq.{length-take-le, take-all, take-nil, drop-nil, drop-length}
 use Rattle.lists.specs.declared.Link.{Link}
-use Rattle.lists.specs.Links.{LISTS, ENTRIES, Table, linkAt, headOf, tailOf, lenOf, nextOf, setEnds, setNext, capped, leaveOf, joinEnd, joinFront, ifMoves, moveFirst, moveFirstToFront, moveAll}
+use Rattle.lists.specs.Links.{LISTS, ENTRIES, Table, linkAt, headOf, tailOf, lenOf, nextOf, setEnds, setNext}
+use Rattle.lists.specs.Links.{capped, leaveOf, joinEnd, joinFront, ifMoves, moveFirst, moveFirstToFront, moveAll}
 use Rattle.lists.specs.Family.{count, lastD, chain, view, Good, Pair, Run, Moved, MovedAll, MovedToFront}
-use Rattle.lists.proofs.Counts.{count-append, count-split, length-split, lastD-append, lastD-default, lastD-drop, lastD-take, last-in}
-use Rattle.lists.proofs.Cells.{capped-small, ends-length, ends-head, ends-tail, ends-len, ends-other-head, ends-other-tail, ends-other-len, next-length, next-head, next-tail, next-len}
+use Rattle.lists.proofs.Counts.{count-append, count-split, length-split, lastD-append, lastD-default}
+use Rattle.lists.proofs.Counts.{lastD-drop, lastD-take, last-in}
+use Rattle.lists.proofs.Cells.{capped-small, ends-length, ends-head, ends-tail, ends-len, ends-other-head}
+use Rattle.lists.proofs.Cells.{ends-other-tail, ends-other-len, next-length, next-head, next-tail, next-len}
 use Rattle.lists.proofs.Chains.{take-chain, drop-chain, chain-ends, chain-frame, chain-join}
-use Rattle.lists.proofs.Family.{length-view, view-none, first-view, len-past, single, nowhere-else, entry, room, tail-in, Change, change-good}
+use Rattle.lists.proofs.Family.{length-view, view-none, first-view, len-past, single, nowhere-else, entry, room}
+use Rattle.lists.proofs.Family.{tail-in, Change, change-good}
 
 -- ---- a list's ends are stored
 
@@ -27,12 +31,14 @@ module _ (u : Table) (k h a n : ℕ) (k-is : k < length u) where
 module _ (u : Table) (k h a n : ℕ) (j : ℕ) (other : j ≢ k) where
   view-ends-other : view (setEnds u k h a n) j ≡ view u j
   unfolding view
-  view-ends-other = rw (ends-other-len u k h a n j other, ends-other-head u k h a n j other) (chain-ends u k h a n (lenOf u j) (headOf u j))
+  view-ends-other = rw (ends-other-len u k h a n j other, ends-other-head u k h a n j other)
+      (chain-ends u k h a n (lenOf u j) (headOf u j))
 
 -- the link of an entry that is not in a list does not matter to it
 view-frame : (u : Table) (e v k : ℕ) → count e (view u k) ≡ 0 → view (setNext u e v) k ≡ view u k
 unfolding view
-view-frame u e v k nowhere = rw (next-len u e v k, next-head u e v k) (chain-frame u e v (lenOf u k) (headOf u k) nowhere)
+view-frame u e v k nowhere = rw (next-len u e v k, next-head u e v k) (chain-frame u e v (lenOf u k) (headOf u k)
+    nowhere)
 
 -- ---- a run of entries
 
@@ -53,7 +59,12 @@ module _ {t : Table} {from to n last : ℕ} (run : Run t from to n last) where
   enough = omega (arith, run .enough, length-view t from)
 
   fits : capped (lenOf t to + n) ≡ lenOf t to + n
-  fits = capped-small (lenOf t to + n) (omega (arith, enough, room t good from to (run .pair .from-is) (run .pair .to-is) apart))
+  fits = capped-small (lenOf t to + n) (omega (
+    arith,
+    enough,
+    room t good from to (run .pair .from-is)
+        (run .pair .to-is) apart,
+  ))
 
   -- what moves, along the links
   moves-chain : chain t n (headOf t from) ≡ take n (view t from)
@@ -70,7 +81,11 @@ module _ {t : Table} {from to n last : ℕ} (run : Run t from to n last) where
 
   -- the run's last entry stands in `from` alone, and there once
   last-moves : 0 < count last (take n (view t from))
-  last-moves = last-in last (take n (view t from)) (omega (arith, length-take-le n (view t from) (run .enough), run .some)) (moves-last last)
+  last-moves = last-in last (take n (view t from)) (omega (
+    arith,
+    length-take-le n (view t from) (run .enough),
+    run .some,
+  )) (moves-last last)
 
   last-here : 0 < count last (view t from)
   last-here = omega (arith, last-moves, count-split last n (view t from))
@@ -82,7 +97,12 @@ module _ {t : Table} {from to n last : ℕ} (run : Run t from to n last) where
   last-once = omega (arith, last-moves, single t good last from (run .pair .from-is), count-split last n (view t from))
 
   last-not-stays : count last (drop n (view t from)) ≡ 0
-  last-not-stays = omega (arith, last-moves, single t good last from (run .pair .from-is), count-split last n (view t from))
+  last-not-stays = omega (
+    arith,
+    last-moves,
+    single t good last from (run .pair .from-is),
+    count-split last n (view t from),
+  )
 
   last-elsewhere : (k : ℕ) → k ≢ from → count last (view t k) ≡ 0
   last-elsewhere k other = nowhere-else t good last from k (run .pair .from-is) last-here other
@@ -146,8 +166,10 @@ module _ {t : Table} {from to n last : ℕ} (run : Run t from to n last) where
 
   -- ---- it joins `to`: u is the table once the run is linked, and `all` what `to` then is, from h to a
 
-  module _ (u : Table) (h a : ℕ) (all : List ℕ) (long : length u ≡ LISTS) (tails : (k : ℕ) → tailOf u k ≡ tailOf left k)
-      (others : (k : ℕ) → k ≢ to → view u k ≡ view left k) (at-to : chain u (lenOf t to + n) h ≡ all) (a-last : lastD a all ≡ a)
+  module _ (u : Table) (h a : ℕ) (all : List ℕ) (long : length u ≡ LISTS) (tails : (k : ℕ) → tailOf u k
+      ≡ tailOf left k)
+      (others : (k : ℕ) → k ≢ to → view u k ≡ view left k) (at-to : chain u (lenOf t to + n) h ≡ all)
+      (a-last : lastD a all ≡ a)
       (counts : (e : ℕ) → count e all ≡ count e (view t to) + count e (take n (view t from)))
       (lengths : length all ≡ length (view t to) + length (take n (view t from))) where
     abbrev joined : Table
@@ -181,7 +203,8 @@ module _ {t : Table} {from to n last : ℕ} (run : Run t from to n last) where
 
   -- ---- at its end
 
-  end-counts : (e : ℕ) → count e (view t to ++ take n (view t from)) ≡ count e (view t to) + count e (take n (view t from))
+  end-counts : (e : ℕ) → count e (view t to ++ take n (view t from)) ≡ count e (view t to) + count e
+      (take n (view t from))
   end-counts e = count-append e (view t to) (take n (view t from))
 
   end-lengths : length (view t to ++ take n (view t from)) ≡ length (view t to) + length (take n (view t from))
@@ -191,7 +214,13 @@ module _ {t : Table} {from to n last : ℕ} (run : Run t from to n last) where
   end-last = lastD-append last (view t to) (take n (view t from)) ∙ moves-last (lastD last (view t to))
 
   end-empty : lenOf t to ≡ 0 → Moved t from to n (joinEnd left to (headOf t from) n last)
-  end-empty none = rw form (record { good = join-good left h last all long tails others at-to end-last end-counts end-lengths; left = change .at-i; joined = change .at-j; others = change .others })
+  end-empty none = rw form (record {
+    good = join-good left h last all long tails others at-to end-last end-counts
+        end-lengths;
+    left = change .at-i;
+    joined = change .at-j;
+    others = change .others;
+  })
     where
       h : ℕ
       h = headOf t from
@@ -218,7 +247,13 @@ module _ {t : Table} {from to n last : ℕ} (run : Run t from to n last) where
       change = join-change left h last all long tails others at-to end-last end-counts end-lengths
 
   end-more : 0 < lenOf t to → Moved t from to n (joinEnd left to (headOf t from) n last)
-  end-more some = rw form (record { good = join-good u (headOf t to) last all long tails others at-to end-last end-counts end-lengths; left = change .at-i; joined = change .at-j; others = change .others })
+  end-more some = rw form (record {
+    good = join-good u (headOf t to) last all long tails others at-to end-last
+        end-counts end-lengths;
+    left = change .at-i;
+    joined = change .at-j;
+    others = change .others;
+  })
     where
       h : ℕ
       h = headOf t from
@@ -253,7 +288,8 @@ module _ {t : Table} {from to n last : ℕ} (run : Run t from to n last) where
       to-chain = unfold view in left-chain (lenOf t to) (headOf t to)
 
       run-chain : chain u n h ≡ take n (view t from)
-      run-chain = chain-frame left (tailOf left to) h n h (rw (left-chain n h, moves-chain, left-tail to) (tail-not-moves some)) ∙ (left-chain n h ∙ moves-chain)
+      run-chain = chain-frame left (tailOf left to) h n h (rw (left-chain n h, moves-chain, left-tail to)
+          (tail-not-moves some)) ∙ (left-chain n h ∙ moves-chain)
 
       at-to : chain u (lenOf t to + n) (headOf t to) ≡ all
       at-to =
@@ -278,7 +314,8 @@ module _ {t : Table} {from to n last : ℕ} (run : Run t from to n last) where
 
   -- ---- at its front
 
-  front-counts : (e : ℕ) → count e (take n (view t from) ++ view t to) ≡ count e (view t to) + count e (take n (view t from))
+  front-counts : (e : ℕ) → count e (take n (view t from) ++ view t to) ≡ count e (view t to) + count e
+      (take n (view t from))
   front-counts e = omega (arith, count-append e (take n (view t from)) (view t to))
 
   front-lengths : length (take n (view t from) ++ view t to) ≡ length (view t to) + length (take n (view t from))
@@ -298,8 +335,10 @@ module _ {t : Table} {from to n last : ℕ} (run : Run t from to n last) where
   linked-to : chain linked (lenOf t to) (headOf left to) ≡ view t to
   linked-to = rw left-head (frame ∙ (left-chain (lenOf t to) (headOf t to) ∙ unfold view in refl))
     where
-      frame : chain (setNext left last (headOf t to)) (lenOf t to) (headOf t to) ≡ chain left (lenOf t to) (headOf t to)
-      frame = chain-frame left last (headOf t to) (lenOf t to) (headOf t to) (rw left-chain (unfold view in last-elsewhere to apart′))
+      frame : chain (setNext left last (headOf t to)) (lenOf t to) (headOf t to)
+          ≡ chain left (lenOf t to) (headOf t to)
+      frame = chain-frame left last (headOf t to) (lenOf t to) (headOf t to) (rw left-chain (unfold view in
+          last-elsewhere to apart′))
 
   run-chain : chain left n (headOf t from) ≡ take n (view t from)
   run-chain = left-chain n (headOf t from) ∙ moves-chain
@@ -307,7 +346,8 @@ module _ {t : Table} {from to n last : ℕ} (run : Run t from to n last) where
   linked-all : chain linked (lenOf t to + n) (headOf t from) ≡ take n (view t from) ++ view t to
   linked-all =
       rw (add-comm (lenOf t to) n)
-      (chain-join left last (headOf left to) (lenOf t to) last n (headOf t from) (run .some) (omega (arith, last-entry, left-length))
+      (chain-join left last (headOf left to) (lenOf t to) last n (headOf t from) (run .some)
+      (omega (arith, last-entry, left-length))
       (rw run-chain (moves-last last)) (rw run-chain last-once)
       ∙ ap₂ _++_ run-chain linked-to)
 
@@ -316,7 +356,8 @@ module _ {t : Table} {from to n last : ℕ} (run : Run t from to n last) where
     front-by : MovedToFront t from to n (setEnds linked to (headOf t from) a (lenOf t to + n))
     front-by =
         record {
-          good = join-good linked (headOf t from) a (take n (view t from) ++ view t to) long tails others linked-all a-last front-counts front-lengths;
+          good = join-good linked (headOf t from) a (take n (view t from) ++ view t to) long tails others linked-all
+              a-last front-counts front-lengths;
           left = change .at-i;
           joined = change .at-j;
           others = change .others;
@@ -331,8 +372,10 @@ module _ {t : Table} {from to n last : ℕ} (run : Run t from to n last) where
         others : (k : ℕ) → k ≢ to → view linked k ≡ view left k
         others k p = linked-others k
 
-        change : Change t (setEnds linked to (headOf t from) a (lenOf t to + n)) from to (drop n (view t from)) (take n (view t from) ++ view t to)
-        change = join-change linked (headOf t from) a (take n (view t from) ++ view t to) long tails others linked-all a-last front-counts front-lengths
+        change : Change t (setEnds linked to (headOf t from) a (lenOf t to + n)) from to (drop n (view t from))
+            (take n (view t from) ++ view t to)
+        change = join-change linked (headOf t from) a (take n (view t from) ++ view t to) long tails others linked-all
+            a-last front-counts front-lengths
 
   pub front-moved : MovedToFront t from to n (joinFront left to (headOf t from) n last)
   front-moved = go (decLt 0 (lenOf t to))
@@ -340,15 +383,18 @@ module _ {t : Table} {from to n last : ℕ} (run : Run t from to n last) where
       more-last : 0 < lenOf t to → lastD (tailOf t to) (take n (view t from) ++ view t to) ≡ tailOf t to
       more-last some =
           lastD-append (tailOf t to) (take n (view t from)) (view t to)
-          ∙ (lastD-default (lastD (tailOf t to) (take n (view t from))) (tailOf t to) (view t to) (omega (arith, length-view t to)) ∙ good .lasts to)
+          ∙ (lastD-default (lastD (tailOf t to) (take n (view t from))) (tailOf t to) (view t to)
+          (omega (arith, length-view t to)) ∙ good .lasts to)
 
       empty-last : lenOf t to ≡ 0 → lastD last (take n (view t from) ++ view t to) ≡ last
       empty-last none = rw (view-none t to none, append-nil) (moves-last last)
 
-      more-form : 0 < lenOf t to → joinFront left to (headOf t from) n last ≡ setEnds linked to (headOf t from) (tailOf t to) (lenOf t to + n)
+      more-form : 0 < lenOf t to → joinFront left to (headOf t from) n last ≡ setEnds linked to (headOf t from)
+          (tailOf t to) (lenOf t to + n)
       more-form some = unfold joinFront in rw (left-len, ne-eqb (lenOf t to) 0 (λ z. omega arith), fits, left-tail to)
 
-      empty-form : lenOf t to ≡ 0 → joinFront left to (headOf t from) n last ≡ setEnds linked to (headOf t from) last (lenOf t to + n)
+      empty-form : lenOf t to ≡ 0 → joinFront left to (headOf t from) n last ≡ setEnds linked to (headOf t from) last
+          (lenOf t to + n)
       empty-form none = unfold joinFront in rw (left-len, eq-eqb (lenOf t to) 0 none, fits)
 
       go : Dec (0 < lenOf t to) → MovedToFront t from to n (joinFront left to (headOf t from) n last)
@@ -361,7 +407,13 @@ module _ {t : Table} {from to : ℕ} (pair : Pair t from to) where
   -- the first entry, and all of them, as runs
   first-run : 0 < lenOf t from → Run t from to 1 (headOf t from)
   first-run some =
-      record { pair = pair; some = omega arith; enough = omega (arith, length-view t from); last-is = sym (first-view t from (omega (arith, length-view t from))) }
+      record {
+        pair = pair;
+        some = omega arith;
+        enough = omega (arith, length-view t from);
+        last-is =
+            sym (first-view t from (omega (arith, length-view t from)));
+      }
 
   take-whole : take (lenOf t from) (view t from) ≡ view t from
   take-whole = take-all (lenOf t from) (view t from) (omega (arith, length-view t from))
@@ -371,7 +423,14 @@ module _ {t : Table} {from to : ℕ} (pair : Pair t from to) where
 
   all-run : 0 < lenOf t from → Run t from to (lenOf t from) (tailOf t from)
   all-run some =
-      record { pair = pair; some = some; enough = enough; last-is = sym (pair .good .lasts from) ∙ ap (lastD (tailOf t from)) (sym take-whole) ∙ lastD-take (tailOf t from) (lenOf t from) (view t from) some enough }
+      record {
+        pair = pair;
+        some = some;
+        enough = enough;
+        last-is = sym (pair .good .lasts from)
+            ∙ ap (lastD (tailOf t from)) (sym take-whole) ∙ lastD-take (tailOf t from) (lenOf t from) (view t from) some
+            enough;
+      }
     where
       enough : lenOf t from ≤ length (view t from)
       enough = omega (arith, length-view t from)
@@ -379,12 +438,20 @@ module _ {t : Table} {from to : ℕ} (pair : Pair t from to) where
   -- of two lists, the first of which has an entry, `ifMoves` moves
   moves : (r : Table) → 0 < lenOf t from → ifMoves t from to r ≡ r
   moves r some =
-      rw (ne-eqb from to (pair .apart), lt-leb (length t) to (omega (arith, pair .to-is, pair .good .sized)), ne-eqb (lenOf t from) 0 (λ z. omega arith))
+      rw (
+        ne-eqb from to (pair .apart),
+        lt-leb (length t) to (omega (arith, pair .to-is, pair .good .sized)),
+        ne-eqb (lenOf t from) 0 (λ z. omega arith),
+      )
 
   -- of an empty one nothing moves
   stays : (r : Table) → lenOf t from ≡ 0 → ifMoves t from to r ≡ t
   stays r none =
-      rw (ne-eqb from to (pair .apart), lt-leb (length t) to (omega (arith, pair .to-is, pair .good .sized)), eq-eqb (lenOf t from) 0 none)
+      rw (
+        ne-eqb from to (pair .apart),
+        lt-leb (length t) to (omega (arith, pair .to-is, pair .good .sized)),
+        eq-eqb (lenOf t from) 0 none,
+      )
 
   -- `move_first`: the first entry of `from`, where it has one, stands at the end of `to`
   pub move-first : Moved t from to 1 (moveFirst t from to)
@@ -392,11 +459,20 @@ module _ {t : Table} {from to : ℕ} (pair : Pair t from to) where
   move-first = go (decLt 0 (lenOf t from))
     where
       none-moved : view t from ≡ [] → Moved t from to 1 t
-      none-moved empty = record { good = pair .good; left = rw (empty, drop-nil 1); joined = rw (empty, take-nil 1, append-nil (view t to)); others = λ k p q. refl }
+      none-moved empty = record {
+        good = pair .good;
+        left = rw (empty, drop-nil 1);
+        joined =
+            rw (empty, take-nil 1, append-nil (view t to));
+        others = λ k p q. refl;
+      }
 
-      go : Dec (0 < lenOf t from) → Moved t from to 1 (ifMoves t from to (joinEnd (leaveOf t from 1 (headOf t from)) to (headOf t from) 1 (headOf t from)))
-      go (yes some) = rw (moves (joinEnd (leaveOf t from 1 (headOf t from)) to (headOf t from) 1 (headOf t from)) some) (end-moved (first-run some))
-      go (no p) = rw (stays (joinEnd (leaveOf t from 1 (headOf t from)) to (headOf t from) 1 (headOf t from)) (omega arith)) (none-moved (view-none t from (omega arith)))
+      go : Dec (0 < lenOf t from) → Moved t from to 1 (ifMoves t from to (joinEnd (leaveOf t from 1 (headOf t from)) to
+          (headOf t from) 1 (headOf t from)))
+      go (yes some) = rw (moves (joinEnd (leaveOf t from 1 (headOf t from)) to (headOf t from) 1 (headOf t from)) some)
+          (end-moved (first-run some))
+      go (no p) = rw (stays (joinEnd (leaveOf t from 1 (headOf t from)) to (headOf t from) 1 (headOf t from))
+          (omega arith)) (none-moved (view-none t from (omega arith)))
 
   -- `move_first_to_front`: it stands at the front of `to`
   pub move-first-to-front : MovedToFront t from to 1 (moveFirstToFront t from to)
@@ -404,11 +480,21 @@ module _ {t : Table} {from to : ℕ} (pair : Pair t from to) where
   move-first-to-front = go (decLt 0 (lenOf t from))
     where
       none-moved : view t from ≡ [] → MovedToFront t from to 1 t
-      none-moved empty = record { good = pair .good; left = rw (empty, drop-nil 1); joined = rw empty; others = λ k p q. refl }
+      none-moved empty = record {
+        good = pair .good;
+        left = rw (empty, drop-nil 1);
+        joined = rw empty;
+        others =
+            λ k p q. refl;
+      }
 
-      go : Dec (0 < lenOf t from) → MovedToFront t from to 1 (ifMoves t from to (joinFront (leaveOf t from 1 (headOf t from)) to (headOf t from) 1 (headOf t from)))
-      go (yes some) = rw (moves (joinFront (leaveOf t from 1 (headOf t from)) to (headOf t from) 1 (headOf t from)) some) (front-moved (first-run some))
-      go (no p) = rw (stays (joinFront (leaveOf t from 1 (headOf t from)) to (headOf t from) 1 (headOf t from)) (omega arith)) (none-moved (view-none t from (omega arith)))
+      go : Dec (0 < lenOf t from)
+          → MovedToFront t from to 1 (ifMoves t from to (joinFront (leaveOf t from 1 (headOf t from)) to
+          (headOf t from) 1 (headOf t from)))
+      go (yes some) = rw (moves (joinFront (leaveOf t from 1 (headOf t from)) to (headOf t from) 1 (headOf t from))
+          some) (front-moved (first-run some))
+      go (no p) = rw (stays (joinFront (leaveOf t from 1 (headOf t from)) to (headOf t from) 1 (headOf t from))
+          (omega arith)) (none-moved (view-none t from (omega arith)))
 
   -- `move_all`: all of `from` stands at the end of `to`
   pub move-all : MovedAll t from to (moveAll t from to)
@@ -416,17 +502,31 @@ module _ {t : Table} {from to : ℕ} (pair : Pair t from to) where
   move-all = go (decLt 0 (lenOf t from))
     where
       none-moved : view t from ≡ [] → MovedAll t from to t
-      none-moved empty = record { good = pair .good; left = empty; joined = rw (empty, append-nil (view t to)); others = λ k p q. refl }
+      none-moved empty = record {
+        good = pair .good;
+        left = empty;
+        joined = rw (empty, append-nil (view t to));
+        others = λ k p q. refl;
+      }
 
       all-moved : (r : Table) → Moved t from to (lenOf t from) r → MovedAll t from to r
-      all-moved r m = record { good = m .good; left = m .left ∙ drop-whole; joined = rw take-whole at (m .joined); others = m .others }
+      all-moved r m = record {
+        good = m .good;
+        left = m .left ∙ drop-whole;
+        joined = rw take-whole at (m .joined);
+        others = m .others;
+      }
 
-      go : Dec (0 < lenOf t from) → MovedAll t from to (ifMoves t from to (joinEnd (leaveOf t from (lenOf t from) (tailOf t from)) to (headOf t from) (lenOf t from) (tailOf t from)))
+      go : Dec (0 < lenOf t from)
+          → MovedAll t from to (ifMoves t from to (joinEnd (leaveOf t from (lenOf t from) (tailOf t from)) to
+          (headOf t from) (lenOf t from) (tailOf t from)))
       go (yes some) =
-          rw (moves (joinEnd (leaveOf t from (lenOf t from) (tailOf t from)) to (headOf t from) (lenOf t from) (tailOf t from)) some)
+          rw (moves (joinEnd (leaveOf t from (lenOf t from) (tailOf t from)) to (headOf t from) (lenOf t from)
+          (tailOf t from)) some)
           (all-moved _ (end-moved (all-run some)))
       go (no p) =
-          rw (stays (joinEnd (leaveOf t from (lenOf t from) (tailOf t from)) to (headOf t from) (lenOf t from) (tailOf t from)) (omega arith))
+          rw (stays (joinEnd (leaveOf t from (lenOf t from) (tailOf t from)) to (headOf t from) (lenOf t from)
+          (tailOf t from)) (omega arith))
           (none-moved (view-none t from (omega arith)))
 
 -- ---- whatever the numbers
@@ -452,7 +552,11 @@ module _ (t : Table) (good : Good t) (from to : ℕ) (r : Table) where
       go : Dec (from ≡ to) → Dec (to < LISTS) → ifMoves t from to r ≡ t
       go (yes p) d = same-list p
       go (no p) (no q) = no-such-to (omega arith)
-      go (no p) (yes q) = rw (ne-eqb from to p, lt-leb (length t) to (omega (arith, good .sized)), eq-eqb (lenOf t from) 0 empty)
+      go (no p) (yes q) = rw (
+        ne-eqb from to p,
+        lt-leb (length t) to (omega (arith, good .sized)),
+        eq-eqb (lenOf t from) 0 empty,
+      )
 
   kept : (Pair t from to → Good (ifMoves t from to r)) → Good (ifMoves t from to r)
   kept moved = go (ℕ-discrete from to) (decLt to LISTS) (decLt from LISTS)

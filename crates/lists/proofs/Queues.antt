@@ -16,7 +16,9 @@ use Rattle.lists.specs.declared.keys.Key.{Key}
 use Rattle.lists.specs.declared.keys.Key.the-variants.{At, Nothing}
 use Rattle.lists.specs.Links.{pick}
 use Rattle.lists.specs.Family.{count}
-use Rattle.lists.specs.KeyLists.{blankRow, countOf, keysOf, Held, elem, movedLast, frontOf, holdsOf, popFront, popEnd, appendOf, addAbsent, squeezeOf, pushOf, headKey, withKey, firstsFrom, firsts, pushed}
+use Rattle.lists.specs.KeyLists.{blankRow, countOf, keysOf, Held, elem, movedLast, frontOf, holdsOf, popFront}
+use Rattle.lists.specs.KeyLists.{popEnd, appendOf, addAbsent, squeezeOf, pushOf, headKey, withKey, firstsFrom}
+use Rattle.lists.specs.KeyLists.{firsts, pushed}
 use Rattle.lists.proofs.Counts.{count-append, count-split, count-same, count-other}
 
 -- ---- elem and count
@@ -53,7 +55,8 @@ unfolding elem
 elem-more k j [] p = absurd (false≢true p)
 elem-more k j (x ∷ xs) p = go (eqb x k) p (elem-more k j xs)
   where
-    go : (b : Bool) → pick b true (elem k xs) ≡ true → (elem k xs ≡ true → elem k (xs ++ (j ∷ [])) ≡ true) → pick b true (elem k (xs ++ (j ∷ []))) ≡ true
+    go : (b : Bool) → pick b true (elem k xs) ≡ true → (elem k xs ≡ true → elem k (xs ++ (j ∷ [])) ≡ true)
+        → pick b true (elem k (xs ++ (j ∷ []))) ≡ true
     go true q later = refl
     go false q later = later q
 
@@ -120,7 +123,10 @@ append-held [] k held = absurd (omega (arith, held .sized))
 append-held (n ∷ ks) k held = go (decLt n 64)
   where
     go : Dec (n < 64) → Held (appendOf (n ∷ ks) k)
-    go (yes room) = rw (lt-ltb n 64 room, add-one n) (record { sized = omega (arith, held .sized, length-set ks n k); few = omega arith })
+    go (yes room) = rw (lt-ltb n 64 room, add-one n) (record {
+      sized = omega (arith, held .sized, length-set ks n k);
+      few = omega arith;
+    })
     go (no full) = rw (le-ltb n 64 (omega arith)) held
 
 -- ---- the squeeze
@@ -136,7 +142,8 @@ length-without e [] = refl
 length-without e (x ∷ xs) = go (ℕ-discrete x e) (length-without e xs)
   where
     go : Dec (x ≡ e) → length (without e xs) + count e xs ≡ length xs
-        → length (pick (eqb x e) (without e xs) (x ∷ without e xs)) + (pick (eqb x e) 1 0 + count e xs) ≡ suc (length xs)
+        → length (pick (eqb x e) (without e xs) (x ∷ without e xs)) + (pick (eqb x e) 1 0 + count e xs)
+        ≡ suc (length xs)
     go (yes p) later = rw (eq-eqb x e p) (omega arith)
     go (no p) later = rw (ne-eqb x e p) (omega arith)
 
@@ -145,7 +152,8 @@ unfolding without count
 count-without e k [] = omega arith
 count-without e k (x ∷ xs) = go (ℕ-discrete x e) (count-without e k xs)
   where
-    go : Dec (x ≡ e) → count k (without e xs) ≤ count k xs → count k (pick (eqb x e) (without e xs) (x ∷ without e xs)) ≤ pick (eqb x k) 1 0 + count k xs
+    go : Dec (x ≡ e) → count k (without e xs) ≤ count k xs → count k (pick (eqb x e) (without e xs) (x ∷ without e xs))
+        ≤ pick (eqb x k) 1 0 + count k xs
     go (yes p) later = rw (eq-eqb x e p) (omega arith)
     go (no p) later = rw (ne-eqb x e p) (omega arith)
 
@@ -172,7 +180,13 @@ none-under (x ∷ xs) under = absurd (omega (arith, under x (omega (arith, count
 
 pub at-most : (top : ℕ) (xs : List ℕ) → Under top xs → Once xs → length xs ≤ top
 at-most zero xs under once = omega (arith, none-under xs under)
-at-most (suc top) xs under once = omega (arith, length-without top xs, once top, at-most top (without top xs) lower fewer)
+at-most (suc top) xs under once = omega (
+  arith,
+  length-without top xs,
+  once top,
+  at-most top (without top xs) lower
+      fewer,
+)
   where
     lower : Under top (without top xs)
     lower k some = go (ℕ-discrete k top)
@@ -237,7 +251,12 @@ pub record Single (c : List ℕ) : Type 0 where
   pub under : Under KEYS (keysOf c)
 
 single-few : (c : List ℕ) → Single c → countOf c ≤ KEYS
-single-few c single = omega (arith, length-keys c (single .held), at-most KEYS (keysOf c) (single .under) (single .once))
+single-few c single = omega (
+  arith,
+  length-keys c (single .held),
+  at-most KEYS (keysOf c) (single .under)
+      (single .once),
+)
 
 module _ (c : List ℕ) (k : ℕ) (single : Single c) where
   add-absent-is : keysOf (addAbsent c k) ≡ withKey (keysOf c) k
@@ -269,11 +288,13 @@ unfolding count
 under-tail top x xs under k some = under k (omega arith)
 
 -- squeezing keys into a row is taking each one's first entry
-pub squeeze-is : (c ks : List ℕ) → Single c → Under KEYS ks → (keysOf (squeezeOf c ks) ≡ firstsFrom (keysOf c) ks) × Single (squeezeOf c ks)
+pub squeeze-is : (c ks : List ℕ) → Single c → Under KEYS ks → (keysOf (squeezeOf c ks) ≡ firstsFrom (keysOf c) ks)
+    × Single (squeezeOf c ks)
 unfolding squeezeOf firstsFrom
 squeeze-is c [] single under = (refl, single)
 squeeze-is c (k ∷ ks) single under =
-    let more = squeeze-is (addAbsent c k) ks (add-absent-single c k single (under k (omega (arith, count-same k k ks refl)))) (under-tail KEYS k ks under) in
+    let more = squeeze-is (addAbsent c k) ks (add-absent-single c k single
+    (under k (omega (arith, count-same k k ks refl)))) (under-tail KEYS k ks under) in
     (rw (← add-absent-is c k single) (more .0), more .1)
 
 -- ---- push
@@ -287,8 +308,10 @@ full-keys : (c : List ℕ) → Held c → 64 ≤ countOf c → keysOf c ≡ drop
 full-keys c held full = take-all (countOf c) (drop 1 c) (rw length-drop (omega (arith, held .sized)))
 
 module _ (c : List ℕ) (k : ℕ) (held : Held c) (under : Under KEYS (keysOf c)) (low : k < KEYS) where
-  squeezed : 64 ≤ countOf c → (keysOf (squeezeOf blankRow (drop 1 c)) ≡ firsts (keysOf c)) × Single (squeezeOf blankRow (drop 1 c))
-  squeezed full = rw (full-keys c held full) (squeeze-is blankRow (drop 1 c) single-blank (rw (full-keys c held full) at under))
+  squeezed : 64 ≤ countOf c → (keysOf (squeezeOf blankRow (drop 1 c)) ≡ firsts (keysOf c))
+      × Single (squeezeOf blankRow (drop 1 c))
+  squeezed full = rw (full-keys c held full) (squeeze-is blankRow (drop 1 c) single-blank (rw (full-keys c held full)
+      at under))
 
   -- `push`: at the end; a full list is squeezed first, and then the key joins if it is absent
   pub push-is : keysOf (pushOf c k) ≡ pushed (keysOf c) k
@@ -300,7 +323,8 @@ module _ (c : List ℕ) (k : ℕ) (held : Held c) (under : Under KEYS (keysOf c)
       go (no p) =
           let full : 64 ≤ countOf c = omega arith in
           rw (length-keys c held, le-ltb (countOf c) 64 full)
-          (add-absent-is (squeezeOf blankRow (drop 1 c)) k (squeezed full .1) ∙ ap (λ (ks : List ℕ). withKey ks k) (squeezed full .0))
+          (add-absent-is (squeezeOf blankRow (drop 1 c)) k (squeezed full .1) ∙ ap (λ (ks : List ℕ). withKey ks k)
+          (squeezed full .0))
 
   pub push-held : Held (pushOf c k)
   unfolding pushOf
@@ -317,10 +341,12 @@ module _ (c : List ℕ) (k : ℕ) (held : Held c) (under : Under KEYS (keysOf c)
   push-under = go (decLt (countOf c) 64)
     where
       go : Dec (countOf c < 64) → Under KEYS (keysOf (pushOf c k))
-      go (yes room) = rw (lt-ltb (countOf c) 64 room, append-is c k held room) (append-under KEYS (keysOf c) k under low)
+      go (yes room) = rw (lt-ltb (countOf c) 64 room, append-is c k held room) (append-under KEYS (keysOf c) k under
+          low)
       go (no p) =
           let full : 64 ≤ countOf c = omega arith in
-          rw (le-ltb (countOf c) 64 full) (add-absent-single (squeezeOf blankRow (drop 1 c)) k (squeezed full .1) low .under)
+          rw (le-ltb (countOf c) 64 full) (add-absent-single (squeezeOf blankRow (drop 1 c)) k (squeezed full .1) low
+          .under)
 
 -- ---- no key is lost
 
@@ -341,7 +367,8 @@ unfolding firstsFrom elem
 firsts-keep seen [] j there = absurd (false≢true there)
 firsts-keep seen (k ∷ ks) j there = go (ℕ-discrete k j) (firsts-keep (withKey seen k) ks j)
   where
-    go : Dec (k ≡ j) → (elem j ks ≡ true → elem j (firstsFrom (withKey seen k) ks) ≡ true) → elem j (firstsFrom (withKey seen k) ks) ≡ true
+    go : Dec (k ≡ j) → (elem j ks ≡ true → elem j (firstsFrom (withKey seen k) ks) ≡ true)
+        → elem j (firstsFrom (withKey seen k) ks) ≡ true
     go (yes same) later = firsts-seen (withKey seen k) ks j (rw (← same) (with-there seen k))
     go (no other) later = later (rw (ne-eqb k j other) at there)
 
@@ -370,20 +397,32 @@ pub keyed-blank : Keyed blankRow
 keyed-blank = record { held = held-blank; under = single-blank .under }
 
 pub keyed-push : (c : List ℕ) (k : ℕ) → Keyed c → k < KEYS → Keyed (pushOf c k)
-keyed-push c k keyed low = record { held = push-held c k (keyed .held) (keyed .under) low; under = push-under c k (keyed .held) (keyed .under) low }
+keyed-push c k keyed low = record {
+  held = push-held c k (keyed .held) (keyed .under) low;
+  under =
+      push-under c k (keyed .held) (keyed .under) low;
+}
 
 pub keyed-pop-front : (c : List ℕ) → Keyed c → Keyed (popFront c)
 keyed-pop-front c keyed =
     record {
       held = pop-front-held c (keyed .held);
-      under = λ k some. keyed .under k (omega (arith, count-split k 1 (keysOf c), ap (count k) (pop-front-is c (keyed .held))));
+      under = λ k some. keyed .under k (omega (
+        arith,
+        count-split k 1 (keysOf c),
+        ap (count k) (pop-front-is c (keyed .held)),
+      ));
     }
 
 pub keyed-pop-end : (c : List ℕ) → Keyed c → Keyed (popEnd c)
 keyed-pop-end c keyed =
     record {
       held = pop-end-held c (keyed .held);
-      under = λ k some. keyed .under k (omega (arith, count-split k (length (keysOf c) - 1) (keysOf c), ap (count k) (pop-end-is c (keyed .held))));
+      under = λ k some. keyed .under k (omega (
+        arith,
+        count-split k (length (keysOf c) - 1) (keysOf c),
+        ap (count k) (pop-end-is c (keyed .held)),
+      ));
     }
 
 -- ---- waking: the waiting list goes once round
@@ -408,8 +447,10 @@ rounds-after p [] done = sym (append-nil done)
 rounds-after p (k ∷ ks) done = go (p k) (rounds-after p ks)
   where
     go : (b : Bool) → ((more : List ℕ) → rounds p (length ks) (ks ++ more) ≡ more ++ keep p ks)
-        → rounds p (length ks) (pick b ((ks ++ done) ++ (k ∷ [])) (ks ++ done)) ≡ done ++ pick b (k ∷ keep p ks) (keep p ks)
-    go true later = rw (append-assoc ks done (k ∷ [])) (later (done ++ (k ∷ [])) ∙ append-assoc done (k ∷ []) (keep p ks))
+        → rounds p (length ks) (pick b ((ks ++ done) ++ (k ∷ [])) (ks ++ done)) ≡ done ++ pick b (k ∷ keep p ks)
+        (keep p ks)
+    go true later = rw (append-assoc ks done (k ∷ [])) (later (done ++ (k ∷ []))
+        ∙ append-assoc done (k ∷ []) (keep p ks))
     go false later = later done
 
 -- as many rounds as there are keys leave those of which p holds, in order
@@ -417,12 +458,21 @@ pub rounds-keep : (p : ℕ → Bool) (ks : List ℕ) → rounds p (length ks) ks
 rounds-keep p ks = rw (append-nil ks) at (rounds-after p ks [])
 
 -- in a row a round never squeezes: what was taken makes room
-pub round-row : (c : List ℕ) (k : ℕ) → Held c → 0 < countOf c → keysOf (pushOf (popFront c) k) ≡ drop 1 (keysOf c) ++ (k ∷ [])
+pub round-row : (c : List ℕ) (k : ℕ) → Held c → 0 < countOf c → keysOf (pushOf (popFront c) k)
+    ≡ drop 1 (keysOf c) ++ (k ∷ [])
 unfolding pushOf
 round-row c k held some =
     let fewer = few-after c held some in
     rw (lt-ltb (countOf (popFront c)) 64 fewer)
-    (append-is (popFront c) k (pop-front-held c held) fewer ∙ ap (λ (ks : List ℕ). ks ++ (k ∷ [])) (pop-front-is c held))
+    (append-is (popFront c) k (pop-front-held c held) fewer ∙ ap (λ (ks : List ℕ). ks ++ (k ∷ []))
+    (pop-front-is c held))
   where
     few-after : (d : List ℕ) → Held d → 0 < countOf d → countOf (popFront d) < 64
-    few-after d h more = omega (arith, length-keys (popFront d) (pop-front-held d h), ap length (pop-front-is d h), length-drop 1 (keysOf d), length-keys d h, h .few)
+    few-after d h more = omega (
+      arith,
+      length-keys (popFront d) (pop-front-held d h),
+      ap length (pop-front-is d h),
+      length-drop 1 (keysOf d),
+      length-keys d h,
+      h .few,
+    )

@@ -16,7 +16,8 @@ use Rattle.lists.specs.KeyLists.{elem, movedLast, addAbsent, squeezeOf}
 
 -- ---- the shift
 
-shift-suc : (l : List ℕ) (j d a : ℕ) → suc j < length l → movedLast (set l j (getD l (suc j) d)) (suc j) a ≡ movedLast l j a
+shift-suc : (l : List ℕ) (j d a : ℕ) → suc j < length l → movedLast (set l j (getD l (suc j) d)) (suc j) a
+    ≡ movedLast l j a
 unfolding movedLast
 shift-suc [] j d a h = absurd (not-suc-le-zero h)
 shift-suc (x ∷ []) zero d a h = absurd (not-suc-le-zero (le-of-suc-le-suc h))
@@ -25,7 +26,8 @@ shift-suc (x ∷ []) (suc j) d a h = absurd (not-suc-le-zero (le-of-suc-le-suc h
 shift-suc (x ∷ y ∷ r) (suc j) d a h = ap {B = List ℕ} (λ s. x ∷ s) (shift-suc (y ∷ r) j d a (le-of-suc-le-suc h))
 
 -- one turn of the loop that moves the cells after j down by one
-pub shift-step : (l : List ℕ) (j d a : ℕ) → j + 1 < length l → movedLast (set l j (getD l (j + 1) d)) (j + 1) a ≡ movedLast l j a
+pub shift-step : (l : List ℕ) (j d a : ℕ) → j + 1 < length l → movedLast (set l j (getD l (j + 1) d)) (j + 1) a
+    ≡ movedLast l j a
 shift-step l j d a h = rw add-one (shift-suc l j d a (omega arith))
 
 -- the store after the loop
@@ -46,7 +48,8 @@ among c k n i = elem k (take (n + 1 - i) (drop i c))
 pub among-all : (c : List ℕ) (k n : ℕ) → among c k n 1 ≡ elem k (take n (drop 1 c))
 among-all c k n = let same : n + 1 - 1 ≡ n = omega arith in rw same
 
-pub among-more : (c : List ℕ) (k n i : ℕ) → i < length c → i ≤ n → among c k n i ≡ pick (eqb (getD c i 0) k) true (among c k n (i + 1))
+pub among-more : (c : List ℕ) (k n i : ℕ) → i < length c → i ≤ n → among c k n i ≡ pick (eqb (getD c i 0) k) true
+    (among c k n (i + 1))
 unfolding elem
 among-more c k n i inside some =
     let here : n + 1 - i ≡ suc (n - i) = omega arith in
@@ -63,7 +66,8 @@ among-end c k n i end = rw (end, drop-length c, take-nil)
 
 -- ---- the squeeze
 
-pub squeeze-more : (out c : List ℕ) (i : ℕ) → i < length c → squeezeOf (addAbsent out (getD c i 0)) (drop (i + 1) c) ≡ squeezeOf out (drop i c)
+pub squeeze-more : (out c : List ℕ) (i : ℕ) → i < length c → squeezeOf (addAbsent out (getD c i 0)) (drop (i + 1) c)
+    ≡ squeezeOf out (drop i c)
 unfolding squeezeOf
 squeeze-more out c i inside = rw (drop-cons c i 0 inside, add-one)
 
@@ -73,7 +77,8 @@ squeeze-end out c i end = rw (end, drop-length c)
 
 -- ---- the walk
 
-pub next-more : (s : List ℕ) (k : ℕ) → k < 16 → nextKey s (16 - k) k ≡ pick (containsOf s k) (At k) (nextKey s (16 - (k + 1)) (k + 1))
+pub next-more : (s : List ℕ) (k : ℕ) → k < 16 → nextKey s (16 - k) k ≡ pick (containsOf s k) (At k)
+    (nextKey s (16 - (k + 1)) (k + 1))
 unfolding nextKey
 next-more s k inside = let more : 16 - k ≡ suc (16 - (k + 1)) = omega arith in rw more
 

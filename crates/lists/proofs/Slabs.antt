@@ -19,7 +19,8 @@ use Rattle.lists.specs.Family.{count}
 use Rattle.lists.specs.KeyLists.{blankRow, countOf, keysOf, Held, elem, lastOf, holdsOf, popEnd, appendOf}
 use Rattle.lists.specs.Slabs.{givenOf, containsOf, vacantOf, insertOf, removeOf, liveCount, nextKey, Sound}
 use Rattle.lists.proofs.Counts.{count-append, count-same, count-other}
-use Rattle.lists.proofs.Queues.{elem-count, elem-counted, elem-last, length-keys, pop-end-held, append-is, append-held, at-most, count-joined, count-alone, count-itself}
+use Rattle.lists.proofs.Queues.{elem-count, elem-counted, elem-last, length-keys, pop-end-held, append-is}
+use Rattle.lists.proofs.Queues.{append-held, at-most, count-joined, count-alone, count-itself}
 
 -- ---- elem
 
@@ -43,10 +44,18 @@ sound-held s sound = record { sized = sound .sized; few = omega (arith, sound .f
 -- no actor, and no key given yet
 pub sound-blank : Sound blankRow
 unfolding count
-sound-blank = record { sized = refl; few = omega arith; fewer = omega arith; once = λ k. omega arith; given = λ k some. absurd (omega arith) }
+sound-blank = record {
+  sized = refl;
+  few = omega arith;
+  fewer = omega arith;
+  once = λ k. omega arith;
+  given =
+      λ k some. absurd (omega arith);
+}
 
 -- the last cell is no key
-given-keys : (s : List ℕ) (v : ℕ) → countOf s < 64 → length s ≡ 65 → (keysOf (set s 64 v) ≡ keysOf s) × (countOf (set s 64 v) ≡ countOf s)
+given-keys : (s : List ℕ) (v : ℕ) → countOf s < 64 → length s ≡ 65 → (keysOf (set s 64 v) ≡ keysOf s)
+    × (countOf (set s 64 v) ≡ countOf s)
 given-keys [] v few long = absurd (omega arith)
 given-keys (n ∷ ks) v few long = (take-set-le n ks 63 v (omega arith), refl)
 
@@ -56,7 +65,8 @@ unfolding popEnd
 free-split [] held some = absurd (omega (arith, held .sized))
 free-split (zero ∷ ks) held some = absurd (omega arith)
 free-split (suc n ∷ ks) held some =
-    rw (ne-eqb (suc n) 0 (λ z. omega arith), suc-sub-suc n 0, sub-zero n) (take-suc ks n 0 (omega (arith, held .sized, held .few)))
+    rw (ne-eqb (suc n) 0 (λ z. omega arith), suc-sub-suc n 0, sub-zero n)
+    (take-suc ks n 0 (omega (arith, held .sized, held .few)))
 
 given-pop : (s : List ℕ) → givenOf (popEnd s) ≡ givenOf s
 unfolding popEnd
@@ -105,7 +115,8 @@ unfolding containsOf
 dead-new s k new = rw (le-ltb k (givenOf s) new)
 
 -- the same keys given and the same free: the same actors
-same-live : (s r : List ℕ) (k : ℕ) → ltb k (givenOf r) ≡ ltb k (givenOf s) → elem k (keysOf r) ≡ elem k (keysOf s) → containsOf r k ≡ containsOf s k
+same-live : (s r : List ℕ) (k : ℕ) → ltb k (givenOf r) ≡ ltb k (givenOf s) → elem k (keysOf r) ≡ elem k (keysOf s)
+    → containsOf r k ≡ containsOf s k
 unfolding containsOf holdsOf
 same-live s r k given free = rw (given, free)
 
@@ -155,8 +166,10 @@ module _ (s : List ℕ) (sound : Sound s) (none : countOf s ≡ 0) (room : given
             });
         low = room;
         was-free = dead-new s (givenOf s) (omega arith);
-        live = rw new-form (live-by more (givenOf s) (omega (arith, more-given)) (rw (more-keys .0) (free-none (givenOf s))));
-        others = λ j other. rw new-form (same-live s more j (rw more-given (below j other (decLt j (givenOf s)))) (ap (elem j) (more-keys .0)));
+        live = rw new-form (live-by more (givenOf s) (omega (arith, more-given))
+            (rw (more-keys .0) (free-none (givenOf s))));
+        others = λ j other. rw new-form (same-live s more j (rw more-given (below j other (decLt j (givenOf s))))
+            (ap (elem j) (more-keys .0)));
         counted = rw new-form (omega (arith, more-given, more-keys .1, none));
       }
     where
@@ -173,7 +186,12 @@ module _ (s : List ℕ) (sound : Sound s) (some : 0 < countOf s) where
   split = free-split s (sound-held s sound) some
 
   freed-counted : 0 < count freed (keysOf s)
-  freed-counted = omega (arith, ap (count freed) split, count-joined (keysOf (popEnd s)) freed freed, count-itself (keysOf s) freed)
+  freed-counted = omega (
+    arith,
+    ap (count freed) split,
+    count-joined (keysOf (popEnd s)) freed freed,
+    count-itself (keysOf s) freed,
+  )
 
   freed-given : freed < givenOf s
   freed-given = sound .given freed freed-counted
@@ -184,14 +202,26 @@ module _ (s : List ℕ) (sound : Sound s) (some : 0 < countOf s) where
   freed-gone : elem freed (keysOf (popEnd s)) ≡ false
   freed-gone =
       count-elem freed (keysOf (popEnd s))
-      (omega (arith, sound .once freed, ap (count freed) split, count-joined (keysOf (popEnd s)) freed freed, count-itself (keysOf s) freed))
+      (omega (
+        arith,
+        sound .once freed,
+        ap (count freed) split,
+        count-joined (keysOf (popEnd s)) freed freed,
+        count-itself (keysOf s) freed,
+      ))
 
   popped : Held (popEnd s)
   popped = pop-end-held s (sound-held s sound)
 
   popped-count : countOf (popEnd s) + 1 ≡ countOf s
   popped-count =
-      omega (arith, length-keys (popEnd s) popped, length-keys s (sound-held s sound), ap length split, length-append (keysOf (popEnd s)) (freed ∷ []))
+      omega (
+        arith,
+        length-keys (popEnd s) popped,
+        length-keys s (sound-held s sound),
+        ap length split,
+        length-append (keysOf (popEnd s)) (freed ∷ []),
+      )
 
   old-form : insertOf s ≡ popEnd s
   unfolding insertOf
@@ -212,7 +242,8 @@ module _ (s : List ℕ) (sound : Sound s) (some : 0 < countOf s) where
         low = omega (arith, freed-given, sound .few);
         was-free = dead-free s freed (rw split (elem-last freed (keysOf (popEnd s))));
         live = rw old-form (live-by (popEnd s) freed (omega (arith, freed-given, given-pop s)) freed-gone);
-        others = λ j other. rw old-form (same-live s (popEnd s) j (ap (ltb j) (given-pop s)) (sym (ap (elem j) split ∙ elem-other j freed (keysOf (popEnd s)) other)));
+        others = λ j other. rw old-form (same-live s (popEnd s) j (ap (ltb j) (given-pop s)) (sym (ap (elem j) split
+            ∙ elem-other j freed (keysOf (popEnd s)) other)));
         counted = rw old-form (omega (arith, given-pop s, popped-count, sound .fewer));
       }
 
@@ -225,13 +256,20 @@ inserted-live s sound k gives = go (ℕ-discrete (countOf s) 0) (decLt (givenOf 
     told a b e = cc
 
     go : Dec (countOf s ≡ 0) → Dec (givenOf s < 16) → Inserted s k
-    go (yes none) (yes room) = rw (told k (givenOf s) (sym gives ∙ rw (eq-eqb (countOf s) 0 none, lt-ltb (givenOf s) 16 room))) (new-inserted s sound none room)
-    go (yes none) (no full) = absurd (apart (sym gives ∙ rw (eq-eqb (countOf s) 0 none, le-ltb (givenOf s) 16 (omega arith))))
+    go (yes none) (yes room) =
+        rw (told k (givenOf s) (sym gives ∙ rw (eq-eqb (countOf s) 0 none, lt-ltb (givenOf s) 16 room)))
+        (new-inserted s sound none room)
+    go (yes none) (no full) =
+        absurd (apart (sym gives ∙ rw (eq-eqb (countOf s) 0 none, le-ltb (givenOf s) 16 (omega arith))))
       where
         apart : _≡_ {A = Key} (At k) Nothing → ⊥
         apart e = let z : _≡_ {A = ℕ} 0 1 = cc in omega arith
     go (no some) d =
-        rw (told k (getD s (countOf s) 0) (sym gives ∙ rw (ne-eqb (countOf s) 0 some, lt-ltb (countOf s) 65 (omega (arith, sound .few, sound .fewer)))))
+        rw (told k (getD s (countOf s) 0) (sym gives ∙ rw (
+          ne-eqb (countOf s) 0 some,
+          lt-ltb (countOf s) 65
+              (omega (arith, sound .few, sound .fewer)),
+        )))
         (old-inserted s sound (omega arith))
 
 -- there is none only where 16 actors are, and then nothing changes
@@ -246,7 +284,9 @@ full-stays s sound none = go (ℕ-discrete (countOf s) 0) (decLt (givenOf s) 16)
     go (yes p) (yes q) = absurd (apart (givenOf s) (sym (rw (eq-eqb (countOf s) 0 p, lt-ltb (givenOf s) 16 q)) ∙ none))
     go (yes p) (no q) = (rw (eq-eqb (countOf s) 0 p, le-ltb (givenOf s) 16 (omega arith)), omega (arith, sound .few))
     go (no p) d =
-        absurd (apart (getD s (countOf s) 0) (sym (rw (ne-eqb (countOf s) 0 p, lt-ltb (countOf s) 65 (omega (arith, sound .few, sound .fewer)))) ∙ none))
+        absurd (apart (getD s (countOf s) 0)
+        (sym (rw (ne-eqb (countOf s) 0 p, lt-ltb (countOf s) 65 (omega (arith, sound .few, sound .fewer))))
+        ∙ none))
 
 -- ---- remove
 
@@ -281,7 +321,13 @@ module _ (s : List ℕ) (sound : Sound s) (k : ℕ) (live : containsOf s k ≡ t
   less-held = append-held s k held
 
   less-count : countOf less ≡ countOf s + 1
-  less-count = omega (arith, length-keys less less-held, length-keys s held, ap length less-keys, length-append (keysOf s) (k ∷ []))
+  less-count = omega (
+    arith,
+    length-keys less less-held,
+    length-keys s held,
+    ap length less-keys,
+    length-append (keysOf s) (k ∷ []),
+  )
 
   counts : (j : ℕ) → count j (keysOf less) ≡ count j (keysOf s) + count j (k ∷ [])
   counts j = ap (count j) less-keys ∙ count-joined (keysOf s) k j
@@ -298,7 +344,17 @@ module _ (s : List ℕ) (sound : Sound s) (k : ℕ) (live : containsOf s k ≡ t
     where
       go : Dec (j ≡ k) → j < givenOf less
       go (yes p) = omega (arith, k-given, less-given)
-      go (no p) = omega (arith, less-given, sound .given j (omega (arith, there, counts j, count-alone (keysOf s) k j p)))
+      go (no p) = omega (
+        arith,
+        less-given,
+        sound .given j (omega (
+          arith,
+          there,
+          counts j,
+          count-alone (keysOf s) k j
+              p,
+        )),
+      )
 
   -- free keys are different ones of those given, so they are no more
   less-fewer : countOf less ≤ givenOf less
@@ -311,22 +367,40 @@ module _ (s : List ℕ) (sound : Sound s) (k : ℕ) (live : containsOf s k ≡ t
   less-last : getD less (countOf s + 1) 0 ≡ k
   unfolding appendOf
   less-last =
-      rw (lt-ltb (countOf s) 64 (omega (arith, sound .few, sound .fewer)), getD-set-other (set s (countOf s + 1) k) 0 (countOf s + 1) (countOf s + 1) 0 (λ e. omega arith))
+      rw (
+        lt-ltb (countOf s) 64 (omega (arith, sound .few, sound .fewer)),
+        getD-set-other (set s (countOf s + 1) k) 0
+            (countOf s + 1) (countOf s + 1) 0 (λ e. omega arith),
+      )
       (getD-set-same s (countOf s + 1) k 0 (omega (arith, sound .sized, sound .few, sound .fewer)))
 
   gives : vacantOf less ≡ At k
   unfolding vacantOf
   gives =
-      rw (less-count, ne-eqb (countOf s + 1) 0 (λ z. omega arith), lt-ltb (countOf s + 1) 65 (omega (arith, sound .few, sound .fewer)), less-last)
+      rw (
+        less-count,
+        ne-eqb (countOf s + 1) 0 (λ z. omega arith),
+        lt-ltb (countOf s + 1) 65
+            (omega (arith, sound .few, sound .fewer)),
+        less-last,
+      )
 
   pub removed-dead : Removed s k
   removed-dead =
       record {
         sound =
             rw remove-form
-            (record { sized = less-held .sized; few = omega (arith, less-given, sound .few); fewer = less-fewer; once = less-once; given = less-under });
+            (record {
+              sized = less-held .sized;
+              few = omega (arith, less-given, sound .few);
+              fewer = less-fewer;
+              once =
+                  less-once;
+              given = less-under;
+            });
         dead = rw remove-form (dead-free less k (rw less-keys (elem-last k (keysOf s))));
-        others = λ j other. rw remove-form (same-live s less j (ap (ltb j) less-given) (ap (elem j) less-keys ∙ elem-other j k (keysOf s) other));
+        others = λ j other. rw remove-form (same-live s less j (ap (ltb j) less-given) (ap (elem j) less-keys
+            ∙ elem-other j k (keysOf s) other));
         counted = rw remove-form (omega (arith, less-given, less-count, less-fewer));
         next = rw remove-form gives;
       }
@@ -343,7 +417,8 @@ absent-stays s k absent = rw absent
 -- ---- the walk
 
 -- `next_key` tells the least key of an actor from k on
-pub next-least : (s : List ℕ) (n k j : ℕ) → nextKey s n k ≡ At j → (containsOf s j ≡ true) × (k ≤ j) × ((i : ℕ) → k ≤ i → i < j → containsOf s i ≡ false)
+pub next-least : (s : List ℕ) (n k j : ℕ) → nextKey s n k ≡ At j → (containsOf s j ≡ true) × (k ≤ j)
+    × ((i : ℕ) → k ≤ i → i < j → containsOf s i ≡ false)
 unfolding nextKey
 next-least s zero k j found = absurd (apart found)
   where
@@ -355,7 +430,8 @@ next-least s (suc n) k j found = go (containsOf s k) refl (next-least s n (k + 1
     here e = cc
 
     go : (b : Bool) → containsOf s k ≡ b
-        → (nextKey s n (k + 1) ≡ At j → (containsOf s j ≡ true) × (k + 1 ≤ j) × ((i : ℕ) → k + 1 ≤ i → i < j → containsOf s i ≡ false))
+        → (nextKey s n (k + 1) ≡ At j → (containsOf s j ≡ true) × (k + 1 ≤ j) × ((i : ℕ) → k + 1 ≤ i → i < j
+        → containsOf s i ≡ false))
         → (containsOf s j ≡ true) × (k ≤ j) × ((i : ℕ) → k ≤ i → i < j → containsOf s i ≡ false)
     go true e later =
         let same : k ≡ j = here (rw e at found) in
@@ -364,7 +440,8 @@ next-least s (suc n) k j found = go (containsOf s k) refl (next-least s n (k + 1
         let more = later (rw e at found) in
         (more .0, omega (arith, more .1), λ i p q. each i p q (more .2) (ℕ-discrete i k))
       where
-        each : (i : ℕ) → k ≤ i → i < j → ((m : ℕ) → k + 1 ≤ m → m < j → containsOf s m ≡ false) → Dec (i ≡ k) → containsOf s i ≡ false
+        each : (i : ℕ) → k ≤ i → i < j → ((m : ℕ) → k + 1 ≤ m → m < j → containsOf s m ≡ false) → Dec (i ≡ k)
+            → containsOf s i ≡ false
         each i p q above (yes same) = rw same e
         each i p q above (no other) = above i (omega arith) q
 
@@ -377,17 +454,19 @@ next-none s (suc n) k none i p q = go (containsOf s k) refl (ℕ-discrete i k) (
     apart : _≡_ {A = Key} (At k) Nothing → ⊥
     apart e = let z : _≡_ {A = ℕ} 0 1 = cc in omega arith
 
-    go : (b : Bool) → containsOf s k ≡ b → Dec (i ≡ k) → (nextKey s n (k + 1) ≡ Nothing → (m : ℕ) → k + 1 ≤ m → m < k + 1 + n → containsOf s m ≡ false) → containsOf s i ≡ false
+    go : (b : Bool) → containsOf s k ≡ b → Dec (i ≡ k) → (nextKey s n (k + 1) ≡ Nothing → (m : ℕ) → k + 1 ≤ m
+        → m < k + 1 + n → containsOf s m ≡ false) → containsOf s i ≡ false
     go true e d later = absurd (apart (rw e at none))
     go false e (yes same) later = rw same e
     go false e (no other) later = later (rw e at none) i (omega arith) (omega arith)
 
--- ---- 01's row end 11: keys 0, 1, 2, free 1, then 0: spawns get 0, 1, 3
+-- ---- row end 11 (docs/RULES.md, section 9): keys 0, 1, 2, free 1, then 0: spawns get 0, 1, 3
 
 -- three actors, and then 1 and 0 are freed
 abbrev freed-two : List ℕ
 freed-two = removeOf (removeOf (insertOf (insertOf (insertOf blankRow))) 1) 0
 
-pub row-end-11 : (vacantOf freed-two ≡ At 0) × (vacantOf (insertOf freed-two) ≡ At 1) × (vacantOf (insertOf (insertOf freed-two)) ≡ At 3)
+pub row-end-11 : (vacantOf freed-two ≡ At 0) × (vacantOf (insertOf freed-two) ≡ At 1)
+    × (vacantOf (insertOf (insertOf freed-two)) ≡ At 3)
 unfolding vacantOf insertOf removeOf containsOf holdsOf popEnd appendOf elem
 row-end-11 = (refl, refl, refl)

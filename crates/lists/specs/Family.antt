@@ -1,5 +1,5 @@
--- What a table of links means. `view t k` is list k, as the list of its entries in order; `Good t` is that the links are well formed
--- and that every entry stands in exactly one of the lists, at one place.
+-- What a table of links means. `view t k` is list k, as the list of its entries in order; `Good t` is that the links
+-- are well formed and that every entry stands in exactly one of the lists, at one place.
 use mathlib.Core.Path.{_≡_}
 use mathlib.Core.List.{List, [], _∷_, _++_}
 use Prim.Native.Nat.{ℕ, zero, suc, _+_, _-_, _≤_, _<_}

@@ -91,6 +91,6 @@ firstsFrom seen (k ∷ ks) = firstsFrom (withKey seen k) ks
 abbrev pub firsts : List ℕ → List ℕ
 firsts ks = firstsFrom [] ks
 
--- 01's rule for a list of 64: squeezed when full, then added if absent
+-- the rule for a list of 64 (docs/RULES.md, section 6): squeezed when full, then added if absent
 abbrev pub pushed : List ℕ → ℕ → List ℕ
 pushed ks k = pick (ltb (length ks) 64) (ks ++ (k ∷ [])) (withKey (firsts ks) k)

@@ -99,10 +99,13 @@ abbrev pub ifMoves : Table → ℕ → ℕ → Table → Table
 ifMoves t from to r = pick (eqb from to) t (pick (leb (length t) to) t (pick (eqb (lenOf t from) 0) t r))
 
 unfoldable pub moveFirst : Table → ℕ → ℕ → Table
-moveFirst t from to = ifMoves t from to (joinEnd (leaveOf t from 1 (headOf t from)) to (headOf t from) 1 (headOf t from))
+moveFirst t from to = ifMoves t from to (joinEnd (leaveOf t from 1 (headOf t from)) to (headOf t from) 1
+    (headOf t from))
 
 unfoldable pub moveFirstToFront : Table → ℕ → ℕ → Table
-moveFirstToFront t from to = ifMoves t from to (joinFront (leaveOf t from 1 (headOf t from)) to (headOf t from) 1 (headOf t from))
+moveFirstToFront t from to = ifMoves t from to (joinFront (leaveOf t from 1 (headOf t from)) to (headOf t from) 1
+    (headOf t from))
 
 unfoldable pub moveAll : Table → ℕ → ℕ → Table
-moveAll t from to = ifMoves t from to (joinEnd (leaveOf t from (lenOf t from) (tailOf t from)) to (headOf t from) (lenOf t from) (tailOf t from))
+moveAll t from to = ifMoves t from to (joinEnd (leaveOf t from (lenOf t from) (tailOf t from)) to (headOf t from)
+    (lenOf t from) (tailOf t from))

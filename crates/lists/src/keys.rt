@@ -1,12 +1,14 @@
-// A list of at most 64 keys of actors (a group's ready, idle or waiting list), as a row of 65 bytes: how many keys there are, then the keys, in order.
-// Its one invariant is `Held` (specs/KeyLists.antt): the row has 65 cells, and the count is at most 64. Keys may stand in it more than once.
-// A full list is squeezed by a push: only each key's first entry stays. Everything takes constant time but `pop_front` (a shift of 64 bytes),
-// `holds` (a scan) and a push to a full list. Nothing is required; the definitions are exact for every row.
-// What each does to the list of keys is said by the theorems of proofs/Queues.antt: `push-is`, `push-keeps`, `pop-front-is`, `pop-end-is`, `rounds-keep`.
+// A list of at most 64 keys of actors (a group's ready, idle or waiting list), as a row of 65 bytes: how many keys
+// there are, then the keys, in order. Its one invariant is `Held` (specs/KeyLists.antt): the row has 65 cells, and the
+// count is at most 64. Keys may stand in it more than once. A full list is squeezed by a push: only each key's first
+// entry stays. Everything takes constant time but `pop_front` (a shift of 64 bytes), `holds` (a scan) and a push to a
+// full list. Nothing is required; the definitions are exact for every row. What each does to the list of keys is said
+// by the theorems of proofs/Queues.antt: `push-is`, `push-keeps`, `pop-front-is`, `pop-end-is`, `rounds-keep`.
 ghost use mathlib.Core.Path.{_≡_};
 ghost use mathlib.Core.List.{[]};
 ghost use lib.ListN.{getD, set, drop};
-ghost use Rattle.lists.specs.KeyLists.{blankRow, keysAt, countOf, frontOf, lastOf, holdsOf, movedLast, popFront, popEnd, appendOf, addAbsent, squeezeOf, pushOf};
+ghost use Rattle.lists.specs.KeyLists.{blankRow, keysAt, countOf, frontOf, lastOf, holdsOf, movedLast, popFront};
+ghost use Rattle.lists.specs.KeyLists.{popEnd, appendOf, addAbsent, squeezeOf, pushOf};
 
 // A key of a list.
 pub enum Key {

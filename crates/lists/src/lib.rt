@@ -1,14 +1,17 @@
-// 256 entries, one for each message, each of which stands in exactly one of 262 lists: the six places of a message, and what is free.
-// All of it is one lent table, `links`: row k has the first entry, the last entry and the length of list k, and the entry after entry k.
-// Its one invariant is `Good` (specs/Family.antt): the links are well formed, and every entry stands in one list, at one place.
-// Every operation takes constant time, requires nothing, and equals a definition of specs/Links.antt whatever the table holds.
-// What each does to every list is said by theorems: `move-first`, `move-first-to-front`, `move-all` (proofs/Moves.antt), `first-is`, `after-is`,
-// `no-circle`, `nowhere-else` (proofs/Family.antt), `started` (proofs/AtStart.antt).
+// 256 entries, one for each message, each of which stands in exactly one of 262 lists: the six places of a message,
+// and what is free. All of it is one lent table, `links`: row k has the first entry, the last entry and the length of
+// list k, and the entry after entry k. Its one invariant is `Good` (specs/Family.antt): the links are well formed, and
+// every entry stands in one list, at one place. Every operation takes constant time (but `start`, which writes every
+// row), requires nothing, and equals a definition of specs/Links.antt whatever the table holds. What each does to
+// every list is said by theorems: `move-first`, `move-first-to-front`, `move-all` (proofs/Moves.antt), `first-is`,
+// `after-is`, `no-circle`, `nowhere-else` (proofs/Family.antt), `started` (proofs/AtStart.antt).
 ghost use mathlib.Core.Path.{_≡_};
 ghost use Prim.Native.Nat.{_+_, _-_, _<_};
 ghost use mathlib.Core.List.{[]};
 ghost use lib.ListN.{length};
-ghost use Rattle.lists.specs.Links.{capped, linkOf, linkAt, lenOf, nextOf, setEnds, setNext, firstOf, leaveOf, joinEnd, joinFront, moveFirst, moveFirstToFront, moveAll, startRow, startFrom, mailboxOf, handOf};
+ghost use Rattle.lists.specs.Links.{capped, linkOf, linkAt, lenOf, nextOf, setEnds, setNext, firstOf, leaveOf};
+ghost use Rattle.lists.specs.Links.{joinEnd, joinFront, moveFirst, moveFirstToFront, moveAll, startRow};
+ghost use Rattle.lists.specs.Links.{startFrom, mailboxOf, handOf};
 
 pub mod keys; // lists of 64 keys: ready, idle, waiting
 pub mod slab; // the keys of a group's actors, as slab 0.4 gives them
@@ -69,14 +72,14 @@ pub fn hand(slot: usize) -> usize
     if slot < SLOTS { 7 + 2 * slot } else { LISTS }
 }
 
-// A sum, held at the largest number.
+// Saturating addition.
 pub fn sum(a: u64, b: u64) -> u64
     ensures { λ r. ⌜ r ≡ capped (a + b) ⌝ }
 {
     if a <= LARGEST - b { a + b } else { LARGEST }
 }
 
-// A difference, held at nothing.
+// Saturating subtraction.
 pub fn less(a: u64, b: u64) -> u64
     ensures { λ r. ⌜ r ≡ a - b ⌝ }
 {
@@ -206,7 +209,8 @@ fn leave(links: &mut [[u64; 4]], from: usize, count: u64, last: u64)
     set_ends(links, from, l.next, f.tail, left);
 }
 
-// A run of `count` entries from `head` to `last` joins `to` at its end: the last entry of `to`, where it has one, links to it.
+// A run of `count` entries from `head` to `last` joins `to` at its end: the last entry of `to`, where it has one,
+// links to it.
 fn join_end(links: &mut [[u64; 4]], to: usize, head: u64, count: u64, last: u64)
     ensures { λ r. ⌜ now (links .exit) ≡ joinEnd (now (links .entry)) to head count last ⌝ }
 {
@@ -236,7 +240,8 @@ fn join_front(links: &mut [[u64; 4]], to: usize, head: u64, count: u64, last: u6
     }
 }
 
-// The first entry of `from` goes to the end of `to`. Nothing changes where there is none, the two are the same, or one is no list.
+// The first entry of `from` goes to the end of `to`. Nothing changes where there is none, the two are the same, or one
+// is no list.
 pub fn move_first(links: &mut [[u64; 4]], from: usize, to: usize)
     ensures { λ r. ⌜ now (links .exit) ≡ moveFirst (now (links .entry)) from to ⌝ }
 {
@@ -256,7 +261,8 @@ pub fn move_first(links: &mut [[u64; 4]], from: usize, to: usize)
     join_end(links, to, head, 1, head);
 }
 
-// The first entry of `from` goes to the front of `to`. Nothing changes where there is none, the two are the same, or one is no list.
+// The first entry of `from` goes to the front of `to`. Nothing changes where there is none, the two are the same, or
+// one is no list.
 pub fn move_first_to_front(links: &mut [[u64; 4]], from: usize, to: usize)
     ensures { λ r. ⌜ now (links .exit) ≡ moveFirstToFront (now (links .entry)) from to ⌝ }
 {
@@ -276,7 +282,8 @@ pub fn move_first_to_front(links: &mut [[u64; 4]], from: usize, to: usize)
     join_front(links, to, head, 1, head);
 }
 
-// Every entry of `from` goes to the end of `to`, in order. Nothing changes where there is none, the two are the same, or one is no list.
+// Every entry of `from` goes to the end of `to`, in order. Nothing changes where there is none, the two are the same,
+// or one is no list.
 pub fn move_all(links: &mut [[u64; 4]], from: usize, to: usize)
     ensures { λ r. ⌜ now (links .exit) ≡ moveAll (now (links .entry)) from to ⌝ }
 {

@@ -1,4 +1,5 @@
--- What each call does, on a log that stands for the messages logged and not done: the log after it, its order, and what the order is to a reader of the file.
+-- What each call does, on a log that stands for the messages logged and not done: the log after it, its order, and
+-- what the order is to a reader of the file.
 use mathlib.Core.Path.{_≡_, refl, ap, sym, _∙_, subst}
 use mathlib.Core.Bool.{Bool, true, false}
 use mathlib.Core.Option.{Option, none, some}
@@ -15,15 +16,20 @@ use Rattle.text.proofs.FormatLaws.{recordText-free, printId-free}
 use Rattle.text.proofs.WriteLaws.{length-write, write-write, take-written, drop-written, part-written}
 use Rattle.log.specs.declared.Order.{Order}
 use Rattle.log.specs.declared.Order.the-variants.{Append, Replace, Flush}
-use Rattle.log.specs.declared.Refusal.the-variants.{Full, NoId, NoRoom}
-use Rattle.log.specs.declared.Answer.{Answer}
-use Rattle.log.specs.declared.Answer.the-variants.{Ordered, Nothing, Refused}
+use Rattle.log.specs.declared.Refusal.{Refusal}
+use Rattle.log.specs.declared.Refusal.the-variants.{TooLong, Full, NoId, NoRoom}
+use Rattle.log.specs.declared.Answer.the-variants.{Ordered}
+use Rattle.log.specs.declared.Due.the-variants as due
 use Rattle.log.specs.Stands.{Stands}
 use Rattle.log.specs.Opening.{insert, remove, Read, takeIn, fits, image}
-use Rattle.log.specs.Log.{Wal, Did, turnedAway, extended, compacted, withRecord, logged, newMessage, appendRefusal, appended, appendOf, openRows, findRow, withoutRow, keeps, markedDone, markFound, markOf, syncOf}
-use Rattle.log.specs.Recovery.{Call, append, mark, sync, syncDid, didCall, Sent, appending, replacing, flushing, sent, effect}
+use Rattle.log.specs.Log.{Wal, turnedAway, extended, compacted, withRecord, logged, newMessage, appendRefusal}
+use Rattle.log.specs.Log.{appended, appendOf, openRows, findRow, withoutRow, keeps, markedDone, markFound}
+use Rattle.log.specs.Log.{markOf, syncOf}
+use Rattle.log.specs.Recovery.{Call, append, mark, sync, Called, byAppend, byMark, bySync, didCall, Sent}
+use Rattle.log.specs.Recovery.{appending, replacing, flushing, sent, effect}
 use Rattle.log.proofs.OpeningLaws.{readLine-record, readLine-done, insert-last, image-snoc, and-left}
-use Rattle.log.proofs.Steps.{extended-stands, logged-stands, live-small, compacted-bytes, compacted-stands, known-below, without-stands}
+use Rattle.log.proofs.Steps.{extended-stands, logged-stands, live-small, compacted-bytes, compacted-stands}
+use Rattle.log.proofs.Steps.{known-below, without-stands}
 
 -- what a reader of the file would have: the messages, and the next id
 abbrev pub held : Wal → List Message → Read
@@ -31,11 +37,13 @@ held w ms = record { left = ms; next = w .counters .next }
 
 -- a line that takes what is read as h to what is read as h'
 abbrev pub Takes : Read → Read → List ℕ → Type 0
-Takes h h' t = (r : Read) → r .left ≡ h .left → r .next ≤ h .next → ((takeIn r (readLine t)) .left ≡ h' .left) × ((takeIn r (readLine t)) .next ≤ h' .next)
+Takes h h' t = (r : Read) → r .left ≡ h .left → r .next ≤ h .next → ((takeIn r (readLine t)) .left ≡ h' .left)
+    × ((takeIn r (readLine t)) .next ≤ h' .next)
 
 -- what an order is to the file: one whole line more; the open records alone; nothing new
 pub data Kind (h h' : Read) (size size' : ℕ) (s : Sent) : Type 0 where
-  appends : (t : List ℕ) → s ≡ appending (line t) → Free LF t → Takes h h' t → size' ≡ size + length (line t) → Kind h h' size size' s
+  appends : (t : List ℕ) → s ≡ appending (line t) → Free LF t → Takes h h' t → size' ≡ size + length (line t)
+      → Kind h h' size size' s
   replaces : s ≡ replacing (image (h' .left)) → size' ≡ length (image (h' .left)) → Kind h h' size size' s
   flushes : s ≡ flushing → h' .left ≡ h .left → h' .next ≡ h .next → size' ≡ size → Kind h h' size size' s
 
@@ -44,16 +52,16 @@ pub record Orders (w : Wal) (ms : List Message) (c : Call) (after : Wal) (o : Or
   pub stands : Stands after (effect w c ms)
   pub long : length (after .bytes) ≡ length (w .bytes)
   pub tail : drop (after .counters .size) (after .bytes) ≡ drop (after .counters .size) (w .bytes)
-  pub kind : Kind (held w ms) (held after (effect w c ms)) (w .counters .size) (after .counters .size) (sent (after .bytes) o)
+  pub kind : Kind (held w ms) (held after (effect w c ms)) (w .counters .size) (after .counters .size)
+      (sent (after .bytes) o)
 
 -- a call: its order goes out, or nothing changes
-abbrev pub ActsBy : Wal → List Message → Call → Wal → Answer → Type 0
-ActsBy w ms c after (Ordered o) = Orders w ms c after o
-ActsBy w ms c after Nothing = after ≡ w
-ActsBy w ms c after (Refused r) = after ≡ w
+abbrev pub ActsBy : Wal → List Message → Call → Wal → Option Order → Type 0
+ActsBy w ms c after (some o) = Orders w ms c after o
+ActsBy w ms c after none = after ≡ w
 
-abbrev pub Acts : Wal → List Message → Call → Did → Type 0
-Acts w ms c did = ActsBy w ms c (did .wal) (did .answer)
+abbrev pub Acts : Wal → List Message → Call → Called → Type 0
+Acts w ms c did = ActsBy w ms c (did .wal) (did .order)
 
 -- a text behind the others, and the log rewritten: the bytes after it
 module _ (w : Wal) (text : List ℕ) (h : w .counters .size + length text ≤ length (w .bytes)) where
@@ -61,19 +69,23 @@ module _ (w : Wal) (text : List ℕ) (h : w .counters .size + length text ≤ le
   unfolding extended
   extended-long = length-write (w .bytes) (w .counters .size) text h
 
-  extended-tail : drop (extended w text .counters .size) (extended w text .bytes) ≡ drop (extended w text .counters .size) (w .bytes)
+  extended-tail : drop (extended w text .counters .size) (extended w text .bytes)
+      ≡ drop (extended w text .counters .size) (w .bytes)
   unfolding extended
   extended-tail = drop-written (w .bytes) (w .counters .size) text (omega arith)
 
-  extended-sent : sent (extended w text .bytes) (Append (w .counters .size) (w .counters .size + length text)) ≡ appending text
+  extended-sent : sent (extended w text .bytes) (Append (w .counters .size) (w .counters .size + length text))
+      ≡ appending text
   unfolding extended sent
   extended-sent = ap appending (part-written (w .bytes) (w .counters .size) text h)
 
 front : (bytes new : List ℕ) (n : ℕ) → n ≡ length new → new ≡ take n (write bytes 0 new)
-front bytes new n e = let z : 0 + length new ≡ n = omega arith in sym (ap (λ k. take k (write bytes 0 new)) (sym z) ∙ take-written bytes 0 new (omega arith))
+front bytes new n e = let z : 0 + length new ≡ n = omega arith in sym (ap (λ k. take k (write bytes 0 new)) (sym z)
+    ∙ take-written bytes 0 new (omega arith))
 
 behind : (bytes new : List ℕ) (n : ℕ) → n ≡ length new → drop n (write bytes 0 new) ≡ drop n bytes
-behind bytes new n e = let z : 0 + length new ≡ n = omega arith in subst (λ k. drop k (write bytes 0 new) ≡ drop k bytes) z (drop-written bytes 0 new (omega arith))
+behind bytes new n e = let z : 0 + length new ≡ n = omega arith in subst (λ k. drop k (write bytes 0 new)
+    ≡ drop k bytes) z (drop-written bytes 0 new (omega arith))
 
 module _ (w : Wal) (ms : List Message) (s : Stands w ms) where
   image-room : 0 + length (image ms) ≤ length (w .bytes)
@@ -90,21 +102,25 @@ module _ (w : Wal) (ms : List Message) (s : Stands w ms) where
     abbrev len : ℕ
     len = length (recordLine m)
 
-    takes-record : (after : Wal) → after .counters .next ≡ w .counters .next + 1 → Takes (held w ms) (held after (ms ++ (m ∷ []))) (recordText m)
+    takes-record : (after : Wal) → after .counters .next ≡ w .counters .next + 1
+        → Takes (held w ms) (held after (ms ++ (m ∷ []))) (recordText m)
     unfolding takeIn
     takes-record after n r a b =
         let said : readLine (recordText m) ≡ put m = readLine-record m (s .top) in
         let p : insert m ms ≡ ms ++ (m ∷ []) = insert-last m ms 0 (w .counters .next) (omega arith) (s .rising) in
         (cc, rw (said, takeIn) (omega arith))
 
-    module _ (few : w .counters .count < length (w .table)) (id : w .counters .next < 2 ^ 64 - 1) (room : w .counters .live + len ≤ length (w .bytes)) where
-      append-grown : w .counters .size + len ≤ length (w .bytes) → Orders w ms (append name body) (logged w m) (Append (w .counters .size) (w .counters .size + len))
+    module _ (few : w .counters .count < length (w .table)) (id : w .counters .next < 2 ^ 64 - 1)
+        (room : w .counters .live + len ≤ length (w .bytes)) where
+      append-grown : w .counters .size + len ≤ length (w .bytes) → Orders w ms (append name body) (logged w m)
+          (Append (w .counters .size) (w .counters .size + len))
       unfolding effect extended withRecord recordLine
       append-grown h = record {
         stands = logged-stands w ms m s refl fit id few h;
         long = extended-long (withRecord w m) (recordLine m) h;
         tail = extended-tail (withRecord w m) (recordLine m) h;
-        kind = appends (recordText m) (extended-sent (withRecord w m) (recordLine m) h) (recordText-free m) (takes-record (logged w m) refl) refl;
+        kind = appends (recordText m) (extended-sent (withRecord w m) (recordLine m) h) (recordText-free m)
+            (takes-record (logged w m) refl) refl;
       }
 
       both : logged (compacted w) m .bytes ≡ write (w .bytes) 0 (image (ms ++ (m ∷ [])))
@@ -113,7 +129,8 @@ module _ (w : Wal) (ms : List Message) (s : Stands w ms) where
           let size : 0 + length (image ms) ≡ w .counters .live = omega (arith, s .live) in
           ap (λ d. write d (w .counters .live) (recordLine m)) (compacted-bytes w ms s)
           ∙ (ap (λ k. write (write (w .bytes) 0 (image ms)) k (recordLine m)) (sym size)
-          ∙ (write-write (w .bytes) 0 (image ms) (recordLine m) image-room ∙ ap (write (w .bytes) 0) (sym (image-snoc ms m))))
+          ∙ (write-write (w .bytes) 0 (image ms) (recordLine m) image-room
+          ∙ ap (write (w .bytes) 0) (sym (image-snoc ms m))))
 
       new-size : w .counters .live + len ≡ length (image (ms ++ (m ∷ [])))
       new-size = rw (image-snoc, length-append) (omega (arith, s .live))
@@ -123,15 +140,19 @@ module _ (w : Wal) (ms : List Message) (s : Stands w ms) where
       append-replaced =
           let good = compacted-stands w ms s in
           record {
-            stands = logged-stands (compacted w) ms m good refl fit id (omega (arith, good .rows, s .rows)) (omega (arith, compacted-long, room));
+            stands = logged-stands (compacted w) ms m good refl fit id (omega (arith, good .rows, s .rows))
+                (omega (arith, compacted-long, room));
             long = ap length both ∙ length-write (w .bytes) 0 (image (ms ++ (m ∷ []))) (omega (arith, new-size, room));
-            tail = ap (drop (w .counters .live + len)) both ∙ behind (w .bytes) (image (ms ++ (m ∷ []))) (w .counters .live + len) new-size;
-            kind = replaces (ap (λ d. replacing (take (w .counters .live + len) d)) both ∙ ap replacing (sym (front (w .bytes) (image (ms ++ (m ∷ []))) (w .counters .live + len) new-size))) new-size;
+            tail = ap (drop (w .counters .live + len)) both ∙ behind (w .bytes) (image (ms ++ (m ∷ [])))
+                (w .counters .live + len) new-size;
+            kind = replaces (ap (λ d. replacing (take (w .counters .live + len) d)) both
+                ∙ ap replacing (sym (front (w .bytes) (image (ms ++ (m ∷ []))) (w .counters .live + len) new-size)))
+                new-size;
           }
 
-  append-acts : (name body : List ℕ) → fits (newMessage w name body) ≡ true → Acts w ms (append name body) (appendOf w name body)
+  append-acts : (name body : List ℕ) → Acts w ms (append name body) (byAppend (appendOf w name body))
   unfolding appendOf appendRefusal appended
-  append-acts name body fit = at-few (ltb (w .counters .count) (length (w .table))) refl
+  append-acts name body = at-fit (fits (newMessage w name body)) refl
     where
       c : Call
       c = append name body
@@ -139,26 +160,52 @@ module _ (w : Wal) (ms : List Message) (s : Stands w ms) where
       n : Message
       n = newMessage w name body
 
-      at-room : ltb (w .counters .count) (length (w .table)) ≡ true → ltb (w .counters .next) (2 ^ 64 - 1) ≡ true → leb (w .counters .live + length (recordLine n)) (length (w .bytes)) ≡ true
-          → (t : Bool) → leb (w .counters .size + length (recordLine n)) (length (w .bytes)) ≡ t → Acts w ms c (appendOf w name body)
-      at-room p q r true e =
-          let d : appendOf w name body ≡ record { wal = logged w n; answer = Ordered (Append (w .counters .size) (w .counters .size + length (recordLine n))) } = cc in
-          subst (Acts w ms c) (sym d) (append-grown name body fit (ltb-true _ _ p) (ltb-true _ _ q) (leb-true _ _ r) (leb-true _ _ e))
-      at-room p q r false e =
-          let d : appendOf w name body ≡ record { wal = logged (compacted w) n; answer = Ordered (Replace (w .counters .live + length (recordLine n))) } = cc in
-          subst (Acts w ms c) (sym d) (append-replaced name body fit (ltb-true _ _ p) (ltb-true _ _ q) (leb-true _ _ r))
+      at-room : fits n ≡ true → ltb (w .counters .count) (length (w .table)) ≡ true
+          → ltb (w .counters .next) (2 ^ 64 - 1) ≡ true → leb (w .counters .live + length (recordLine n))
+          (length (w .bytes)) ≡ true
+          → (t : Bool) → leb (w .counters .size + length (recordLine n)) (length (w .bytes)) ≡ t
+          → Acts w ms c (byAppend (appendOf w name body))
+      at-room fit p q r true e =
+          let d : appendOf w name body ≡ record {
+            wal = logged w n;
+            answer =
+                Ordered (Append (w .counters .size) (w .counters .size + length (recordLine n)));
+          } = cc in
+          subst (λ x. Acts w ms c (byAppend x)) (sym d) (append-grown name body fit (ltb-true _ _ p) (ltb-true _ _ q)
+          (leb-true _ _ r) (leb-true _ _ e))
+      at-room fit p q r false e =
+          let d : appendOf w name body ≡ record {
+            wal = logged (compacted w) n;
+            answer =
+                Ordered (Replace (w .counters .live + length (recordLine n)));
+          } = cc in
+          subst (λ x. Acts w ms c (byAppend x)) (sym d) (append-replaced name body fit (ltb-true _ _ p)
+          (ltb-true _ _ q) (leb-true _ _ r))
 
-      at-live : ltb (w .counters .count) (length (w .table)) ≡ true → ltb (w .counters .next) (2 ^ 64 - 1) ≡ true → (t : Bool) → leb (w .counters .live + length (recordLine n)) (length (w .bytes)) ≡ t → Acts w ms c (appendOf w name body)
-      at-live p q true e = at-room p q e (leb (w .counters .size + length (recordLine n)) (length (w .bytes))) refl
-      at-live p q false e = let d : appendOf w name body ≡ turnedAway w NoRoom = cc in subst (Acts w ms c) (sym d) refl
+      away : (r : Refusal) → appendOf w name body ≡ turnedAway w r → Acts w ms c (byAppend (appendOf w name body))
+      away r d = subst (λ x. Acts w ms c (byAppend x)) (sym d) refl
 
-      at-id : ltb (w .counters .count) (length (w .table)) ≡ true → (t : Bool) → ltb (w .counters .next) (2 ^ 64 - 1) ≡ t → Acts w ms c (appendOf w name body)
-      at-id p true e = at-live p e (leb (w .counters .live + length (recordLine n)) (length (w .bytes))) refl
-      at-id p false e = let d : appendOf w name body ≡ turnedAway w NoId = cc in subst (Acts w ms c) (sym d) refl
+      at-live : fits n ≡ true → ltb (w .counters .count) (length (w .table)) ≡ true
+          → ltb (w .counters .next) (2 ^ 64 - 1) ≡ true
+          → (t : Bool) → leb (w .counters .live + length (recordLine n)) (length (w .bytes)) ≡ t
+          → Acts w ms c (byAppend (appendOf w name body))
+      at-live fit p q true e = at-room fit p q e (leb (w .counters .size + length (recordLine n)) (length (w .bytes)))
+          refl
+      at-live fit p q false e = away NoRoom cc
 
-      at-few : (t : Bool) → ltb (w .counters .count) (length (w .table)) ≡ t → Acts w ms c (appendOf w name body)
-      at-few true e = at-id e (ltb (w .counters .next) (2 ^ 64 - 1)) refl
-      at-few false e = let d : appendOf w name body ≡ turnedAway w Full = cc in subst (Acts w ms c) (sym d) refl
+      at-id : fits n ≡ true → ltb (w .counters .count) (length (w .table)) ≡ true → (t : Bool)
+          → ltb (w .counters .next) (2 ^ 64 - 1) ≡ t → Acts w ms c (byAppend (appendOf w name body))
+      at-id fit p true e = at-live fit p e (leb (w .counters .live + length (recordLine n)) (length (w .bytes))) refl
+      at-id fit p false e = away NoId cc
+
+      at-few : fits n ≡ true → (t : Bool) → ltb (w .counters .count) (length (w .table)) ≡ t
+          → Acts w ms c (byAppend (appendOf w name body))
+      at-few fit true e = at-id fit e (ltb (w .counters .next) (2 ^ 64 - 1)) refl
+      at-few fit false e = away Full cc
+
+      at-fit : (t : Bool) → fits n ≡ t → Acts w ms c (byAppend (appendOf w name body))
+      at-fit true e = at-few e (ltb (w .counters .count) (length (w .table))) refl
+      at-fit false e = away TooLong cc
 
   -- a mark: its line read behind the others takes the message off
   module _ (id i : ℕ) (found : findRow 0 id (openRows w) ≡ some i) where
@@ -171,19 +218,24 @@ module _ (w : Wal) (ms : List Message) (s : Stands w ms) where
     abbrev standing : Stands without rest
     standing = without-stands w ms s id i found
 
-    takes-done : (after : Wal) → after .counters .next ≡ w .counters .next → Takes (held w ms) (held after rest) (printId id)
+    takes-done : (after : Wal) → after .counters .next ≡ w .counters .next → Takes (held w ms) (held after rest)
+        (printId id)
     unfolding takeIn
     takes-done after n r a b =
-        let said : readLine (printId id) ≡ done id = readLine-done id (omega (arith, s .top, known-below w ms s id i found)) in
+        let said : readLine (printId id) ≡ done id =
+        readLine-done id (omega (arith, s .top, known-below w ms s id i found)) in
         (cc, rw (said, takeIn) (omega arith))
 
-    mark-grown : without .counters .size + length (doneLine id) ≤ length (without .bytes) → Orders w ms (mark id) (extended without (doneLine id)) (Append (without .counters .size) (without .counters .size + length (doneLine id)))
+    mark-grown : without .counters .size + length (doneLine id) ≤ length (without .bytes)
+        → Orders w ms (mark id) (extended without (doneLine id)) (Append (without .counters .size)
+        (without .counters .size + length (doneLine id)))
     unfolding effect extended withoutRow doneLine
     mark-grown h = record {
       stands = extended-stands without rest (doneLine id) standing h;
       long = extended-long without (doneLine id) h;
       tail = extended-tail without (doneLine id) h;
-      kind = appends (printId id) (extended-sent without (doneLine id) h) (printId-free id) (takes-done (extended without (doneLine id)) refl) refl;
+      kind = appends (printId id) (extended-sent without (doneLine id) h) (printId-free id)
+          (takes-done (extended without (doneLine id)) refl) refl;
     }
 
     mark-replaced : Orders w ms (mark id) (compacted without) (Replace (without .counters .live))
@@ -191,62 +243,98 @@ module _ (w : Wal) (ms : List Message) (s : Stands w ms) where
     mark-replaced =
         let bytes = compacted-bytes without rest standing in
         let n : without .counters .live ≡ length (image rest) = standing .live in
-        let room : 0 + length (image rest) ≤ length (without .bytes) = omega (arith, n, live-small without rest standing, standing .room) in
+        let room : 0 + length (image rest) ≤ length (without .bytes) =
+        omega (arith, n, live-small without rest standing, standing .room) in
         record {
           stands = compacted-stands without rest standing;
           long = ap length bytes ∙ length-write (without .bytes) 0 (image rest) room;
-          tail = ap (drop (without .counters .live)) bytes ∙ behind (without .bytes) (image rest) (without .counters .live) n;
-          kind = replaces (ap (λ d. replacing (take (without .counters .live) d)) bytes ∙ ap replacing (sym (front (without .bytes) (image rest) (without .counters .live) n))) n;
+          tail = ap (drop (without .counters .live)) bytes ∙ behind (without .bytes) (image rest)
+              (without .counters .live) n;
+          kind = replaces (ap (λ d. replacing (take (without .counters .live) d)) bytes
+              ∙ ap replacing (sym (front (without .bytes) (image rest) (without .counters .live) n))) n;
         }
 
-    marked-acts : (compactAt : ℕ) → Acts w ms (mark id) (markedDone compactAt without id)
+    marked-acts : (compactAt : ℕ) → Acts w ms (mark id) (byMark (markedDone compactAt without id))
     unfolding markedDone keeps
-    marked-acts compactAt = at (keeps compactAt (length (without .bytes)) (without .counters .live) (without .counters .size + length (doneLine id))) refl
+    marked-acts compactAt = at (keeps compactAt (length (without .bytes)) (without .counters .live)
+        (without .counters .size + length (doneLine id))) refl
       where
-        at : (t : Bool) → keeps compactAt (length (without .bytes)) (without .counters .live) (without .counters .size + length (doneLine id)) ≡ t → Acts w ms (mark id) (markedDone compactAt without id)
+        at : (t : Bool) → keeps compactAt (length (without .bytes)) (without .counters .live) (without .counters .size
+            + length (doneLine id)) ≡ t → Acts w ms (mark id) (byMark (markedDone compactAt without id))
         at true e =
-            let d : markedDone compactAt without id ≡ record { wal = extended without (doneLine id); answer = Ordered (Append (without .counters .size) (without .counters .size + length (doneLine id))) } = cc in
-            subst (Acts w ms (mark id)) (sym d) (mark-grown (leb-true _ _ (and-left (leb (without .counters .size + length (doneLine id)) (length (without .bytes))) _ e)))
+            let d : markedDone compactAt without id ≡ record {
+              wal = extended without (doneLine id);
+              due =
+                  due.Ordered (Append (without .counters .size) (without .counters .size + length (doneLine id)));
+            } =
+            cc in
+            subst (λ x. Acts w ms (mark id) (byMark x)) (sym d)
+            (mark-grown (leb-true _ _ (and-left (leb (without .counters .size + length (doneLine id))
+            (length (without .bytes))) _ e)))
         at false e =
-            let d : markedDone compactAt without id ≡ record { wal = compacted without; answer = Ordered (Replace (without .counters .live)) } = cc in
-            subst (Acts w ms (mark id)) (sym d) mark-replaced
+            let d : markedDone compactAt without id ≡ record {
+              wal = compacted without;
+              due =
+                  due.Ordered (Replace (without .counters .live));
+            } = cc in
+            subst (λ x. Acts w ms (mark id) (byMark x)) (sym d) mark-replaced
 
-  mark-acts : (compactAt id : ℕ) → Acts w ms (mark id) (markOf compactAt w id)
+  mark-acts : (compactAt id : ℕ) → Acts w ms (mark id) (byMark (markOf compactAt w id))
   unfolding markOf
   mark-acts compactAt id = at (findRow 0 id (openRows w)) refl
     where
-      at : (o : Option ℕ) → findRow 0 id (openRows w) ≡ o → Acts w ms (mark id) (markFound compactAt w id (findRow 0 id (openRows w)))
-      at none e = subst (λ o. Acts w ms (mark id) (markFound compactAt w id o)) (sym e) refl
-      at (some i) e = subst (λ o. Acts w ms (mark id) (markFound compactAt w id o)) (sym e) (marked-acts id i e compactAt)
+      at : (o : Option ℕ) → findRow 0 id (openRows w) ≡ o
+          → Acts w ms (mark id) (byMark (markFound compactAt w id (findRow 0 id (openRows w))))
+      at none e = subst (λ o. Acts w ms (mark id) (byMark (markFound compactAt w id o))) (sym e) refl
+      at (some i) e = subst (λ o. Acts w ms (mark id) (byMark (markFound compactAt w id o))) (sym e)
+          (marked-acts id i e compactAt)
 
-  abbrev flushed : Did
+  abbrev flushed : Called
   flushed = record {
-    wal = record { bytes = w .bytes; table = w .table; counters = record { next = w .counters .next; live = w .counters .live; size = w .counters .size; dirty = false; count = w .counters .count } };
-    answer = Ordered Flush;
+    wal = record {
+      bytes = w .bytes;
+      table = w .table;
+      counters = record {
+        next = w .counters .next;
+        live =
+            w .counters .live;
+        size = w .counters .size;
+        dirty = false;
+        count = w .counters .count;
+      };
+    };
+    order = some Flush;
   }
 
-  sync-acts : Acts w ms sync (syncDid w (syncOf (w .counters)))
+  sync-acts : Acts w ms sync (bySync w (syncOf (w .counters)))
   unfolding syncOf effect sent
   sync-acts = at (w .counters .dirty) refl
     where
-      at : (t : Bool) → w .counters .dirty ≡ t → Acts w ms sync (syncDid w (syncOf (w .counters)))
+      at : (t : Bool) → w .counters .dirty ≡ t → Acts w ms sync (bySync w (syncOf (w .counters)))
       at true e =
-          let d : syncDid w (syncOf (w .counters)) ≡ flushed = cc in
+          let d : bySync w (syncOf (w .counters)) ≡ flushed = cc in
           subst (Acts w ms sync) (sym d) (record {
-            stands = record { rising = s .rising; small = s .small; top = s .top; room = s .room; live = s .live; count = s .count; rows = s .rows; tabled = s .tabled };
+            stands = record {
+              rising = s .rising;
+              small = s .small;
+              top = s .top;
+              room = s .room;
+              live = s .live;
+              count = s .count;
+              rows = s .rows;
+              tabled = s .tabled;
+            };
             long = refl;
             tail = refl;
             kind = flushes refl refl refl refl;
           })
-      at false e = let d : syncDid w (syncOf (w .counters)) ≡ record { wal = record { bytes = w .bytes; table = w .table; counters = w .counters }; answer = Nothing } = cc in subst (Acts w ms sync) (sym d) refl
+      at false e = let d : bySync w (syncOf (w .counters))
+          ≡ record { wal = record { bytes = w .bytes; table = w .table; counters = w .counters }; order = none } =
+          cc in subst (Acts w ms sync) (sym d) refl
 
 -- every call, on a log that stands for the messages
 pub acts : (compactAt : ℕ) (w : Wal) (ms : List Message) (c : Call) → Stands w ms → Acts w ms c (didCall compactAt w c)
 unfolding didCall
-acts compactAt w ms (append name body) s = at (fits (newMessage w name body)) refl
-  where
-    at : (t : Bool) → fits (newMessage w name body) ≡ t → Acts w ms (append name body) (didCall compactAt w (append name body))
-    at true e = let d : didCall compactAt w (append name body) ≡ appendOf w name body = cc in subst (Acts w ms (append name body)) (sym d) (append-acts w ms s name body e)
-    at false e = let d : didCall compactAt w (append name body) ≡ record { wal = w; answer = Nothing } = cc in subst (Acts w ms (append name body)) (sym d) refl
+acts compactAt w ms (append name body) s = append-acts w ms s name body
 acts compactAt w ms (mark id) s = mark-acts w ms s compactAt id
 acts compactAt w ms sync s = sync-acts w ms s

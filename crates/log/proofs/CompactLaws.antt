@@ -27,11 +27,13 @@ movable-low long to r h = cc (lt-leb to (rowAt r) h)
 
 pub movable-long : (long to : ℕ) (r : List ℕ) → long < rowAt r + rowLen r → movable long to r ≡ false
 unfolding movable
-movable-long long to r h = ap (λ b. leb to (rowAt r) && b) (lt-leb (rowAt r + rowLen r) long h) ∙ and-false (leb to (rowAt r))
+movable-long long to r h = ap (λ b. leb to (rowAt r) && b) (lt-leb (rowAt r + rowLen r) long h)
+    ∙ and-false (leb to (rowAt r))
 
 -- one row of the rewrite
 module _ (r : List ℕ) (rs : List (List ℕ)) (to : ℕ) (bytes : List ℕ) where
-  squeezed-yes : movable (length bytes) to r ≡ true → squeezed (r ∷ rs) to bytes ≡ squeezed rs (to + rowLen r) (write bytes to (part bytes (rowAt r) (rowAt r + rowLen r)))
+  squeezed-yes : movable (length bytes) to r ≡ true → squeezed (r ∷ rs) to bytes ≡ squeezed rs (to + rowLen r)
+      (write bytes to (part bytes (rowAt r) (rowAt r + rowLen r)))
   unfolding squeezed
   squeezed-yes e = cc
 
@@ -39,31 +41,45 @@ module _ (r : List ℕ) (rs : List (List ℕ)) (to : ℕ) (bytes : List ℕ) whe
   unfolding squeezed
   squeezed-no e = cc
 
-  settled-yes : movable (length bytes) to r ≡ true → settled (length bytes) (r ∷ rs) to ≡ row (rowId r) to (rowLen r) ∷ settled (length bytes) rs (to + rowLen r)
+  settled-yes : movable (length bytes) to r ≡ true → settled (length bytes) (r ∷ rs) to ≡ row (rowId r) to (rowLen r) ∷
+      settled (length bytes) rs (to + rowLen r)
   unfolding settled
   settled-yes e = cc
 
-  settled-no : movable (length bytes) to r ≡ false → settled (length bytes) (r ∷ rs) to ≡ r ∷ settled (length bytes) rs to
+  settled-no : movable (length bytes) to r ≡ false → settled (length bytes) (r ∷ rs) to ≡ r ∷ settled (length bytes) rs
+      to
   unfolding settled
   settled-no e = cc
 
-pub record Squeezing (log₀ : List ℕ) (rows₀ : List (List ℕ)) (count : ℕ) (log : List ℕ) (rows : List (List ℕ)) (to i : ℕ) : Type 0 where
+pub record Squeezing (log₀ : List ℕ) (rows₀ : List (List ℕ)) (count : ℕ) (log : List ℕ) (rows : List (List ℕ))
+    (to i : ℕ) : Type 0 where
   pub long : length log ≡ length log₀
   pub many : length rows ≡ length rows₀
   pub room : to ≤ length log
   pub bytes : squeezed (drop i (take count rows₀)) to log ≡ squeezed (take count rows₀) 0 log₀
-  pub table : write rows i (settled (length log₀) (drop i (take count rows₀)) to) ≡ write rows₀ 0 (settled (length log₀) (take count rows₀) 0)
+  pub table : write rows i (settled (length log₀) (drop i (take count rows₀)) to)
+      ≡ write rows₀ 0 (settled (length log₀) (take count rows₀) 0)
   pub fresh : drop i rows ≡ drop i rows₀
 
 pub squeezing-begins : (log : List ℕ) (rows : List (List ℕ)) (count : ℕ) → Squeezing log rows count log rows 0 0
-squeezing-begins log rows count = record { long = refl; many = refl; room = omega arith; bytes = refl; table = refl; fresh = refl }
+squeezing-begins log rows count = record {
+  long = refl;
+  many = refl;
+  room = omega arith;
+  bytes = refl;
+  table = refl;
+  fresh = refl;
+}
 
-module _ {log₀ : List ℕ} {rows₀ : List (List ℕ)} {count : ℕ} {log : List ℕ} {rows : List (List ℕ)} {to i : ℕ} (s : Squeezing log₀ rows₀ count log rows to i) where
-  pub squeezing-ends : drop i (take count rows₀) ≡ [] → (log ≡ squeezed (take count rows₀) 0 log₀) × (rows ≡ write rows₀ 0 (settled (length log₀) (take count rows₀) 0))
+module _ {log₀ : List ℕ} {rows₀ : List (List ℕ)} {count : ℕ} {log : List ℕ} {rows : List (List ℕ)} {to i : ℕ}
+    (s : Squeezing log₀ rows₀ count log rows to i) where
+  pub squeezing-ends : drop i (take count rows₀) ≡ [] → (log ≡ squeezed (take count rows₀) 0 log₀)
+      × (rows ≡ write rows₀ 0 (settled (length log₀) (take count rows₀) 0))
   unfolding squeezed settled
   squeezing-ends e =
       let b : squeezed (drop i (take count rows₀)) to log ≡ log = ap (λ l. squeezed l to log) e in
-      let t : write rows i (settled (length log₀) (drop i (take count rows₀)) to) ≡ rows = ap (λ l. write rows i (settled (length log₀) l to)) e ∙ write-none rows i in
+      let t : write rows i (settled (length log₀) (drop i (take count rows₀)) to)
+      ≡ rows = ap (λ l. write rows i (settled (length log₀) l to)) e ∙ write-none rows i in
       (sym b ∙ s .bytes, sym t ∙ s .table)
 
   module _ (h : i < count) (l : i < length rows) where
@@ -73,30 +89,42 @@ module _ {log₀ : List ℕ} {rows₀ : List (List ℕ)} {count : ℕ} {log : Li
     same-row : r ≡ getD rows₀ i []
     same-row =
         let z : i + 0 ≡ i = omega arith in
-        ap (λ k. getD rows k []) (sym z) ∙ (sym (getD-drop i rows 0 []) ∙ (ap (λ d. getD d 0 []) (s .fresh) ∙ (getD-drop i rows₀ 0 [] ∙ ap (λ k. getD rows₀ k []) z)))
+        ap (λ k. getD rows k []) (sym z) ∙ (sym (getD-drop i rows 0 []) ∙ (ap (λ d. getD d 0 []) (s .fresh)
+        ∙ (getD-drop i rows₀ 0 [] ∙ ap (λ k. getD rows₀ k []) z)))
 
     here : drop i (take count rows₀) ≡ r ∷ drop (i + 1) (take count rows₀)
-    here = next-row [] rows₀ count i h (omega (arith, s .many)) ∙ ap (λ x. x ∷ drop (i + 1) (take count rows₀)) (sym same-row)
+    here = next-row [] rows₀ count i h (omega (arith, s .many)) ∙ ap (λ x. x ∷ drop (i + 1) (take count rows₀))
+        (sym same-row)
 
     fresh-more : drop (i + 1) rows ≡ drop (i + 1) rows₀
     fresh-more = sym (drop-drop 1 i rows) ∙ (ap (drop 1) (s .fresh) ∙ drop-drop 1 i rows₀)
 
     -- a range that is moved down
-    pub moved-on : to ≤ rowAt r → rowAt r + rowLen r ≤ length log → (log' : List ℕ) → log' ≡ write log to (part log (rowAt r) (rowAt r + rowLen r))
+    pub moved-on : to ≤ rowAt r → rowAt r + rowLen r ≤ length log → (log' : List ℕ) → log'
+        ≡ write log to (part log (rowAt r) (rowAt r + rowLen r))
         → Squeezing log₀ rows₀ count log' (set rows i (row (rowId r) to (rowLen r))) (to + rowLen r) (i + 1)
     moved-on a b log' e =
         let can : movable (length log) to r ≡ true = movable-true (length log) to r a b in
         let new : List ℕ = row (rowId r) to (rowLen r) in
-        let n : length (part log (rowAt r) (rowAt r + rowLen r)) ≡ rowLen r = length-part log (rowAt r) (rowAt r + rowLen r) (omega arith) b ∙ less (rowAt r) (rowLen r) in
-        let k : length log' ≡ length log = ap length e ∙ length-write log to (part log (rowAt r) (rowAt r + rowLen r)) (omega arith) in
-        let q : settled (length log₀) (r ∷ drop (i + 1) (take count rows₀)) to ≡ new ∷ settled (length log₀) (drop (i + 1) (take count rows₀)) (to + rowLen r)
-        = subst (λ m. settled m (r ∷ drop (i + 1) (take count rows₀)) to ≡ new ∷ settled m (drop (i + 1) (take count rows₀)) (to + rowLen r)) (s .long) (settled-yes r (drop (i + 1) (take count rows₀)) to log can) in
+        let n : length (part log (rowAt r) (rowAt r + rowLen r)) ≡ rowLen r = length-part log (rowAt r)
+        (rowAt r + rowLen r) (omega arith) b ∙ less (rowAt r) (rowLen r) in
+        let k : length log' ≡ length log = ap length e ∙ length-write log to (part log (rowAt r) (rowAt r + rowLen r))
+        (omega arith) in
+        let q : settled (length log₀) (r ∷ drop (i + 1) (take count rows₀)) to ≡ new ∷ settled (length log₀)
+        (drop (i + 1) (take count rows₀)) (to + rowLen r)
+        = subst (λ m. settled m (r ∷ drop (i + 1) (take count rows₀)) to
+        ≡ new ∷ settled m (drop (i + 1) (take count rows₀)) (to + rowLen r)) (s .long)
+        (settled-yes r (drop (i + 1) (take count rows₀)) to log can) in
         record {
           long = k ∙ s .long;
           many = length-set rows i new ∙ s .many;
           room = omega arith;
-          bytes = ap (squeezed (drop (i + 1) (take count rows₀)) (to + rowLen r)) e ∙ (sym (squeezed-yes r (drop (i + 1) (take count rows₀)) to log can) ∙ (ap (λ x. squeezed x to log) (sym here) ∙ s .bytes));
-          table = write-cons rows i new (settled (length log₀) (drop (i + 1) (take count rows₀)) (to + rowLen r)) l ∙ (ap (write rows i) (sym q) ∙ (ap (λ x. write rows i (settled (length log₀) x to)) (sym here) ∙ s .table));
+          bytes = ap (squeezed (drop (i + 1) (take count rows₀)) (to + rowLen r)) e
+              ∙ (sym (squeezed-yes r (drop (i + 1) (take count rows₀)) to log can)
+              ∙ (ap (λ x. squeezed x to log) (sym here) ∙ s .bytes));
+          table = write-cons rows i new (settled (length log₀) (drop (i + 1) (take count rows₀)) (to + rowLen r)) l
+              ∙ (ap (write rows i) (sym q) ∙ (ap (λ x. write rows i (settled (length log₀) x to)) (sym here)
+              ∙ s .table));
           fresh = drop-set-lt (i + 1) rows i new (omega arith) ∙ fresh-more;
         }
       where
@@ -106,14 +134,21 @@ module _ {log₀ : List ℕ} {rows₀ : List (List ℕ)} {count : ℕ} {log : Li
     -- a range that stays
     pub passed-by : movable (length log) to r ≡ false → Squeezing log₀ rows₀ count log rows to (i + 1)
     passed-by can =
-        let q : settled (length log₀) (r ∷ drop (i + 1) (take count rows₀)) to ≡ r ∷ settled (length log₀) (drop (i + 1) (take count rows₀)) to
-        = subst (λ m. settled m (r ∷ drop (i + 1) (take count rows₀)) to ≡ r ∷ settled m (drop (i + 1) (take count rows₀)) to) (s .long) (settled-no r (drop (i + 1) (take count rows₀)) to log can) in
+        let q : settled (length log₀) (r ∷ drop (i + 1) (take count rows₀)) to
+        ≡ r ∷ settled (length log₀) (drop (i + 1) (take count rows₀)) to
+        = subst (λ m. settled m (r ∷ drop (i + 1) (take count rows₀)) to
+        ≡ r ∷ settled m (drop (i + 1) (take count rows₀)) to) (s .long)
+        (settled-no r (drop (i + 1) (take count rows₀)) to log can) in
         record {
           long = s .long;
           many = s .many;
           room = s .room;
-          bytes = sym (squeezed-no r (drop (i + 1) (take count rows₀)) to log can) ∙ (ap (λ x. squeezed x to log) (sym here) ∙ s .bytes);
-          table = ap (λ x. write x (i + 1) (settled (length log₀) (drop (i + 1) (take count rows₀)) to)) (sym (set-getD rows i []))
-              ∙ (write-cons rows i r (settled (length log₀) (drop (i + 1) (take count rows₀)) to) l ∙ (ap (write rows i) (sym q) ∙ (ap (λ x. write rows i (settled (length log₀) x to)) (sym here) ∙ s .table)));
+          bytes = sym (squeezed-no r (drop (i + 1) (take count rows₀)) to log can)
+              ∙ (ap (λ x. squeezed x to log) (sym here) ∙ s .bytes);
+          table = ap (λ x. write x (i + 1) (settled (length log₀) (drop (i + 1) (take count rows₀)) to))
+              (sym (set-getD rows i []))
+              ∙ (write-cons rows i r (settled (length log₀) (drop (i + 1) (take count rows₀)) to) l
+              ∙ (ap (write rows i) (sym q) ∙ (ap (λ x. write rows i (settled (length log₀) x to)) (sym here)
+              ∙ s .table)));
           fresh = fresh-more;
         }

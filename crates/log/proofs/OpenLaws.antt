@@ -54,15 +54,24 @@ sized-all log n store table left e =
 pub sized-true : (log n store table left : ℕ) → Sized log n store table left → sized log n store table left ≡ true
 unfolding sized
 sized-true log n store table left s =
-    cc (le-leb 16 log (s .least), le-leb log 65536 (s .most), le-leb n log (s .file), eq-eqb store 40960 (s .store-is), eq-eqb table 256 (s .table-is), eq-eqb left 256 (s .left-is))
+    cc (
+      le-leb 16 log (s .least),
+      le-leb log 65536 (s .most),
+      le-leb n log (s .file),
+      eq-eqb store 40960 (s .store-is),
+      eq-eqb table 256 (s .table-is),
+      eq-eqb left 256 (s .left-is),
+    )
 
 -- what opening does with a file that it accepts
-pub open-accepts : (log : List ℕ) (n : ℕ) (store : List ℕ) (table left : List (List ℕ)) (r : Read) → sized (length log) n (length store) (length table) (length left) ≡ true → opening (take n log) ≡ opened r
+pub open-accepts : (log : List ℕ) (n : ℕ) (store : List ℕ) (table left : List (List ℕ)) (r : Read)
+    → sized (length log) n (length store) (length table) (length left) ≡ true → opening (take n log) ≡ opened r
     → openOf log n store table left ≡ openedBy log store table left r
 unfolding openOf
 open-accepts log n store table left r s e = cc
 
-module _ (log : List ℕ) (n : ℕ) (store : List ℕ) (table left : List (List ℕ)) (r : Read) (s : sized (length log) n (length store) (length table) (length left) ≡ true) (ok : opening (take n log) ≡ opened r) where
+module _ (log : List ℕ) (n : ℕ) (store : List ℕ) (table left : List (List ℕ)) (r : Read) (s : sized (length log) n
+    (length store) (length table) (length left) ≡ true) (ok : opening (take n log) ≡ opened r) where
   abbrev lent : Sized (length log) n (length store) (length table) (length left)
   lent = sized-all (length log) n (length store) (length table) (length left) s
 
@@ -85,7 +94,9 @@ module _ (log : List ℕ) (n : ℕ) (store : List ℕ) (table left : List (List 
       let g = judge-opened (readFile (take n log)) r ok in
       let few : length (r .left) ≤ 256 = small-few (r .left) (rw (g .same) at (g .small)) in
       let all : 0 + length (rowsFrom 0 (r .left)) ≡ length (r .left) = omega (arith, rows-from 0 (r .left)) in
-      let rows : take (length (r .left)) (write table 0 (rowsFrom 0 (r .left))) ≡ rowsFrom 0 (r .left) = ap (λ k. take k (write table 0 (rowsFrom 0 (r .left)))) (sym all) ∙ take-written table 0 (rowsFrom 0 (r .left)) (omega arith) in
+      let rows : take (length (r .left)) (write table 0 (rowsFrom 0 (r .left))) ≡ rowsFrom 0 (r .left) =
+      ap (λ k. take k (write table 0 (rowsFrom 0 (r .left)))) (sym all)
+      ∙ take-written table 0 (rowsFrom 0 (r .left)) (omega arith) in
       let size : 0 + length (image (r .left)) ≡ length (image (r .left)) = omega arith in
       record {
         rising = rw (g .same) at (readLines-in-order (lines (take n log)) nothingRead (omega arith));
@@ -95,10 +106,12 @@ module _ (log : List ℕ) (n : ℕ) (store : List ℕ) (table left : List (List 
         live = refl;
         count = refl;
         rows = length-write table 0 (rowsFrom 0 (r .left)) (omega (arith, lent .table-is)) ∙ lent .table-is;
-        tabled = rw rows (subst (λ k. Tabled (write log 0 (image (r .left))) 0 (r .left) (rowsFrom 0 (r .left)) k) size (tabled-image log 0 (r .left) (omega (arith, image-fits))));
+        tabled = rw rows (subst (λ k. Tabled (write log 0 (image (r .left))) 0 (r .left) (rowsFrom 0 (r .left)) k) size
+            (tabled-image log 0 (r .left) (omega (arith, image-fits))));
       }
 
   pub opened-sent : sent (after .bytes) (Replace (after .counters .size)) ≡ replacing (image (r .left))
   unfolding sent
   opened-sent = let z : 0 + length (image (r .left)) ≡ length (image (r .left)) = omega arith in
-      ap replacing (ap (λ k. take k (write log 0 (image (r .left)))) (sym z) ∙ take-written log 0 (image (r .left)) (omega arith))
+      ap replacing (ap (λ k. take k (write log 0 (image (r .left)))) (sym z) ∙ take-written log 0 (image (r .left))
+      (omega arith))

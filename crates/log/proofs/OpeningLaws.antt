@@ -1,4 +1,5 @@
--- Laws of opening: what canonical lines say, what whole and torn lines are read as, and that the messages left stand in rising id order.
+-- Laws of opening: what canonical lines say, what whole and torn lines are read as, and that the messages left stand
+-- in rising id order.
 use mathlib.Core.Path.{_≡_, refl, sym, ap, _∙_}
 use mathlib.Core.Bool.{Bool, true, false, _&&_}
 use mathlib.Core.List.{List, [], _∷_, _++_, append-assoc, append-nil, List·Memᴰ, List·Memᴰ·head, List·Memᴰ·tail}
@@ -11,13 +12,18 @@ use lib.Seq.{take-append-le, take-append-add}
 use Rattle.text.specs.Format.{LF, Message, recordText, recordLine, line, printId, lines}
 use Rattle.text.specs.Bytes.{Free}
 use Rattle.text.specs.Line.{Line, put, done, other, putOf, doneOf, readFields, readLine}
-use Rattle.text.proofs.FormatLaws.{unescape-escape, readId-printId, fields-record, fields-done, recordText-free, lines-line, lines-torn}
+use Rattle.text.proofs.FormatLaws.{unescape-escape, readId-printId, fields-record, fields-done, recordText-free}
+use Rattle.text.proofs.FormatLaws.{lines-line, lines-torn}
 use Rattle.log.specs.Stands.{Small}
-use Rattle.log.specs.Opening.{insert, remove, Read, takeIn, readLines, fits, allFit, Rising, opened, judge, image}
+use Rattle.log.specs.Opening.{insert, remove, Read, takeIn, readLines, fits, allFit, Rising, opened, judge}
+use Rattle.log.specs.Opening.{image}
 
 pub readLine-record : (m : Message) → m .id < 2 ^ 64 → readLine (recordText m) ≡ put m
 unfolding readLine readFields putOf
-readLine-record m h = rw (fields-record m) (rw (readId-printId (m .id) h) (rw (unescape-escape (m .name), unescape-escape (m .body))))
+readLine-record m h = rw (fields-record m) (rw (readId-printId (m .id) h) (rw (
+  unescape-escape (m .name),
+  unescape-escape (m .body),
+)))
 
 pub readLine-done : (n : ℕ) → n < 2 ^ 64 → readLine (printId n) ≡ done n
 unfolding readLine readFields doneOf
@@ -52,7 +58,8 @@ readLines-append r [] us = refl
 readLines-append r (t ∷ ts) us = readLines-append (takeIn r (readLine t)) ts us
 
 -- whole lines are read first, then what follows them
-pub read-joined : (r : Read) (ts : List (List ℕ)) (x : List ℕ) → FreeAll ts → readLines r (lines (joined ts ++ x)) ≡ readLines (readLines r ts) (lines x)
+pub read-joined : (r : Read) (ts : List (List ℕ)) (x : List ℕ) → FreeAll ts → readLines r (lines (joined ts ++ x))
+    ≡ readLines (readLines r ts) (lines x)
 read-joined r ts x f = cc (lines-joined ts x f, readLines-append r ts (lines x))
 
 -- the messages left after each of the lines, the first before any
@@ -60,7 +67,8 @@ unfoldable pub lefts : Read → List (List ℕ) → List (List Message)
 lefts r [] = r .left ∷ []
 lefts r (t ∷ ts) = r .left ∷ lefts (takeIn r (readLine t)) ts
 
-pub lefts-snoc : (r : Read) (ts : List (List ℕ)) (t : List ℕ) → lefts r (ts ++ (t ∷ [])) ≡ lefts r ts ++ ((takeIn (readLines r ts) (readLine t)) .left ∷ [])
+pub lefts-snoc : (r : Read) (ts : List (List ℕ)) (t : List ℕ) → lefts r (ts ++ (t ∷ []))
+    ≡ lefts r ts ++ ((takeIn (readLines r ts) (readLine t)) .left ∷ [])
 unfolding lefts readLines
 lefts-snoc r [] t = refl
 lefts-snoc r (u ∷ ts) t = ap {B = List (List Message)} (λ l. r .left ∷ l) (lefts-snoc (takeIn r (readLine u)) ts t)
@@ -70,7 +78,9 @@ abbrev pub Accepted : Read → List (List ℕ) → Type 0
 Accepted r [] = judge r ≡ opened r
 Accepted r (t ∷ ts) = (judge r ≡ opened r) × Accepted (takeIn r (readLine t)) ts
 
-pub Accepted-snoc : (r : Read) (ts : List (List ℕ)) (t : List ℕ) → Accepted r ts → judge (takeIn (readLines r ts) (readLine t)) ≡ opened (takeIn (readLines r ts) (readLine t)) → Accepted r (ts ++ (t ∷ []))
+pub Accepted-snoc : (r : Read) (ts : List (List ℕ)) (t : List ℕ) → Accepted r ts
+    → judge (takeIn (readLines r ts) (readLine t)) ≡ opened (takeIn (readLines r ts) (readLine t))
+    → Accepted r (ts ++ (t ∷ []))
 unfolding readLines
 Accepted-snoc r [] t a g = (a, g)
 Accepted-snoc r (u ∷ ts) t a g = (a .0, Accepted-snoc (takeIn r (readLine u)) ts t (a .1) g)
@@ -95,22 +105,42 @@ pub length-line : (t : List ℕ) → length (line t) ≡ length t + 1
 unfolding line
 length-line t = length-append t (LF ∷ [])
 
-take-whole : (t rest : List ℕ) (k : ℕ) → length t < k → take k (line t ++ rest) ≡ line t ++ take (k - (length t + 1)) rest
+take-whole : (t rest : List ℕ) (k : ℕ) → length t < k → take k (line t ++ rest) ≡ line t ++ take (k - (length t + 1))
+    rest
 take-whole t rest k h =
     let e : k ≡ length (line t) + (k - (length t + 1)) = omega (arith, length-line t) in
     ap (λ n. take n (line t ++ rest)) e ∙ take-append-add (line t) rest (k - (length t + 1))
 
-pub take-lines : (ts : List (List ℕ)) (r : Read) (k : ℕ) → FreeAll ts → Accepted r ts → Prefixed r ts (take k (joined ts))
+pub take-lines : (ts : List (List ℕ)) (r : Read) (k : ℕ) → FreeAll ts → Accepted r ts
+    → Prefixed r ts (take k (joined ts))
 unfolding joined lefts readLines
 take-lines [] r zero f a = record { found = r; reads = rw (lines-torn [] tt); good = a; among = List·Memᴰ·head refl }
-take-lines [] r (suc k) f a = record { found = r; reads = rw (lines-torn [] tt); good = a; among = List·Memᴰ·head refl }
+take-lines [] r (suc k) f a = record {
+  found = r;
+  reads = rw (lines-torn [] tt);
+  good = a;
+  among =
+      List·Memᴰ·head refl;
+}
 take-lines (t ∷ ts) r k f a = at (leb k (length t)) refl (λ j. take-lines ts (takeIn r (readLine t)) j (f .1) (a .1))
   where
-    at : (c : Bool) → leb k (length t) ≡ c → ((j : ℕ) → Prefixed (takeIn r (readLine t)) ts (take j (joined ts))) → Prefixed r (t ∷ ts) (take k (line t ++ joined ts))
+    at : (c : Bool) → leb k (length t) ≡ c → ((j : ℕ) → Prefixed (takeIn r (readLine t)) ts (take j (joined ts)))
+        → Prefixed r (t ∷ ts) (take k (line t ++ joined ts))
     at true e ih = rw (take-torn t (joined ts) k (leb-true k (length t) e))
-        record { found = r; reads = rw (lines-torn (take k t) (Free-take k t (f .0))); good = a .0; among = List·Memᴰ·head refl }
+        record {
+          found = r;
+          reads = rw (lines-torn (take k t) (Free-take k t (f .0)));
+          good = a .0;
+          among =
+              List·Memᴰ·head refl;
+        }
     at false e ih = let p = ih (k - (length t + 1)) in rw (take-whole t (joined ts) k (leb-false k (length t) e))
-        record { found = p .found; reads = rw (lines-line t (take (k - (length t + 1)) (joined ts)) (f .0)) (p .reads); good = p .good; among = List·Memᴰ·tail (p .among) }
+        record {
+          found = p .found;
+          reads = rw (lines-line t (take (k - (length t + 1)) (joined ts)) (f .0)) (p .reads);
+          good = p .good;
+          among = List·Memᴰ·tail (p .among);
+        }
 
 pub Rising-low : (ms : List Message) (low low' high : ℕ) → low' ≤ low → Rising low ms high → Rising low' ms high
 Rising-low [] low low' high h r = omega arith
@@ -124,27 +154,55 @@ pub Rising-le : (ms : List Message) (low high : ℕ) → Rising low ms high → 
 Rising-le [] low high r = r
 Rising-le (m ∷ ms) low high r = omega (arith, Rising-le ms (suc (m .id)) high (r .1))
 
-pub Rising-insert : (m : Message) (ms : List Message) (low high : ℕ) → low ≤ m .id → Rising low ms high → Rising low (insert m ms) (max high (suc (m .id)))
+pub Rising-insert : (m : Message) (ms : List Message) (low high : ℕ) → low ≤ m .id → Rising low ms high
+    → Rising low (insert m ms) (max high (suc (m .id)))
 unfolding insert
 Rising-insert m [] low high h r = (h, omega arith)
 Rising-insert m (x ∷ xs) low high h r = at-less (ltb (m .id) (x .id)) refl (Rising-insert m xs (suc (x .id)) high)
   where
-    at-same : (t : Bool) → eqb (m .id) (x .id) ≡ t → ltb (m .id) (x .id) ≡ false → (suc (x .id) ≤ m .id → Rising (suc (x .id)) xs high → Rising (suc (x .id)) (insert m xs) (max high (suc (m .id)))) → Rising low (insert m (x ∷ xs)) (max high (suc (m .id)))
-    at-same true e p ih = rw (p, insert) (rw e (h, Rising-high xs (suc (m .id)) high (max high (suc (m .id))) (omega arith) (rw (eqb-true (m .id) (x .id) e) (r .1))))
-    at-same false e p ih = rw (p, insert) (rw e (r .0, ih (omega (arith, ltb-false (m .id) (x .id) p, eqb-false (m .id) (x .id) e)) (r .1)))
+    at-same : (t : Bool) → eqb (m .id) (x .id) ≡ t → ltb (m .id) (x .id) ≡ false
+        → (suc (x .id) ≤ m .id → Rising (suc (x .id)) xs high → Rising (suc (x .id)) (insert m xs)
+        (max high (suc (m .id)))) → Rising low (insert m (x ∷ xs)) (max high (suc (m .id)))
+    at-same true e p ih = rw (p, insert) (rw e (
+      h,
+      Rising-high xs (suc (m .id)) high (max high (suc (m .id)))
+          (omega arith) (rw (eqb-true (m .id) (x .id) e) (r .1)),
+    ))
+    at-same false e p ih =
+        rw (p, insert) (rw e (
+          r .0,
+          ih (omega (arith, ltb-false (m .id) (x .id) p, eqb-false (m .id) (x .id) e))
+              (r .1),
+        ))
 
-    at-less : (t : Bool) → ltb (m .id) (x .id) ≡ t → (suc (x .id) ≤ m .id → Rising (suc (x .id)) xs high → Rising (suc (x .id)) (insert m xs) (max high (suc (m .id)))) → Rising low (insert m (x ∷ xs)) (max high (suc (m .id)))
-    at-less true e ih = rw (e, insert) (h, (ltb-true (m .id) (x .id) e, Rising-high xs (suc (x .id)) high (max high (suc (m .id))) (omega arith) (r .1)))
+    at-less : (t : Bool) → ltb (m .id) (x .id) ≡ t → (suc (x .id) ≤ m .id → Rising (suc (x .id)) xs high
+        → Rising (suc (x .id)) (insert m xs) (max high (suc (m .id)))) → Rising low (insert m (x ∷ xs))
+        (max high (suc (m .id)))
+    at-less true e ih = rw (e, insert) (
+      h,
+      (
+        ltb-true (m .id) (x .id) e,
+        Rising-high xs (suc (x .id)) high
+            (max high (suc (m .id))) (omega arith) (r .1),
+      ),
+    )
     at-less false e ih = at-same (eqb (m .id) (x .id)) refl e ih
 
-pub insert-last : (m : Message) (ms : List Message) (low high : ℕ) → high ≤ m .id → Rising low ms high → insert m ms ≡ ms ++ (m ∷ [])
+pub insert-last : (m : Message) (ms : List Message) (low high : ℕ) → high ≤ m .id → Rising low ms high → insert m ms
+    ≡ ms ++ (m ∷ [])
 unfolding insert
 insert-last m [] low high h r = refl
 insert-last m (x ∷ xs) low high h r =
     let b : suc (x .id) ≤ high = Rising-le xs (suc (x .id)) high (r .1) in
-    cc (le-ltb (m .id) (x .id) (omega arith), ne-eqb (m .id) (x .id) (omega arith), insert-last m xs (suc (x .id)) high h (r .1))
+    cc (
+      le-ltb (m .id) (x .id) (omega arith),
+      ne-eqb (m .id) (x .id) (omega arith),
+      insert-last m xs (suc (x .id)) high
+          h (r .1),
+    )
 
-pub Rising-snoc : (m : Message) (ms : List Message) (low high : ℕ) → high ≤ m .id → Rising low ms high → Rising low (ms ++ (m ∷ [])) (suc (m .id))
+pub Rising-snoc : (m : Message) (ms : List Message) (low high : ℕ) → high ≤ m .id → Rising low ms high
+    → Rising low (ms ++ (m ∷ [])) (suc (m .id))
 Rising-snoc m [] low high h r = (omega arith, omega arith)
 Rising-snoc m (x ∷ xs) low high h r = (r .0, Rising-snoc m xs (suc (x .id)) high h (r .1))
 
@@ -194,7 +252,8 @@ pub judge-opened : (q r : Read) → judge q ≡ opened r → Good q r
 unfolding judge
 judge-opened q r e = at-next (ltb (q .next) (2 ^ 64)) refl
   where
-    at-small : (t : Bool) → (leb (length (q .left)) 256 && allFit (q .left)) ≡ t → ltb (q .next) (2 ^ 64) ≡ true → Good q r
+    at-small : (t : Bool) → (leb (length (q .left)) 256 && allFit (q .left)) ≡ t → ltb (q .next) (2 ^ 64) ≡ true
+        → Good q r
     at-small true s p = record { same = cc; next = ltb-true (q .next) (2 ^ 64) p; small = s }
     at-small false s p = let z : _≡_ {A = ℕ} 0 1 = cc in absurd (omega arith)
 
@@ -207,7 +266,8 @@ unfolding remove
 length-remove i [] = omega arith
 length-remove i (x ∷ xs) = at (eqb (x .id) i) refl (length-remove i xs)
   where
-    at : (t : Bool) → eqb (x .id) i ≡ t → length (remove i xs) ≤ length xs → length (remove i (x ∷ xs)) ≤ suc (length xs)
+    at : (t : Bool) → eqb (x .id) i ≡ t → length (remove i xs) ≤ length xs → length (remove i (x ∷ xs)) ≤ suc
+        (length xs)
     at true e ih = rw (e, remove) (omega arith)
     at false e ih = rw (e, remove) (omega arith)
 
@@ -223,16 +283,26 @@ allFit-remove i (x ∷ xs) f = at (eqb (x .id) i) refl (allFit-remove i xs (and-
 allFit-snoc : (m : Message) (ms : List Message) → allFit ms ≡ true → fits m ≡ true → allFit (ms ++ (m ∷ [])) ≡ true
 unfolding allFit
 allFit-snoc m [] f g = cc
-allFit-snoc m (x ∷ xs) f g = cc (and-left (fits x) (allFit xs) f, allFit-snoc m xs (and-right (fits x) (allFit xs) f) g)
+allFit-snoc m (x ∷ xs) f g = cc (
+  and-left (fits x) (allFit xs) f,
+  allFit-snoc m xs (and-right (fits x) (allFit xs) f)
+      g,
+)
 
 pub Small-remove : (i : ℕ) (ms : List Message) → Small ms → Small (remove i ms)
 Small-remove i ms s =
     cc (
       allFit-remove i ms (and-right (leb (length ms) 256) (allFit ms) s),
-      le-leb (length (remove i ms)) 256 (omega (arith, length-remove i ms, leb-true (length ms) 256 (and-left (leb (length ms) 256) (allFit ms) s))),
+      le-leb (length (remove i ms)) 256 (omega (
+        arith,
+        length-remove i ms,
+        leb-true (length ms) 256
+            (and-left (leb (length ms) 256) (allFit ms) s),
+      )),
     )
 
-pub Small-snoc : (m : Message) (ms : List Message) → Small ms → length ms < 256 → fits m ≡ true → Small (ms ++ (m ∷ []))
+pub Small-snoc : (m : Message) (ms : List Message) → Small ms → length ms < 256 → fits m ≡ true
+    → Small (ms ++ (m ∷ []))
 Small-snoc m ms s h g =
     cc (
       allFit-snoc m ms (and-right (leb (length ms) 256) (allFit ms) s) g,
@@ -259,22 +329,30 @@ unfolding texts
 texts-free [] = tt
 texts-free (m ∷ ms) = (recordText-free m, texts-free ms)
 
-pub readLines-record : (m : Message) (r : Read) (us : List (List ℕ)) → m .id < 2 ^ 64 → readLines r (recordText m ∷ us) ≡ readLines (takeIn r (put m)) us
+pub readLines-record : (m : Message) (r : Read) (us : List (List ℕ)) → m .id < 2 ^ 64 → readLines r (recordText m ∷ us)
+    ≡ readLines (takeIn r (put m)) us
 unfolding readLines
 readLines-record m r us h = ap (λ l. readLines (takeIn r l) us) (readLine-record m h)
 
-pub read-texts-left : (ms : List Message) (r : Read) (low high : ℕ) → high ≤ 2 ^ 64 → Rising 0 (r .left) low → Rising low ms high → (readLines r (texts ms)) .left ≡ r .left ++ ms
+pub read-texts-left : (ms : List Message) (r : Read) (low high : ℕ) → high ≤ 2 ^ 64 → Rising 0 (r .left) low
+    → Rising low ms high → (readLines r (texts ms)) .left ≡ r .left ++ ms
 unfolding readLines texts takeIn
 read-texts-left [] r low high h a b = sym (append-nil (r .left))
 read-texts-left (m ∷ ms) r low high h a b =
     let fit : m .id < 2 ^ 64 = omega (arith, Rising-le ms (suc (m .id)) high (b .1)) in
     let p : insert m (r .left) ≡ r .left ++ (m ∷ []) = insert-last m (r .left) 0 low (b .0) a in
     let q : Rising 0 (insert m (r .left)) (suc (m .id)) = rw p (Rising-snoc m (r .left) 0 low (b .0) a) in
-    ap (λ s. s .left) (readLines-record m r (texts ms) fit) ∙ (read-texts-left ms (takeIn r (put m)) (suc (m .id)) high h q (b .1) ∙ rw (p, append-assoc))
+    ap (λ s. s .left) (readLines-record m r (texts ms) fit) ∙ (read-texts-left ms (takeIn r (put m)) (suc (m .id)) high
+    h q (b .1) ∙ rw (p, append-assoc))
 
-pub read-texts-next : (ms : List Message) (r : Read) (low high : ℕ) → high ≤ 2 ^ 64 → r .next ≤ high → Rising low ms high → (readLines r (texts ms)) .next ≤ high
+pub read-texts-next : (ms : List Message) (r : Read) (low high : ℕ) → high ≤ 2 ^ 64 → r .next ≤ high
+    → Rising low ms high → (readLines r (texts ms)) .next ≤ high
 unfolding readLines texts takeIn
 read-texts-next [] r low high h n b = n
 read-texts-next (m ∷ ms) r low high h n b =
     let top : suc (m .id) ≤ high = Rising-le ms (suc (m .id)) high (b .1) in
-    omega (arith, ap (λ s. s .next) (readLines-record m r (texts ms) (omega arith)), read-texts-next ms (takeIn r (put m)) (suc (m .id)) high h (omega arith) (b .1))
+    omega (
+      arith,
+      ap (λ s. s .next) (readLines-record m r (texts ms) (omega arith)),
+      read-texts-next ms (takeIn r (put m)) (suc (m .id)) high h (omega arith) (b .1),
+    )

@@ -1,6 +1,8 @@
--- Recovery: whatever file a cut leaves, opening accepts it and finds a moment no earlier than the last confirmed flush or replace.
+-- Recovery: whatever file a cut leaves, opening accepts it and finds a moment no earlier than the last confirmed flush
+-- or replace.
 use mathlib.Core.Path.{_≡_, refl, sym, ap, _∙_, subst}
 use mathlib.Core.Logic.{_⊎_, inl, inr}
+use mathlib.Core.Option.{Option, none, some}
 use mathlib.Core.List.{List, [], _∷_, _++_, append-assoc, append-nil, List·Memᴰ, Memᴰ·append-left, Memᴰ·append-right}
 use Prim.Native.Nat.{ℕ, _+_, _-_, _^_, _≤_, _<_}
 use native.Mathlib.Omega.{arith}
@@ -9,14 +11,17 @@ use lib.Seq.{drop-append-le, drop-at}
 use Rattle.text.specs.Format.{LF, Message, line, lines}
 use Rattle.text.specs.Line.{readLine}
 use Rattle.text.specs.Bytes.{Free}
-use Rattle.log.specs.declared.Answer.{Answer}
-use Rattle.log.specs.declared.Answer.the-variants.{Ordered, Nothing, Refused}
+use Rattle.log.specs.declared.Order.{Order}
 use Rattle.log.specs.Stands.{Small, Stands, Standing}
 use Rattle.log.specs.Opening.{Rising, Read, takeIn, readLines, nothingRead, readFile, opened, opening, image}
 use Rattle.log.specs.Log.{Wal}
-use Rattle.log.specs.Recovery.{Call, didCall, Sent, appending, replacing, flushing, sent, settled, waits, lost, Disk, Cut, confirm, firmMoment, World, effect, issue, issued, called, storedOrder, failedOrder, Event, call, stored, failed, step, run, Possible}
+use Rattle.log.specs.Recovery.{Call, didCall, Sent, appending, replacing, flushing, sent, settled, waits, lost}
+use Rattle.log.specs.Recovery.{Disk, Cut, confirm, firmMoment, World, effect, issue, issued, called, storedOrder}
+use Rattle.log.specs.Recovery.{failedOrder, Event, call, stored, failed, step, run, Possible}
 use Rattle.log.proofs.Steps.{live-small}
-use Rattle.log.proofs.OpeningLaws.{joined, FreeAll, read-joined, joined-snoc, FreeAll-snoc, readLines-append, lefts, lefts-snoc, Accepted, Accepted-snoc, take-lines, judge-good, texts, image-joined, texts-free, read-texts-left, read-texts-next}
+use Rattle.log.proofs.OpeningLaws.{joined, FreeAll, read-joined, joined-snoc, FreeAll-snoc, readLines-append}
+use Rattle.log.proofs.OpeningLaws.{lefts, lefts-snoc, Accepted, Accepted-snoc, take-lines, judge-good, texts}
+use Rattle.log.proofs.OpeningLaws.{image-joined, texts-free, read-texts-left, read-texts-next}
 use Rattle.log.proofs.CallLaws.{held, Takes, Kind, appends, replaces, flushes, ActsBy, acts}
 
 -- what is held can be written and read again
@@ -38,7 +43,8 @@ pub record ReadBack (long : ℕ) (file : List ℕ) (moments : List (List Message
 abbrev pub ReadsBack : ℕ → World → Type 0
 ReadsBack long w = (file : List ℕ) → Possible (w .disk) file → ReadBack long file (drop (w .firm) (w .moments))
 
--- what is on the disk, `size` bytes in all, is read as the messages of the moments since the last confirmed flush or replace; the last of them is h
+-- what is on the disk, `size` bytes in all, is read as the messages of the moments since the last confirmed flush or
+-- replace; the last of them is h
 pub record Stored (disk : Disk) (moments : List (List Message)) (h : Read) (size : ℕ) : Type 0 where
   pub settles : disk .status ≡ settled
   pub base : Read
@@ -54,22 +60,32 @@ pub record Stored (disk : Disk) (moments : List (List Message)) (h : Read) (size
 
 module _ (long : ℕ) where
   -- a cut file of such a disk
-  pub stored-cut : (disk : Disk) (moments : List (List Message)) (h : Read) (size : ℕ) → size ≤ long → Stored disk moments h size → (file : List ℕ) → Cut (disk .sure) (disk .since) file → ReadBack long file moments
+  pub stored-cut : (disk : Disk) (moments : List (List Message)) (h : Read) (size : ℕ) → size ≤ long
+      → Stored disk moments h size → (file : List ℕ) → Cut (disk .sure) (disk .since) file → ReadBack long file moments
   unfolding opening
   stored-cut disk moments h size fits st file c =
       let p = take-lines (st .ts) (st .base) (c .0) (st .free) (st .accepted) in
       let e : readFile file ≡ p .found = cc (c .1, st .sure (take (c .0) (disk .since)), st .since, p .reads) in
-      let n : length file ≡ length (disk .sure) + length (take (c .0) (disk .since)) = ap length (c .1) ∙ length-append (disk .sure) (take (c .0) (disk .since)) in
-      record { short = omega (arith, length-take (c .0) (disk .since), st .whole); found = p .found; accepted = cc (p .good); among = rw (st .trail) (p .among) }
+      let n : length file ≡ length (disk .sure) + length (take (c .0) (disk .since)) = ap length (c .1)
+      ∙ length-append (disk .sure) (take (c .0) (disk .since)) in
+      record {
+        short = omega (arith, length-take (c .0) (disk .since), st .whole);
+        found = p .found;
+        accepted =
+            cc (p .good);
+        among = rw (st .trail) (p .among);
+      }
 
   -- the three kinds of order, confirmed
-  stored-append : (disk : Disk) (moments : List (List Message)) (h h' : Read) (size : ℕ) (t : List ℕ) → Stored disk moments h size → Fit h' → Free LF t → Takes h h' t
+  stored-append : (disk : Disk) (moments : List (List Message)) (h h' : Read) (size : ℕ) (t : List ℕ)
+      → Stored disk moments h size → Fit h' → Free LF t → Takes h h' t
       → Stored (confirm (appending (line t)) disk) (moments ++ (h' .left ∷ [])) h' (size + length (line t))
   unfolding confirm readLines
   stored-append disk moments h h' size t st fit f takes =
       let r : Read = readLines (st .base) (st .ts) in
       let p = takes r (st .left) (st .next) in
-      let e : readLines (st .base) (st .ts ++ (t ∷ [])) ≡ takeIn r (readLine t) = readLines-append (st .base) (st .ts) (t ∷ []) in
+      let e : readLines (st .base) (st .ts ++ (t ∷ [])) ≡ takeIn r (readLine t) = readLines-append (st .base) (st .ts)
+      (t ∷ []) in
       let s : Small ((takeIn r (readLine t)) .left) = rw (p .0) (fit .small) in
       record {
         settles = refl;
@@ -78,19 +94,23 @@ module _ (long : ℕ) where
         free = FreeAll-snoc (st .ts) t (st .free) f;
         sure = st .sure;
         since = cc (st .since, joined-snoc (st .ts) t);
-        accepted = Accepted-snoc (st .base) (st .ts) t (st .accepted) (judge-good (takeIn r (readLine t)) (omega (arith, p .1, fit .top)) s);
+        accepted = Accepted-snoc (st .base) (st .ts) t (st .accepted) (judge-good (takeIn r (readLine t))
+            (omega (arith, p .1, fit .top)) s);
         trail = cc (st .trail, lefts-snoc (st .base) (st .ts) t, p .0);
         left = ap (λ q. q .left) e ∙ p .0;
         next = rw e (p .1);
         whole = rw length-append (omega (arith, st .whole));
       }
 
-  pub stored-replace : (disk : Disk) (h : Read) → Fit h → Stored (confirm (replacing (image (h .left))) disk) (h .left ∷ []) h (length (image (h .left)))
+  pub stored-replace : (disk : Disk) (h : Read) → Fit h → Stored (confirm (replacing (image (h .left))) disk)
+      (h .left ∷ []) h (length (image (h .left)))
   unfolding confirm readLines joined lefts readFile
   stored-replace disk h fit =
       let base : Read = readLines nothingRead (texts (h .left)) in
-      let left : base .left ≡ h .left = read-texts-left (h .left) nothingRead 0 (h .next) (omega (arith, fit .top)) (omega arith) (fit .rising) in
-      let next : base .next ≤ h .next = read-texts-next (h .left) nothingRead 0 (h .next) (omega (arith, fit .top)) (omega arith) (fit .rising) in
+      let left : base .left ≡ h .left = read-texts-left (h .left) nothingRead 0 (h .next) (omega (arith, fit .top))
+      (omega arith) (fit .rising) in
+      let next : base .next ≤ h .next = read-texts-next (h .left) nothingRead 0 (h .next) (omega (arith, fit .top))
+      (omega arith) (fit .rising) in
       record {
         settles = refl;
         base = base;
@@ -105,7 +125,8 @@ module _ (long : ℕ) where
         whole = omega arith;
       }
 
-  stored-flush : (disk : Disk) (moments : List (List Message)) (h h' : Read) (size : ℕ) → Stored disk moments h size → Fit h' → h' .left ≡ h .left → h' .next ≡ h .next
+  stored-flush : (disk : Disk) (moments : List (List Message)) (h h' : Read) (size : ℕ) → Stored disk moments h size
+      → Fit h' → h' .left ≡ h .left → h' .next ≡ h .next
       → Stored (confirm flushing disk) (h' .left ∷ []) h' size
   unfolding confirm readLines joined lefts
   stored-flush disk moments h h' size st fit same next =
@@ -116,7 +137,12 @@ module _ (long : ℕ) where
         base = r;
         ts = [];
         free = tt;
-        sure = λ x. cc (append-assoc (disk .sure) (disk .since) x, st .sure (disk .since ++ x), st .since, read-joined (st .base) (st .ts) x (st .free));
+        sure = λ x. cc (
+          append-assoc (disk .sure) (disk .since) x,
+          st .sure (disk .since ++ x),
+          st .since,
+          read-joined (st .base) (st .ts) x (st .free),
+        );
         since = refl;
         accepted = judge-good r (omega (arith, st .next, fit .top)) (rw left (fit .small));
         trail = cc;
@@ -126,21 +152,41 @@ module _ (long : ℕ) where
       }
 
   -- a file that a cut may leave while such an order is not confirmed
-  earlier : (file : List ℕ) (moments : List (List Message)) (now : List Message) → ReadBack long file moments → ReadBack long file (moments ++ (now ∷ []))
-  earlier file moments now r = record { short = r .short; found = r .found; accepted = r .accepted; among = Memᴰ·append-left (now ∷ []) (r .among) }
+  earlier : (file : List ℕ) (moments : List (List Message)) (now : List Message) → ReadBack long file moments
+      → ReadBack long file (moments ++ (now ∷ []))
+  earlier file moments now r = record {
+    short = r .short;
+    found = r .found;
+    accepted = r .accepted;
+    among =
+        Memᴰ·append-left (now ∷ []) (r .among);
+  }
 
-  later : (file : List ℕ) (moments : List (List Message)) (now : List Message) → ReadBack long file (now ∷ []) → ReadBack long file (moments ++ (now ∷ []))
-  later file moments now r = record { short = r .short; found = r .found; accepted = r .accepted; among = Memᴰ·append-right moments (r .among) }
+  later : (file : List ℕ) (moments : List (List Message)) (now : List Message) → ReadBack long file (now ∷ [])
+      → ReadBack long file (moments ++ (now ∷ []))
+  later file moments now r = record {
+    short = r .short;
+    found = r .found;
+    accepted = r .accepted;
+    among =
+        Memᴰ·append-right moments (r .among);
+  }
 
-  pub whole-image : (disk : Disk) (h : Read) → Fit h → length (image (h .left)) ≤ long → (file : List ℕ) → file ≡ image (h .left) → ReadBack long file (h .left ∷ [])
+  pub whole-image : (disk : Disk) (h : Read) → Fit h → length (image (h .left)) ≤ long → (file : List ℕ) → file
+      ≡ image (h .left) → ReadBack long file (h .left ∷ [])
   unfolding confirm
   whole-image disk h fit short file e =
-      stored-cut (confirm (replacing (image (h .left))) disk) (h .left ∷ []) h (length (image (h .left))) short (stored-replace disk h fit) file (0, e ∙ sym (append-nil (image (h .left))))
+      stored-cut (confirm (replacing (image (h .left))) disk) (h .left ∷ []) h (length (image (h .left))) short
+      (stored-replace disk h fit) file (0, e ∙ sym (append-nil (image (h .left))))
 
-  unsure-replace : (disk : Disk) (moments : List (List Message)) (h h' : Read) (size : ℕ) → size ≤ long → Stored disk moments h size → Fit h' → length (image (h' .left)) ≤ long
-      → (file : List ℕ) → Cut (disk .sure) (disk .since) file ⊎ (file ≡ image (h' .left)) → ReadBack long file (moments ++ (h' .left ∷ []))
-  unsure-replace disk moments h h' size fits st fit short file (inl c) = earlier file moments (h' .left) (stored-cut disk moments h size fits st file c)
-  unsure-replace disk moments h h' size fits st fit short file (inr e) = later file moments (h' .left) (whole-image disk h' fit short file e)
+  unsure-replace : (disk : Disk) (moments : List (List Message)) (h h' : Read) (size : ℕ) → size ≤ long
+      → Stored disk moments h size → Fit h' → length (image (h' .left)) ≤ long
+      → (file : List ℕ) → Cut (disk .sure) (disk .since) file ⊎ (file ≡ image (h' .left))
+      → ReadBack long file (moments ++ (h' .left ∷ []))
+  unsure-replace disk moments h h' size fits st fit short file (inl c) = earlier file moments (h' .left)
+      (stored-cut disk moments h size fits st file c)
+  unsure-replace disk moments h h' size fits st fit short file (inr e) = later file moments (h' .left)
+      (whole-image disk h' fit short file e)
 
   -- between two events: the log stands for the messages of the last moment, and so does the disk
   pub record Steady (w : World) : Type 0 where
@@ -152,10 +198,13 @@ module _ (long : ℕ) where
   -- no order waits; or one does, and all is well whether it is confirmed or not; or one failed
   pub data Sound (w : World) : Type 0 where
     steady : Steady w → Sound w
-    waiting : (s : Sent) → w .disk .status ≡ waits s → Steady (storedOrder w s) → ReadsBack long (failedOrder w s) → Sound w
-    ended : (s : Sent) → w .disk .status ≡ lost s → Stands (w .wal) (w .now) → length (w .wal .bytes) ≡ long → ReadsBack long w → Sound w
+    waiting : (s : Sent) → w .disk .status ≡ waits s → Steady (storedOrder w s) → ReadsBack long (failedOrder w s)
+        → Sound w
+    ended : (s : Sent) → w .disk .status ≡ lost s → Stands (w .wal) (w .now) → length (w .wal .bytes) ≡ long
+        → ReadsBack long w → Sound w
 
-  module _ (w : World) (st : Steady w) (after : Wal) (now : List Message) (stands : Stands after now) (same : length (after .bytes) ≡ length (w .wal .bytes)) where
+  module _ (w : World) (st : Steady w) (after : Wal) (now : List Message) (stands : Stands after now)
+      (same : length (after .bytes) ≡ length (w .wal .bytes)) where
     abbrev pub recent : List (List Message)
     recent = drop (w .firm) (w .moments)
 
@@ -183,58 +232,78 @@ module _ (long : ℕ) where
     drop-now : drop (length (w .moments ++ (now ∷ [])) - 1) (w .moments ++ (now ∷ [])) ≡ now ∷ []
     drop-now = drop-at (w .moments) (now ∷ []) (length (w .moments ++ (now ∷ [])) - 1) (sym last-moment)
 
-    issue-append : (t : List ℕ) → Free LF t → Takes before (held after now) t → after .counters .size ≡ w .wal .counters .size + length (line t) → Sound (issue w after now (appending (line t)))
+    issue-append : (t : List ℕ) → Free LF t → Takes before (held after now) t → after .counters .size
+        ≡ w .wal .counters .size + length (line t) → Sound (issue w after now (appending (line t)))
     unfolding issue storedOrder failedOrder firmMoment confirm
     issue-append t f takes n =
-        let more = subst (Stored (confirm (appending (line t)) (w .disk)) (recent ++ (now ∷ [])) (held after now)) (sym n) (stored-append (w .disk) recent before (held after now) (w .wal .counters .size) t (st .onDisk) fit f takes) in
+        let more = subst (Stored (confirm (appending (line t)) (w .disk)) (recent ++ (now ∷ [])) (held after now))
+        (sym n) (stored-append (w .disk) recent before (held after now) (w .wal .counters .size) t (st .onDisk) fit
+        f takes) in
         waiting (appending (line t)) refl
-        (record { stands = stands; bytes = bytes-are; onDisk = rw drop-recent more; firm = omega (arith, length-append (w .moments) (now ∷ []), st .firm) })
-        (λ file p. rw drop-recent (stored-cut (confirm (appending (line t)) (w .disk)) (recent ++ (now ∷ [])) (held after now) (after .counters .size) after-fits more file p))
+        (record {
+          stands = stands;
+          bytes = bytes-are;
+          onDisk = rw drop-recent more;
+          firm =
+              omega (arith, length-append (w .moments) (now ∷ []), st .firm);
+        })
+        (λ file p. rw drop-recent (stored-cut (confirm (appending (line t)) (w .disk)) (recent ++ (now ∷ []))
+        (held after now) (after .counters .size) after-fits more file p))
 
     issue-replace : after .counters .size ≡ length (image now) → Sound (issue w after now (replacing (image now)))
     unfolding issue storedOrder failedOrder firmMoment confirm
     issue-replace n =
-        let new = subst (Stored (confirm (replacing (image now)) (w .disk)) (now ∷ []) (held after now)) (sym n) (stored-replace (w .disk) (held after now) fit) in
+        let new = subst (Stored (confirm (replacing (image now)) (w .disk)) (now ∷ []) (held after now)) (sym n)
+        (stored-replace (w .disk) (held after now) fit) in
         waiting (replacing (image now)) refl
         (record { stands = stands; bytes = bytes-are; onDisk = rw drop-now new; firm = omega arith })
-        (λ file p. rw drop-recent (unsure-replace (w .disk) recent before (held after now) (w .wal .counters .size) size-fits (st .onDisk) fit (omega (arith, n, after-fits)) file p))
+        (λ file p. rw drop-recent (unsure-replace (w .disk) recent before (held after now) (w .wal .counters .size)
+        size-fits (st .onDisk) fit (omega (arith, n, after-fits)) file p))
 
-    issue-flush : now ≡ w .now → after .counters .next ≡ w .wal .counters .next → after .counters .size ≡ w .wal .counters .size → Sound (issue w after now flushing)
+    issue-flush : now ≡ w .now → after .counters .next ≡ w .wal .counters .next → after .counters .size
+        ≡ w .wal .counters .size → Sound (issue w after now flushing)
     unfolding issue storedOrder failedOrder firmMoment confirm
     issue-flush m k n =
-        let new = subst (Stored (confirm flushing (w .disk)) (now ∷ []) (held after now)) (sym n) (stored-flush (w .disk) recent before (held after now) (w .wal .counters .size) (st .onDisk) fit m k) in
+        let new = subst (Stored (confirm flushing (w .disk)) (now ∷ []) (held after now)) (sym n)
+        (stored-flush (w .disk) recent before (held after now) (w .wal .counters .size) (st .onDisk) fit m k) in
         waiting flushing refl
         (record { stands = stands; bytes = bytes-are; onDisk = rw drop-now new; firm = omega arith })
-        (λ file p. rw drop-recent (earlier file recent now (stored-cut (w .disk) recent before (w .wal .counters .size) size-fits (st .onDisk) file p)))
+        (λ file p. rw drop-recent (earlier file recent now (stored-cut (w .disk) recent before (w .wal .counters .size)
+        size-fits (st .onDisk) file p)))
 
-    pub issue-sound : (s : Sent) → Kind before (held after now) (w .wal .counters .size) (after .counters .size) s → Sound (issue w after now s)
+    pub issue-sound : (s : Sent) → Kind before (held after now) (w .wal .counters .size) (after .counters .size) s
+        → Sound (issue w after now s)
     issue-sound s (appends t e f takes n) = rw e (issue-append t f takes n)
     issue-sound s (replaces e n) = rw e (issue-replace n)
     issue-sound s (flushes e m k n) = rw e (issue-flush m k n)
 
   -- one event, and then a list of them
-  unmoved : (w : World) (wal : Wal) → Steady w → wal ≡ w .wal → Sound (record { wal = wal; disk = w .disk; moments = w .moments; now = w .now; firm = w .firm })
+  unmoved : (w : World) (wal : Wal) → Steady w → wal ≡ w .wal
+      → Sound (record { wal = wal; disk = w .disk; moments = w .moments; now = w .now; firm = w .firm })
   unmoved w wal st e = steady (record {
     stands = subst (λ v. Stands v (w .now)) (sym e) (st .stands);
     bytes = ap (λ v. length (v .bytes)) e ∙ st .bytes;
-    onDisk = subst (λ v. Stored (w .disk) (drop (w .firm) (w .moments)) (held v (w .now)) (v .counters .size)) (sym e) (st .onDisk);
+    onDisk = subst (λ v. Stored (w .disk) (drop (w .firm) (w .moments)) (held v (w .now)) (v .counters .size)) (sym e)
+        (st .onDisk);
     firm = st .firm;
   })
 
-  pub issued-sound : (w : World) (c : Call) → Steady w → (wal : Wal) (a : Answer) → ActsBy (w .wal) (w .now) c wal a → Sound (issued w c wal a)
-  issued-sound w c st wal (Ordered o) x = issue-sound w st wal (effect (w .wal) c (w .now)) (x .stands) (x .long) (sent (wal .bytes) o) (x .kind)
-  issued-sound w c st wal Nothing x = unmoved w wal st x
-  issued-sound w c st wal (Refused r) x = unmoved w wal st x
+  pub issued-sound : (w : World) (c : Call) → Steady w → (wal : Wal) (a : Option Order)
+      → ActsBy (w .wal) (w .now) c wal a → Sound (issued w c wal a)
+  issued-sound w c st wal (some o) x = issue-sound w st wal (effect (w .wal) c (w .now)) (x .stands) (x .long)
+      (sent (wal .bytes) o) (x .kind)
+  issued-sound w c st wal none x = unmoved w wal st x
 
   step-settled : (compactAt : ℕ) (w : World) (e : Event) → Steady w → Sound (step compactAt settled w e)
   unfolding step called
   step-settled compactAt w (call c) st =
       let did = didCall compactAt (w .wal) c in
-      issued-sound w c st (did .wal) (did .answer) (acts compactAt (w .wal) (w .now) c (st .stands))
+      issued-sound w c st (did .wal) (did .order) (acts compactAt (w .wal) (w .now) c (st .stands))
   step-settled compactAt w stored st = steady st
   step-settled compactAt w failed st = steady st
 
-  step-waits : (compactAt : ℕ) (w : World) (s : Sent) (e : Event) → w .disk .status ≡ waits s → Steady (storedOrder w s) → ReadsBack long (failedOrder w s) → Sound (step compactAt (waits s) w e)
+  step-waits : (compactAt : ℕ) (w : World) (s : Sent) (e : Event) → w .disk .status ≡ waits s
+      → Steady (storedOrder w s) → ReadsBack long (failedOrder w s) → Sound (step compactAt (waits s) w e)
   unfolding step failedOrder storedOrder
   step-waits compactAt w s (call c) q y n = waiting s q y n
   step-waits compactAt w s stored q y n = steady y
@@ -243,24 +312,38 @@ module _ (long : ℕ) where
   -- `rw` would rewrite the world itself, a record of its fields: so the family is written
   pub step-sound : (compactAt : ℕ) (w : World) (e : Event) → Sound w → Sound (step compactAt (w .disk .status) w e)
   unfolding step
-  step-sound compactAt w e (steady st) = subst (λ q. Sound (step compactAt q w e)) (sym (st .onDisk .settles)) (step-settled compactAt w e st)
-  step-sound compactAt w e (waiting s q y n) = subst (λ q. Sound (step compactAt q w e)) (sym q) (step-waits compactAt w s e q y n)
+  step-sound compactAt w e (steady st) = subst (λ q. Sound (step compactAt q w e)) (sym (st .onDisk .settles))
+      (step-settled compactAt w e st)
+  step-sound compactAt w e (waiting s q y n) = subst (λ q. Sound (step compactAt q w e)) (sym q)
+      (step-waits compactAt w s e q y n)
   step-sound compactAt w e (ended s q g b n) = subst (λ q. Sound (step compactAt q w e)) (sym q) (ended s q g b n)
 
   pub run-sound : (compactAt : ℕ) (es : List Event) (w : World) → Sound w → Sound (run compactAt w es)
   unfolding run
   run-sound compactAt [] w s = s
-  run-sound compactAt (e ∷ es) w s = run-sound compactAt es (step compactAt (w .disk .status) w e) (step-sound compactAt w e s)
+  run-sound compactAt (e ∷ es) w s = run-sound compactAt es (step compactAt (w .disk .status) w e)
+      (step-sound compactAt w e s)
 
   pub sound-reads : (w : World) → Sound w → ReadsBack long w
   unfolding failedOrder
   sound-reads w (steady st) file p =
-      stored-cut (w .disk) (drop (w .firm) (w .moments)) (held (w .wal) (w .now)) (w .wal .counters .size) (omega (arith, st .stands .room, st .bytes)) (st .onDisk) file (rw (st .onDisk .settles) at p)
+      stored-cut (w .disk) (drop (w .firm) (w .moments)) (held (w .wal) (w .now)) (w .wal .counters .size)
+      (omega (arith, st .stands .room, st .bytes)) (st .onDisk) file (rw (st .onDisk .settles) at p)
   sound-reads w (waiting s e y n) file p = n file (rw e at p)
   sound-reads w (ended s e g b n) file p = n file p
 
   pub sound-stands : (w : World) → Sound w → Standing long w
   unfolding storedOrder
-  sound-stands w (steady st) = record { stands = st .stands; bytes = st .bytes; live = live-small (w .wal) (w .now) (st .stands) }
-  sound-stands w (waiting s e y n) = record { stands = y .stands; bytes = y .bytes; live = live-small (w .wal) (w .now) (y .stands) }
+  sound-stands w (steady st) = record {
+    stands = st .stands;
+    bytes = st .bytes;
+    live = live-small (w .wal) (w .now)
+        (st .stands);
+  }
+  sound-stands w (waiting s e y n) = record {
+    stands = y .stands;
+    bytes = y .bytes;
+    live = live-small (w .wal) (w .now)
+        (y .stands);
+  }
   sound-stands w (ended s e g b n) = record { stands = g; bytes = b; live = live-small (w .wal) (w .now) g }

@@ -9,7 +9,9 @@ use native.Mathlib.Omega.{arith}
 use borrow.Author.Tests.{ltb-true, ltb-false}
 use lib.Dec.{eqb, leb, ltb}
 use lib.ListN.{length, length-append}
-use Rattle.text.specs.Format.{TAB, LF, PLUS, DIGIT0, BACKSLASH, escapeByte, escape, escaped, unescape, unescape-next, digits, printId, decimal, below64, readDigits, readId, Message, recordText, recordLine, line, joinHead, split, allButLast, lines, fields}
+use Rattle.text.specs.Format.{TAB, LF, PLUS, DIGIT0, BACKSLASH, escapeByte, escape, escaped, unescape, unescape-next}
+use Rattle.text.specs.Format.{digits, printId, decimal, below64, readDigits, readId, Message, recordText, recordLine}
+use Rattle.text.specs.Format.{line, joinHead, split, allButLast, lines, fields}
 use Rattle.text.specs.Bytes.{Free}
 use Rattle.text.specs.Line.{Line, put, done, other, putOf, doneOf, readFields, readLine}
 use Rattle.text.proofs.FormatLaws.{split-some}
@@ -40,22 +42,33 @@ length-escape : (b : ℕ) (bs : List ℕ) → length (escape (b ∷ bs)) ≡ len
 unfolding escape
 length-escape b bs = length-append (escapeByte b) (escape bs)
 
-escape-cons : (b : ℕ) (bs : List ℕ) → Free TAB (b ∷ bs) → Free LF (b ∷ bs) → length (escape (unescape bs)) ≤ length bs → length (escape (unescape-next bs)) ≤ suc (length bs)
+escape-cons : (b : ℕ) (bs : List ℕ) → Free TAB (b ∷ bs) → Free LF (b ∷ bs) → length (escape (unescape bs)) ≤ length bs
+    → length (escape (unescape-next bs)) ≤ suc (length bs)
     → (t : Bool) → eqb b BACKSLASH ≡ t → length (escape (unescape (b ∷ bs))) ≤ suc (length bs)
 unfolding unescape
 escape-cons b bs f g plain next true e = rw (e, unescape) next
-escape-cons b bs f g plain next false e = rw (e, unescape) (omega (arith, length-escape b (unescape bs), ap length (escapeByte-one b e (f .0) (g .0))))
+escape-cons b bs f g plain next false e = rw (e, unescape) (omega (
+  arith,
+  length-escape b (unescape bs),
+  ap length (escapeByte-one b e (f .0) (g .0)),
+))
 
 mutual
   unfolding escape unescape
 
   escape-unescape : (x : List ℕ) → Free TAB x → Free LF x → length (escape (unescape x)) ≤ length x
   escape-unescape [] f g = omega arith
-  escape-unescape (b ∷ bs) f g = escape-cons b bs f g (escape-unescape bs (f .1) (g .1)) (escape-unescape-next bs (f .1) (g .1)) (eqb b BACKSLASH) refl
+  escape-unescape (b ∷ bs) f g = escape-cons b bs f g (escape-unescape bs (f .1) (g .1)) (escape-unescape-next bs
+      (f .1) (g .1)) (eqb b BACKSLASH) refl
 
   escape-unescape-next : (x : List ℕ) → Free TAB x → Free LF x → length (escape (unescape-next x)) ≤ suc (length x)
   escape-unescape-next [] f g = omega arith
-  escape-unescape-next (b ∷ bs) f g = omega (arith, length-escape (escaped b) (unescape bs), escapeByte-two (escaped b), escape-unescape bs (f .1) (g .1))
+  escape-unescape-next (b ∷ bs) f g = omega (
+    arith,
+    length-escape (escaped b) (unescape bs),
+    escapeByte-two (escaped b),
+    escape-unescape bs (f .1) (g .1),
+  )
 
 -- decimal numbers
 decimal-below : (bs : List ℕ) (high n : ℕ) → decimal high bs ≡ some n → n < suc high * 10 ^ length bs
@@ -63,14 +76,16 @@ unfolding decimal
 decimal-below [] high n e = let q : high ≡ n = cc in omega arith
 decimal-below (b ∷ bs) high n e = at-low (leb DIGIT0 b) refl (decimal-below bs (high * 10 + (b - DIGIT0)) n)
   where
-    at-high : (t : Bool) → ltb b (DIGIT0 + 10) ≡ t → leb DIGIT0 b ≡ true → (decimal (high * 10 + (b - DIGIT0)) bs ≡ some n → n < suc (high * 10 + (b - DIGIT0)) * 10 ^ length bs) → n < suc high * 10 ^ suc (length bs)
+    at-high : (t : Bool) → ltb b (DIGIT0 + 10) ≡ t → leb DIGIT0 b ≡ true → (decimal (high * 10 + (b - DIGIT0)) bs
+        ≡ some n → n < suc (high * 10 + (b - DIGIT0)) * 10 ^ length bs) → n < suc high * 10 ^ suc (length bs)
     at-high true p q ih =
         let d : suc (high * 10 + (b - DIGIT0)) ≤ suc high * 10 = omega (arith, ltb-true b (DIGIT0 + 10) p) in
         let power : 10 ^ suc (length bs) ≡ 10 * 10 ^ length bs = omega arith in
         rw power (omega (arith, ih (cc), mul-le-mul-right (10 ^ length bs) d))
     at-high false p q ih = let z : _≡_ {A = ℕ} 0 1 = cc in absurd (omega arith)
 
-    at-low : (t : Bool) → leb DIGIT0 b ≡ t → (decimal (high * 10 + (b - DIGIT0)) bs ≡ some n → n < suc (high * 10 + (b - DIGIT0)) * 10 ^ length bs) → n < suc high * 10 ^ suc (length bs)
+    at-low : (t : Bool) → leb DIGIT0 b ≡ t → (decimal (high * 10 + (b - DIGIT0)) bs ≡ some n
+        → n < suc (high * 10 + (b - DIGIT0)) * 10 ^ length bs) → n < suc high * 10 ^ suc (length bs)
     at-low true p ih = at-high (ltb b (DIGIT0 + 10)) refl p ih
     at-low false p ih = let z : _≡_ {A = ℕ} 0 1 = cc in absurd (omega arith)
 
@@ -80,7 +95,8 @@ digits-short zero n k h l = omega arith
 digits-short (suc places) n zero h l = omega arith
 digits-short (suc places) n (suc k) h l = at (ltb n 10) refl k l (digits-short places (n / 10) k)
   where
-    at : (t : Bool) → ltb n 10 ≡ t → (k : ℕ) → n < 10 ^ suc k → (0 < k → n / 10 < 10 ^ k → length (digits places (n / 10)) ≤ k) → length (digits (suc places) n) ≤ suc k
+    at : (t : Bool) → ltb n 10 ≡ t → (k : ℕ) → n < 10 ^ suc k → (0 < k → n / 10 < 10 ^ k
+        → length (digits places (n / 10)) ≤ k) → length (digits (suc places) n) ≤ suc k
     at true e k l ih = rw (e, digits) (omega arith)
     at false e zero l ih = absurd (omega (arith, ltb-false n 10 e))
     at false e (suc k) l ih = rw (e, digits) (simp length-append (omega (arith, ih (omega arith) (omega arith))))
@@ -123,7 +139,8 @@ unfolding weight split
 weight-split sep [] = refl
 weight-split sep (b ∷ t) = at (eqb b sep) refl (weight-split sep t)
   where
-    at : (c : Bool) → eqb b sep ≡ c → weight (split sep t) ≡ suc (length t) → weight (split sep (b ∷ t)) ≡ suc (suc (length t))
+    at : (c : Bool) → eqb b sep ≡ c → weight (split sep t) ≡ suc (length t) → weight (split sep (b ∷ t))
+        ≡ suc (suc (length t))
     at true e ih = rw (e, split) (omega arith)
     at false e ih = rw (e, split) (weight-joinHead b (split sep t) (split-some sep t) ∙ ap suc ih)
 
@@ -142,7 +159,8 @@ abbrev FreePieces : ℕ → List (List ℕ) → Type 0
 FreePieces sep [] = Unit
 FreePieces sep (p ∷ ps) = Free sep p × FreePieces sep ps
 
-joinHead-free : (sep b : ℕ) (ps : List (List ℕ)) → eqb b sep ≡ false → FreePieces sep ps → FreePieces sep (joinHead b ps)
+joinHead-free : (sep b : ℕ) (ps : List (List ℕ)) → eqb b sep ≡ false → FreePieces sep ps
+    → FreePieces sep (joinHead b ps)
 unfolding joinHead
 joinHead-free sep b [] e f = ((e, tt), tt)
 joinHead-free sep b (p ∷ ps) e f = ((e, f .0), f .1)
@@ -165,40 +183,53 @@ split-still-free sep else (b ∷ t) f = at (eqb b sep) refl (split-still-free se
     at true e ih = rw (e, split) (tt, ih)
     at false e ih = rw (e, split) (joinHead-free else b (split sep t) (f .0) ih)
 
-pub length-recordLine : (m : Message) → length (recordLine m) ≡ length (printId (m .id)) + length (escape (m .name)) + length (escape (m .body)) + 3
+pub length-recordLine : (m : Message) → length (recordLine m) ≡ length (printId (m .id)) + length (escape (m .name))
+    + length (escape (m .body)) + 3
 unfolding recordLine line recordText
 length-recordLine m = simp length-append (omega arith)
 
 -- a line's record is no longer than the line
-record-short : (text : List ℕ) (m : Message) → Free LF text → readLine text ≡ put m → length (recordLine m) ≤ suc (length text)
+record-short : (text : List ℕ) (m : Message) → Free LF text → readLine text ≡ put m → length (recordLine m) ≤ suc
+    (length text)
 unfolding readLine fields readFields putOf doneOf weight
-record-short text m f e = at (split TAB text) refl (weight-split TAB text) (split-free TAB text) (split-still-free TAB LF text f)
+record-short text m f e = at (split TAB text) refl (weight-split TAB text) (split-free TAB text)
+    (split-still-free TAB LF text f)
   where
-    at-id : (a b c : List ℕ) (o : Option ℕ) → readId a ≡ o → split TAB text ≡ a ∷ b ∷ c ∷ [] → weight (a ∷ b ∷ c ∷ []) ≡ suc (length text) → FreePieces TAB (a ∷ b ∷ c ∷ []) → FreePieces LF (a ∷ b ∷ c ∷ []) → length (recordLine m) ≤ suc (length text)
+    at-id : (a b c : List ℕ) (o : Option ℕ) → readId a ≡ o → split TAB text ≡ a ∷ b ∷ c ∷ [] → weight (a ∷ b ∷ c ∷ [])
+        ≡ suc (length text) → FreePieces TAB (a ∷ b ∷ c ∷ []) → FreePieces LF (a ∷ b ∷ c ∷ [])
+        → length (recordLine m) ≤ suc (length text)
     at-id a b c none p q w g h = let z : _≡_ {A = ℕ} 0 1 = cc in absurd (omega arith)
     at-id a b c (some id) p q w g h =
         let i : m .id ≡ id = cc in
         let n : m .name ≡ unescape b = cc in
         let d : m .body ≡ unescape c = cc in
-        rw (length-recordLine m, i, n, d) (omega (arith, readId-short a id p, escape-unescape b (g .1 .0) (h .1 .0), escape-unescape c (g .1 .1 .0) (h .1 .1 .0)))
+        rw (length-recordLine m, i, n, d) (omega (
+          arith,
+          readId-short a id p,
+          escape-unescape b (g .1 .0) (h .1 .0),
+          escape-unescape c (g .1 .1 .0) (h .1 .1 .0),
+        ))
 
     at-one : (o : Option ℕ) → doneOf o ≡ put m → ⊥
     at-one none p = let z : _≡_ {A = ℕ} 0 1 = cc in omega arith
     at-one (some id) p = let z : _≡_ {A = ℕ} 0 1 = cc in omega arith
 
-    at : (ps : List (List ℕ)) → split TAB text ≡ ps → weight ps ≡ suc (length text) → FreePieces TAB ps → FreePieces LF ps → length (recordLine m) ≤ suc (length text)
+    at : (ps : List (List ℕ)) → split TAB text ≡ ps → weight ps ≡ suc (length text) → FreePieces TAB ps
+        → FreePieces LF ps → length (recordLine m) ≤ suc (length text)
     at [] q w g h = let z : _≡_ {A = ℕ} 0 1 = cc in absurd (omega arith)
     at (a ∷ []) q w g h = absurd (at-one (readId a) (cc))
     at (a ∷ b ∷ []) q w g h = let z : _≡_ {A = ℕ} 0 1 = cc in absurd (omega arith)
     at (a ∷ b ∷ c ∷ []) q w g h = at-id a b c (readId a) refl q w g h
     at (a ∷ b ∷ c ∷ d ∷ ps) q w g h = let z : _≡_ {A = ℕ} 0 1 = cc in absurd (omega arith)
 
-image-insert : (m : Message) (ms : List Message) → length (image (insert m ms)) ≤ length (image ms) + length (recordLine m)
+image-insert : (m : Message) (ms : List Message) → length (image (insert m ms)) ≤ length (image ms) + length
+    (recordLine m)
 unfolding image insert
 image-insert m [] = simp length-append (omega arith)
 image-insert m (x ∷ xs) = at (ltb (m .id) (x .id)) refl (eqb (m .id) (x .id)) refl (image-insert m xs)
   where
-    at : (t : Bool) → ltb (m .id) (x .id) ≡ t → (u : Bool) → eqb (m .id) (x .id) ≡ u → length (image (insert m xs)) ≤ length (image xs) + length (recordLine m)
+    at : (t : Bool) → ltb (m .id) (x .id) ≡ t → (u : Bool) → eqb (m .id) (x .id) ≡ u → length (image (insert m xs))
+        ≤ length (image xs) + length (recordLine m)
         → length (image (insert m (x ∷ xs))) ≤ length (recordLine x ++ image xs) + length (recordLine m)
     at true e u f ih = rw (e, insert) (simp length-append (omega arith))
     at false e true f ih = rw (e, insert) (rw f (simp length-append (omega arith)))
@@ -209,23 +240,32 @@ unfolding image remove
 image-remove i [] = omega arith
 image-remove i (x ∷ xs) = at (eqb (x .id) i) refl (image-remove i xs)
   where
-    at : (t : Bool) → eqb (x .id) i ≡ t → length (image (remove i xs)) ≤ length (image xs) → length (image (remove i (x ∷ xs))) ≤ length (recordLine x ++ image xs)
+    at : (t : Bool) → eqb (x .id) i ≡ t → length (image (remove i xs)) ≤ length (image xs)
+        → length (image (remove i (x ∷ xs))) ≤ length (recordLine x ++ image xs)
     at true e ih = rw (e, remove) (simp length-append (omega arith))
     at false e ih = rw (e, remove) (simp length-append (omega arith))
 
-takeIn-short : (r : Read) (text : List ℕ) → Free LF text → length (image ((takeIn r (readLine text)) .left)) ≤ length (image (r .left)) + suc (length text)
+takeIn-short : (r : Read) (text : List ℕ) → Free LF text → length (image ((takeIn r (readLine text)) .left)) ≤ length
+    (image (r .left)) + suc (length text)
 unfolding takeIn
 takeIn-short r text f = at (readLine text) refl
   where
-    at : (l : Line) → readLine text ≡ l → length (image ((takeIn r l) .left)) ≤ length (image (r .left)) + suc (length text)
+    at : (l : Line) → readLine text ≡ l → length (image ((takeIn r l) .left)) ≤ length (image (r .left)) + suc
+        (length text)
     at (put m) e = omega (arith, image-insert m (r .left), record-short text m f e)
     at (done i) e = omega (arith, image-remove i (r .left))
     at other e = omega arith
 
-readLines-short : (ts : List (List ℕ)) (r : Read) → FreePieces LF ts → length (image ((readLines r ts) .left)) ≤ length (image (r .left)) + weight ts
+readLines-short : (ts : List (List ℕ)) (r : Read) → FreePieces LF ts → length (image ((readLines r ts) .left)) ≤ length
+    (image (r .left)) + weight ts
 unfolding readLines weight
 readLines-short [] r f = omega arith
-readLines-short (t ∷ ts) r f = omega (arith, takeIn-short r t (f .0), readLines-short ts (takeIn r (readLine t)) (f .1))
+readLines-short (t ∷ ts) r f = omega (
+  arith,
+  takeIn-short r t (f .0),
+  readLines-short ts (takeIn r (readLine t))
+      (f .1),
+)
 
 allButLast-free : (sep : ℕ) (ps : List (List ℕ)) → FreePieces sep ps → FreePieces sep (allButLast ps)
 unfolding allButLast
@@ -236,4 +276,9 @@ allButLast-free sep (p ∷ q ∷ ps) f = (f .0, allButLast-free sep (q ∷ ps) (
 -- the new log is no longer than the file
 pub image-short : (file : List ℕ) → length (image ((readFile file) .left)) ≤ length file
 unfolding readFile lines image
-image-short file = omega (arith, readLines-short (lines file) nothingRead (allButLast-free LF (split LF file) (split-free LF file)), weight-lines file)
+image-short file = omega (
+  arith,
+  readLines-short (lines file) nothingRead (allButLast-free LF (split LF file)
+      (split-free LF file)),
+  weight-lines file,
+)

@@ -11,17 +11,27 @@ use Rattle.log.specs.Recovery
 use Rattle.log.specs.RowEnds
 
 pub row-ends : allTrue rowEnds ≡ true
-unfolding RowEnds.allTrue RowEnds.rowEnds RowEnds.sameBytes RowEnds.ids RowEnds.leaves RowEnds.message RowEnds.rowName RowEnds.emptyLog RowEnds.after RowEnds.sizeAfter RowEnds.two RowEnds.doneThree RowEnds.tornOne
-    Format.escapeByte Format.escape Format.escaped Format.unescape Format.digits Format.printId Format.decimal Format.below64 Format.readDigits Format.readId Format.recordText Format.line Format.recordLine Format.doneLine Format.joinHead Format.split Format.allButLast Format.lines Format.fields
+unfolding RowEnds.allTrue RowEnds.rowEnds RowEnds.sameBytes RowEnds.ids RowEnds.leaves RowEnds.message RowEnds.rowName
+    RowEnds.emptyLog RowEnds.after RowEnds.sizeAfter RowEnds.two RowEnds.doneThree RowEnds.tornOne
+    Format.escapeByte Format.escape Format.escaped Format.unescape Format.digits Format.printId Format.decimal
+    Format.below64 Format.readDigits Format.readId Format.recordText Format.line Format.recordLine Format.doneLine
+    Format.joinHead Format.split Format.allButLast Format.lines Format.fields
     Line.putOf Line.doneOf Line.readFields Line.readLine Bytes.write
-    Opening.insert Opening.remove Opening.takeIn Opening.readLines Opening.readFile Opening.fits Opening.allFit Opening.judge Opening.opening Opening.image
-    Log.extended Log.movable Log.squeezed Log.settled Log.compacted Log.withRecord Log.appendRefusal Log.appended Log.appendOf Log.findRow Log.withoutRow Log.keeps Log.markedDone Log.markOf Log.syncOf Recovery.didCall
+    Opening.insert Opening.remove Opening.takeIn Opening.readLines Opening.readFile Opening.fits Opening.allFit
+    Opening.judge Opening.opening Opening.image
+    Log.extended Log.movable Log.squeezed Log.settled Log.compacted Log.withRecord Log.appendRefusal Log.appended
+    Log.appendOf Log.findRow Log.withoutRow Log.keeps Log.markedDone Log.markOf Log.syncOf Recovery.didCall
 row-ends = refl
 
 pub refusals-hold : allTrue refusals ≡ true
-unfolding RowEnds.allTrue RowEnds.refusals RowEnds.refusedBy RowEnds.answeredBy RowEnds.message RowEnds.rowName RowEnds.emptyLog RowEnds.after RowEnds.two RowEnds.records
-    Format.escapeByte Format.escape Format.escaped Format.unescape Format.digits Format.printId Format.decimal Format.below64 Format.readDigits Format.readId Format.recordText Format.line Format.recordLine Format.doneLine Format.joinHead Format.split Format.allButLast Format.lines Format.fields
+unfolding RowEnds.allTrue RowEnds.refusals RowEnds.refusedBy RowEnds.answeredBy RowEnds.message RowEnds.rowName
+    RowEnds.emptyLog RowEnds.fullLog RowEnds.after RowEnds.two RowEnds.records
+    Format.escapeByte Format.escape Format.escaped Format.unescape Format.digits Format.printId Format.decimal
+    Format.below64 Format.readDigits Format.readId Format.recordText Format.line Format.recordLine Format.doneLine
+    Format.joinHead Format.split Format.allButLast Format.lines Format.fields
     Line.putOf Line.doneOf Line.readFields Line.readLine Bytes.write
-    Opening.insert Opening.remove Opening.takeIn Opening.readLines Opening.readFile Opening.fits Opening.allFit Opening.judge Opening.opening Opening.image
-    Log.extended Log.movable Log.squeezed Log.settled Log.compacted Log.withRecord Log.appendRefusal Log.appended Log.appendOf Log.findRow Log.withoutRow Log.keeps Log.markedDone Log.markOf Log.syncOf Recovery.didCall
+    Opening.insert Opening.remove Opening.takeIn Opening.readLines Opening.readFile Opening.fits Opening.allFit
+    Opening.judge Opening.opening Opening.image
+    Log.extended Log.movable Log.squeezed Log.settled Log.compacted Log.withRecord Log.appendRefusal Log.appended
+    Log.appendOf Log.findRow Log.withoutRow Log.keeps Log.markedDone Log.markOf Log.syncOf Recovery.didCall
 refusals-hold = refl

@@ -12,70 +12,91 @@ use Rattle.text.specs.Line.{Line, put, done, other, readLine, firstOf, lineAt}
 use Rattle.log.specs.declared.opening.Pass.{Pass}
 use Rattle.log.specs.Opening.{insert, remove, Rising, Read, readLines, readFile, takeIn, nothingRead}
 use Rattle.log.specs.Log.{row, rowId}
-use Rattle.log.specs.Scan.{messageOf, messagesOf, RowsRise, insertRow, removeRow, Took, beneath, beyond, set-in, evicted, passRows, TookNext, LastId, Window}
+use Rattle.log.specs.Scan.{messageOf, messagesOf, RowsRise, insertRow, removeRow, Took, beneath, beyond, set-in}
+use Rattle.log.specs.Scan.{evicted, passRows, TookNext, LastId, Window}
 use Rattle.log.proofs.OpeningLaws.{Rising-low, Rising-le, Rising-insert, Rising-remove}
 
-pub rows-rise : (file : List ℕ) (rs : List (List ℕ)) (low high : ℕ) → Rising low (messagesOf file rs) high → RowsRise low rs high
+pub rows-rise : (file : List ℕ) (rs : List (List ℕ)) (low high : ℕ) → Rising low (messagesOf file rs) high
+    → RowsRise low rs high
 rows-rise file [] low high r = r
 rows-rise file (x ∷ rs) low high r = (r .0, rows-rise file rs (suc (rowId x)) high (r .1))
 
 -- rows as messages
-pub map-insert : (file : List ℕ) (e : List ℕ) (es : List (List ℕ)) → messagesOf file (insertRow e es) ≡ insert (messageOf file e) (messagesOf file es)
+pub map-insert : (file : List ℕ) (e : List ℕ) (es : List (List ℕ)) → messagesOf file (insertRow e es)
+    ≡ insert (messageOf file e) (messagesOf file es)
 unfolding insertRow insert
 map-insert file e [] = refl
 map-insert file e (x ∷ xs) = at (ltb (rowId e) (rowId x)) refl (eqb (rowId e) (rowId x)) refl (map-insert file e xs)
   where
-    at : (p : Bool) → ltb (rowId e) (rowId x) ≡ p → (q : Bool) → eqb (rowId e) (rowId x) ≡ q → messagesOf file (insertRow e xs) ≡ insert (messageOf file e) (messagesOf file xs) → messagesOf file (insertRow e (x ∷ xs)) ≡ insert (messageOf file e) (messagesOf file (x ∷ xs))
+    at : (p : Bool) → ltb (rowId e) (rowId x) ≡ p → (q : Bool) → eqb (rowId e) (rowId x) ≡ q
+        → messagesOf file (insertRow e xs) ≡ insert (messageOf file e) (messagesOf file xs)
+        → messagesOf file (insertRow e (x ∷ xs)) ≡ insert (messageOf file e) (messagesOf file (x ∷ xs))
     at true f q g ih = rw (f, insertRow, insert) refl
     at false f true g ih = rw (f, insertRow, insert) (rw g refl)
     at false f false g ih = rw (f, insertRow, insert) (rw g (ap (λ r. messageOf file x ∷ r) ih))
 
-pub map-remove : (file : List ℕ) (id : ℕ) (es : List (List ℕ)) → messagesOf file (removeRow id es) ≡ remove id (messagesOf file es)
+pub map-remove : (file : List ℕ) (id : ℕ) (es : List (List ℕ)) → messagesOf file (removeRow id es)
+    ≡ remove id (messagesOf file es)
 unfolding removeRow remove
 map-remove file id [] = refl
 map-remove file id (x ∷ xs) = at (eqb (rowId x) id) refl (map-remove file id xs)
   where
-    at : (p : Bool) → eqb (rowId x) id ≡ p → messagesOf file (removeRow id xs) ≡ remove id (messagesOf file xs) → messagesOf file (removeRow id (x ∷ xs)) ≡ remove id (messagesOf file (x ∷ xs))
+    at : (p : Bool) → eqb (rowId x) id ≡ p → messagesOf file (removeRow id xs) ≡ remove id (messagesOf file xs)
+        → messagesOf file (removeRow id (x ∷ xs)) ≡ remove id (messagesOf file (x ∷ xs))
     at true f ih = rw (f, removeRow, remove) ih
     at false f ih = rw (f, removeRow, remove) (ap (λ r. messageOf file x ∷ r) ih)
 
-pub map-append : (file : List ℕ) (x y : List (List ℕ)) → messagesOf file (x ++ y) ≡ messagesOf file x ++ messagesOf file y
+pub map-append : (file : List ℕ) (x y : List (List ℕ)) → messagesOf file (x ++ y) ≡ messagesOf file x ++ messagesOf
+    file y
 map-append file [] y = refl
 map-append file (e ∷ x) y = ap (λ r. messageOf file e ∷ r) (map-append file x y)
 
 -- insert and remove in a part
-pub insert-front : (m : Message) (x y : List Message) (b top : ℕ) → Rising b y top → m .id < b → insert m (x ++ y) ≡ insert m x ++ y
+pub insert-front : (m : Message) (x y : List Message) (b top : ℕ) → Rising b y top → m .id < b → insert m (x ++ y)
+    ≡ insert m x ++ y
 unfolding insert
 insert-front m [] [] b top r h = refl
 insert-front m [] (y ∷ ys) b top r h = cc (lt-ltb (m .id) (y .id) (omega (arith, r .0)))
-insert-front m (x ∷ xs) y b top r h = at (ltb (m .id) (x .id)) refl (eqb (m .id) (x .id)) refl (insert-front m xs y b top r h)
+insert-front m (x ∷ xs) y b top r h = at (ltb (m .id) (x .id)) refl (eqb (m .id) (x .id)) refl
+    (insert-front m xs y b top r h)
   where
-    at : (p : Bool) → ltb (m .id) (x .id) ≡ p → (q : Bool) → eqb (m .id) (x .id) ≡ q → insert m (xs ++ y) ≡ insert m xs ++ y → insert m (x ∷ (xs ++ y)) ≡ insert m (x ∷ xs) ++ y
+    at : (p : Bool) → ltb (m .id) (x .id) ≡ p → (q : Bool) → eqb (m .id) (x .id) ≡ q → insert m (xs ++ y)
+        ≡ insert m xs ++ y → insert m (x ∷ (xs ++ y)) ≡ insert m (x ∷ xs) ++ y
     at true f q g ih = cc
     at false f true g ih = cc
     at false f false g ih = cc
 
-pub insert-back : (m : Message) (x y : List Message) (a b : ℕ) → Rising a x b → b ≤ m .id → insert m (x ++ y) ≡ x ++ insert m y
+pub insert-back : (m : Message) (x y : List Message) (a b : ℕ) → Rising a x b → b ≤ m .id → insert m (x ++ y)
+    ≡ x ++ insert m y
 unfolding insert
 insert-back m [] y a b r h = refl
 insert-back m (x ∷ xs) y a b r h =
     let l : suc (x .id) ≤ b = Rising-le xs (suc (x .id)) b (r .1) in
-    cc (le-ltb (m .id) (x .id) (omega arith), ne-eqb (m .id) (x .id) (omega arith), insert-back m xs y (suc (x .id)) b (r .1) h)
+    cc (
+      le-ltb (m .id) (x .id) (omega arith),
+      ne-eqb (m .id) (x .id) (omega arith),
+      insert-back m xs y (suc (x .id)) b
+          (r .1) h,
+    )
 
 pub remove-append : (id : ℕ) (x y : List Message) → remove id (x ++ y) ≡ remove id x ++ remove id y
 unfolding remove
 remove-append id [] y = refl
 remove-append id (x ∷ xs) y = at (eqb (x .id) id) refl (remove-append id xs y)
   where
-    at : (p : Bool) → eqb (x .id) id ≡ p → remove id (xs ++ y) ≡ remove id xs ++ remove id y → remove id (x ∷ (xs ++ y)) ≡ remove id (x ∷ xs) ++ remove id y
+    at : (p : Bool) → eqb (x .id) id ≡ p → remove id (xs ++ y) ≡ remove id xs ++ remove id y
+        → remove id (x ∷ (xs ++ y)) ≡ remove id (x ∷ xs) ++ remove id y
     at true f ih = cc
     at false f ih = cc
 
-Rising-set : (m : Message) (ms : List Message) (low high : ℕ) → low ≤ m .id → m .id < high → Rising low ms high → Rising low (insert m ms) high
-Rising-set m ms low high a b r = let e : max high (suc (m .id)) ≡ high = omega arith in subst (Rising low (insert m ms)) e (Rising-insert m ms low high a r)
+Rising-set : (m : Message) (ms : List Message) (low high : ℕ) → low ≤ m .id → m .id < high → Rising low ms high
+    → Rising low (insert m ms) high
+Rising-set m ms low high a b r = let e : max high (suc (m .id)) ≡ high = omega arith in
+    subst (Rising low (insert m ms)) e (Rising-insert m ms low high a r)
 
 -- the last of rising messages
-Rising-split : (x : List Message) (m : Message) (low high : ℕ) → Rising low (x ++ (m ∷ [])) high → Rising low x (m .id) × (suc (m .id) ≤ high)
+Rising-split : (x : List Message) (m : Message) (low high : ℕ) → Rising low (x ++ (m ∷ [])) high → Rising low x (m .id)
+    × (suc (m .id) ≤ high)
 Rising-split [] m low high r = (r .0, r .1)
 Rising-split (y ∷ ys) m low high r = let s = Rising-split ys m (suc (y .id)) high (r .1) in ((r .0, s .0), s .1)
 
@@ -97,9 +118,21 @@ pub record Tracked (file : List ℕ) (lo hi : ℕ) (these : List (List ℕ)) (re
 
 pub tracked-begin : (file : List ℕ) (lo hi : ℕ) → lo < hi → hi ≤ 2 ^ 64 → Tracked file lo hi [] (lines file)
 unfolding readFile
-tracked-begin file lo hi h t = record { read = nothingRead; goes = refl; below = []; above = []; are = refl; low = omega arith; mid = omega arith; high = t; wide = h }
+tracked-begin file lo hi h t = record {
+  read = nothingRead;
+  goes = refl;
+  below = [];
+  above = [];
+  are = refl;
+  low =
+      omega arith;
+  mid = omega arith;
+  high = t;
+  wide = h;
+}
 
-pub tracked-end : {file : List ℕ} {lo hi : ℕ} {these : List (List ℕ)} {rest : List (List ℕ)} → Tracked file lo hi these rest → rest ≡ [] → Window file lo hi these
+pub tracked-end : {file : List ℕ} {lo hi : ℕ} {these : List (List ℕ)} {rest : List (List ℕ)}
+    → Tracked file lo hi these rest → rest ≡ [] → Window file lo hi these
 unfolding readLines
 tracked-end {file} w e = record {
   below = w .below;
@@ -111,17 +144,29 @@ tracked-end {file} w e = record {
   wide = w .wide;
 }
 
-one-more : (r : Read) (l : List ℕ) (ls : List (List ℕ)) (k : Line) → readLine l ≡ k → readLines r (l ∷ ls) ≡ readLines (takeIn r k) ls
+one-more : (r : Read) (l : List ℕ) (ls : List (List ℕ)) (k : Line) → readLine l ≡ k → readLines r (l ∷ ls)
+    ≡ readLines (takeIn r k) ls
 unfolding readLines
 one-more r l ls k e = ap (λ j. readLines (takeIn r j) ls) e
 
 is-message : (file : List ℕ) (at : ℕ) (m : Message) → lineAt file at ≡ put m → messageOf file (row (m .id) at 0) ≡ m
 is-message file at m e = rw e refl
 
-module _ {file : List ℕ} {lo hi : ℕ} {these : List (List ℕ)} {l : List ℕ} {ls : List (List ℕ)} (w : Tracked file lo hi these (l ∷ ls)) where
+module _ {file : List ℕ} {lo hi : ℕ} {these : List (List ℕ)} {l : List ℕ} {ls : List (List ℕ)}
+    (w : Tracked file lo hi these (l ∷ ls)) where
   unmoved : readLine l ≡ other → Tracked file lo hi these ls
   unfolding takeIn
-  unmoved e = record { read = w .read; goes = sym (one-more (w .read) l ls other e) ∙ w .goes; below = w .below; above = w .above; are = w .are; low = w .low; mid = w .mid; high = w .high; wide = w .wide }
+  unmoved e = record {
+    read = w .read;
+    goes = sym (one-more (w .read) l ls other e) ∙ w .goes;
+    below = w .below;
+    above = w .above;
+    are = w .are;
+    low = w .low;
+    mid = w .mid;
+    high = w .high;
+    wide = w .wide;
+  }
 
   taken-out : (id : ℕ) → readLine l ≡ done id → Tracked file lo hi (removeRow id these) ls
   unfolding takeIn
@@ -133,9 +178,11 @@ module _ {file : List ℕ} {lo hi : ℕ} {these : List (List ℕ)} {l : List ℕ
         below = remove id (w .below);
         above = remove id (w .above);
         are = ap (remove id) (w .are) ∙ (remove-append id (w .below) (messagesOf file these ++ w .above)
-            ∙ ap (λ y. remove id (w .below) ++ y) (remove-append id (messagesOf file these) (w .above) ∙ ap (λ y. y ++ remove id (w .above)) (sym (map-remove file id these))));
+            ∙ ap (λ y. remove id (w .below) ++ y) (remove-append id (messagesOf file these) (w .above)
+            ∙ ap (λ y. y ++ remove id (w .above)) (sym (map-remove file id these))));
         low = Rising-remove id (w .below) 0 lo (w .low);
-        mid = subst (λ y. Rising lo y hi) (sym (map-remove file id these)) (Rising-remove id (messagesOf file these) lo hi (w .mid));
+        mid = subst (λ y. Rising lo y hi) (sym (map-remove file id these)) (Rising-remove id (messagesOf file these) lo
+            hi (w .mid));
         high = Rising-remove id (w .above) hi (2 ^ 64) (w .high);
         wide = w .wide;
       }
@@ -178,7 +225,9 @@ module _ {file : List ℕ} {lo hi : ℕ} {these : List (List ℕ)} {l : List ℕ
       goes = onward;
       below = w .below;
       above = insert m (w .above);
-      are = after-left ∙ (insert-back m (w .below) (messagesOf file these ++ w .above) 0 lo (w .low) (omega (arith, w .wide)) ∙ ap (λ y. w .below ++ y) (insert-back m (messagesOf file these) (w .above) lo hi (w .mid) h));
+      are = after-left ∙ (insert-back m (w .below) (messagesOf file these ++ w .above) 0 lo (w .low)
+          (omega (arith, w .wide)) ∙ ap (λ y. w .below ++ y) (insert-back m (messagesOf file these) (w .above) lo hi
+          (w .mid) h));
       low = w .low;
       mid = w .mid;
       high = Rising-set m (w .above) hi (2 ^ 64) h f (w .high);
@@ -194,24 +243,40 @@ module _ {file : List ℕ} {lo hi : ℕ} {these : List (List ℕ)} {l : List ℕ
 
       now-left : after .left ≡ w .below ++ (messagesOf file (insertRow new these) ++ w .above)
       now-left = after-left ∙ (insert-back m (w .below) (messagesOf file these ++ w .above) 0 lo (w .low) a
-          ∙ ap (λ y. w .below ++ y) (insert-front m (messagesOf file these) (w .above) hi (2 ^ 64) (w .high) b ∙ ap (λ y. y ++ w .above) (sym inserted)))
+          ∙ ap (λ y. w .below ++ y) (insert-front m (messagesOf file these) (w .above) hi (2 ^ 64) (w .high) b
+          ∙ ap (λ y. y ++ w .above) (sym inserted)))
 
       now-mid : Rising lo (messagesOf file (insertRow new these)) hi
       now-mid = subst (λ y. Rising lo y hi) (sym inserted) (Rising-set m (messagesOf file these) lo hi a b (w .mid))
 
       put-within : Tracked file lo hi (insertRow new these) ls
-      put-within = record { read = after; goes = onward; below = w .below; above = w .above; are = now-left; low = w .low; mid = now-mid; high = w .high; wide = w .wide }
+      put-within = record {
+        read = after;
+        goes = onward;
+        below = w .below;
+        above = w .above;
+        are = now-left;
+        low =
+            w .low;
+        mid = now-mid;
+        high = w .high;
+        wide = w .wide;
+      }
 
-      put-evicted : (y : List ℕ) (these' : List (List ℕ)) → insertRow new these ≡ these' ++ (y ∷ []) → 0 < length these' → Tracked file lo (rowId y) these' ls
+      put-evicted : (y : List ℕ) (these' : List (List ℕ)) → insertRow new these ≡ these' ++ (y ∷ [])
+          → 0 < length these' → Tracked file lo (rowId y) these' ls
       put-evicted y these' q h =
-          let split : messagesOf file (insertRow new these) ≡ messagesOf file these' ++ (messageOf file y ∷ []) = ap (messagesOf file) q ∙ map-append file these' (y ∷ []) in
-          let s = Rising-split (messagesOf file these') (messageOf file y) lo hi (subst (λ z. Rising lo z hi) split now-mid) in
+          let split : messagesOf file (insertRow new these) ≡ messagesOf file these' ++ (messageOf file y ∷ []) =
+          ap (messagesOf file) q ∙ map-append file these' (y ∷ []) in
+          let s = Rising-split (messagesOf file these') (messageOf file y) lo hi (subst (λ z. Rising lo z hi) split
+          now-mid) in
           record {
             read = after;
             goes = onward;
             below = w .below;
             above = messageOf file y ∷ w .above;
-            are = now-left ∙ ap (λ z. w .below ++ z) (ap (λ z. z ++ w .above) split ∙ append-assoc (messagesOf file these') (messageOf file y ∷ []) (w .above));
+            are = now-left ∙ ap (λ z. w .below ++ z) (ap (λ z. z ++ w .above) split
+                ∙ append-assoc (messagesOf file these') (messageOf file y ∷ []) (w .above));
             low = w .low;
             mid = s .0;
             high = (omega arith, Rising-low (w .above) hi (suc (rowId y)) (2 ^ 64) (s .1) (w .high));
@@ -223,27 +288,34 @@ module _ {file : List ℕ} {lo hi : ℕ} {these : List (List ℕ)} {l : List ℕ
           map-some (x ∷ xs) k = omega arith
 
 -- a line taken in
-pub tracked-line : (file : List ℕ) (lo : ℕ) (p : Pass) (table : List (List ℕ)) (at : ℕ) (l : List ℕ) (ls : List (List ℕ)) (q : Pass) (table' : List (List ℕ))
-    → Tracked file lo (p .hi) (passRows p table) (lines (drop at file)) → lines (drop at file) ≡ l ∷ ls → TookNext lo p table (readLine l) at q table' → Tracked file lo (q .hi) (passRows q table') ls
+pub tracked-line : (file : List ℕ) (lo : ℕ) (p : Pass) (table : List (List ℕ)) (at : ℕ) (l : List ℕ)
+    (ls : List (List ℕ)) (q : Pass) (table' : List (List ℕ))
+    → Tracked file lo (p .hi) (passRows p table) (lines (drop at file)) → lines (drop at file) ≡ l ∷ ls
+    → TookNext lo p table (readLine l) at q table' → Tracked file lo (q .hi) (passRows q table') ls
 unfolding lineAt
 tracked-line file lo p table at l ls q table' w₀ e t = by (readLine l) refl t
   where
     w : Tracked file lo (p .hi) (passRows p table) (l ∷ ls)
     w = subst (Tracked file lo (p .hi) (passRows p table)) e w₀
 
-    same : q .hi ≡ p .hi → (x : List (List ℕ)) → passRows q table' ≡ x → Tracked file lo (p .hi) x ls → Tracked file lo (q .hi) (passRows q table') ls
-    same a x b v = subst (λ h. Tracked file lo h (passRows q table') ls) (sym a) (subst (λ y. Tracked file lo (p .hi) y ls) (sym b) v)
+    same : q .hi ≡ p .hi → (x : List (List ℕ)) → passRows q table' ≡ x → Tracked file lo (p .hi) x ls
+        → Tracked file lo (q .hi) (passRows q table') ls
+    same a x b v = subst (λ h. Tracked file lo h (passRows q table') ls) (sym a)
+        (subst (λ y. Tracked file lo (p .hi) y ls) (sym b) v)
 
     here : (m : Message) → readLine l ≡ put m → lineAt file at ≡ put m
     here m k = ap (λ x. readLine (firstOf x)) e ∙ k
 
-    record-in : (m : Message) → readLine l ≡ put m → m .id < 2 ^ 64 → Took lo (p .hi) (passRows p table) (row (m .id) at 0) (q .hi) (passRows q table') → Tracked file lo (q .hi) (passRows q table') ls
+    record-in : (m : Message) → readLine l ≡ put m → m .id < 2 ^ 64 → Took lo (p .hi) (passRows p table)
+        (row (m .id) at 0) (q .hi) (passRows q table') → Tracked file lo (q .hi) (passRows q table') ls
     record-in m k f (beneath a b r) = same b (passRows p table) r (put-beneath w m k f a)
     record-in m k f (beyond a b r) = same b (passRows p table) r (put-beyond w m k f a)
     record-in m k f (set-in a b c r) = same c _ r (put-within w m k f a b at (here m k))
-    record-in m k f (evicted a b y c r h) = subst (λ z. Tracked file lo z (passRows q table') ls) (sym r) (put-evicted w m k f a b at (here m k) y (passRows q table') c h)
+    record-in m k f (evicted a b y c r h) = subst (λ z. Tracked file lo z (passRows q table') ls) (sym r)
+        (put-evicted w m k f a b at (here m k) y (passRows q table') c h)
 
-    by : (k : Line) → readLine l ≡ k → TookNext lo p table k at q table' → Tracked file lo (q .hi) (passRows q table') ls
+    by : (k : Line) → readLine l ≡ k → TookNext lo p table k at q table' → Tracked file lo (q .hi) (passRows q table')
+        ls
     by (put m) k x = record-in m k (omega (arith, x .2)) (x .0)
     by (done id) k x = same (x .1) (removeRow id (passRows p table)) (x .0) (taken-out w id k)
     by other k x = same (x .1) (passRows p table) (x .0) (unmoved w k)
@@ -288,19 +360,27 @@ unfolding nextLines
 next-grows [] n = omega arith
 next-grows (l ∷ ls) n = omega (arith, next-up n (readLine l), next-grows ls (nextOf n (readLine l)))
 
-pub next-line : (lo : ℕ) (p : Pass) (table : List (List ℕ)) (at : ℕ) (q : Pass) (table' : List (List ℕ)) (all : List (List ℕ)) (l : List ℕ) (ls : List (List ℕ)) → all ≡ l ∷ ls → TookNext lo p table (readLine l) at q table'
+pub next-line : (lo : ℕ) (p : Pass) (table : List (List ℕ)) (at : ℕ) (q : Pass) (table' : List (List ℕ))
+    (all : List (List ℕ)) (l : List ℕ) (ls : List (List ℕ)) → all ≡ l ∷ ls → TookNext lo p table (readLine l) at q
+    table'
     → nextLines (q .next) ls ≡ nextLines (p .next) all
 unfolding nextLines nextOf
-next-line lo p table at q table' all l ls e t = sym (ap (nextLines (p .next)) e ∙ ap (λ n. nextLines n ls) (by (readLine l) t))
+next-line lo p table at q table' all l ls e t = sym (ap (nextLines (p .next)) e
+    ∙ ap (λ n. nextLines n ls) (by (readLine l) t))
   where
     by : (k : Line) → TookNext lo p table k at q table' → nextOf (p .next) k ≡ q .next
     by (put m) x = sym (x .1)
     by (done id) x = sym (x .2)
     by other x = sym (x .2)
 
-pub next-over : (n : ℕ) (all : List (List ℕ)) (l : List ℕ) (ls : List (List ℕ)) → all ≡ l ∷ ls → LastId (readLine l) → 2 ^ 64 ≤ nextLines n all
+pub next-over : (n : ℕ) (all : List (List ℕ)) (l : List ℕ) (ls : List (List ℕ)) → all ≡ l ∷ ls → LastId (readLine l)
+    → 2 ^ 64 ≤ nextLines n all
 unfolding nextLines nextOf
-next-over n all l ls e x = subst (λ k. 2 ^ 64 ≤ nextLines n k) (sym e) (omega (arith, by (readLine l) x, next-grows ls (nextOf n (readLine l))))
+next-over n all l ls e x = subst (λ k. 2 ^ 64 ≤ nextLines n k) (sym e) (omega (
+  arith,
+  by (readLine l) x,
+  next-grows ls (nextOf n (readLine l)),
+))
   where
     by : (k : Line) → LastId k → 2 ^ 64 ≤ nextOf n k
     by (put m) y = omega arith

@@ -29,8 +29,20 @@ module _ (log n store table left : ℕ) where
         module _ (d : store ≡ 40960) where
           pub wrong-table : (table ≡ 256 → ⊥) → sized log n store table left ≡ false
           unfolding sized
-          wrong-table h = cc (le-leb 16 log a, le-leb log 65536 b, le-leb n log c, eq-eqb store 40960 d, ne-eqb table 256 h)
+          wrong-table h = cc (
+            le-leb 16 log a,
+            le-leb log 65536 b,
+            le-leb n log c,
+            eq-eqb store 40960 d,
+            ne-eqb table 256 h,
+          )
 
           pub last-size : table ≡ 256 → sized log n store table left ≡ eqb left 256
           unfolding sized
-          last-size h = cc (le-leb 16 log a, le-leb log 65536 b, le-leb n log c, eq-eqb store 40960 d, eq-eqb table 256 h)
+          last-size h = cc (
+            le-leb 16 log a,
+            le-leb log 65536 b,
+            le-leb n log c,
+            eq-eqb store 40960 d,
+            eq-eqb table 256 h,
+          )

@@ -25,11 +25,13 @@ use Rattle.log.proofs.OpeningLaws.{and-left, and-right}
 
 -- the limits, row by row
 module _ (file : List ℕ) (rs : List (List ℕ)) where
-  pub fit-next : (r : List ℕ) (more : List (List ℕ)) → rs ≡ r ∷ more → fitLine (lineAt file (rowAt r)) ≡ true → allFit (messagesOf file rs) ≡ allFit (messagesOf file more)
+  pub fit-next : (r : List ℕ) (more : List (List ℕ)) → rs ≡ r ∷ more → fitLine (lineAt file (rowAt r)) ≡ true
+      → allFit (messagesOf file rs) ≡ allFit (messagesOf file more)
   unfolding allFit fits fitLine
   fit-next r more e f = ap (λ l. allFit (messagesOf file l)) e ∙ ap (λ b. b && allFit (messagesOf file more)) f
 
-  pub fit-stop : (r : List ℕ) (more : List (List ℕ)) → rs ≡ r ∷ more → fitLine (lineAt file (rowAt r)) ≡ false → allFit (messagesOf file rs) ≡ false
+  pub fit-stop : (r : List ℕ) (more : List (List ℕ)) → rs ≡ r ∷ more → fitLine (lineAt file (rowAt r)) ≡ false
+      → allFit (messagesOf file rs) ≡ false
   unfolding allFit fits fitLine
   fit-stop r more e f = ap (λ l. allFit (messagesOf file l)) e ∙ ap (λ b. b && allFit (messagesOf file more)) f
 
@@ -47,7 +49,8 @@ pub record FitFirst (m : Message) (ms : List Message) : Type 0 where
 pub fit-first : (m : Message) (ms : List Message) → allFit (m ∷ ms) ≡ true → FitFirst m ms
 unfolding allFit fits
 fit-first m ms e =
-    let f : (leb (length (m .name)) 32 && leb (length (m .body)) 128) ≡ true = and-left (leb (length (m .name)) 32 && leb (length (m .body)) 128) (allFit ms) e in
+    let f : (leb (length (m .name)) 32 && leb (length (m .body)) 128)
+    ≡ true = and-left (leb (length (m .name)) 32 && leb (length (m .body)) 128) (allFit ms) e in
     record {
       name = leb-true (length (m .name)) 32 (and-left (leb (length (m .name)) 32) (leb (length (m .body)) 128) f);
       body = leb-true (length (m .body)) 128 (and-right (leb (length (m .name)) 32) (leb (length (m .body)) 128) f);
@@ -56,10 +59,12 @@ fit-first m ms e =
     }
 
 take-drop : (l : List ℕ) (a n : ℕ) → a ≤ length l → take n (drop a l) ≡ drop a (take (a + n) l)
-take-drop l a n h = sym (ap (drop a) (take-add a n l) ∙ drop-at (take a l) (take n (drop a l)) a (length-take-le a l h))
+take-drop l a n h = sym (ap (drop a) (take-add a n l) ∙ drop-at (take a l) (take n (drop a l)) a
+    (length-take-le a l h))
 
 -- an entry of the store
-module _ (i : ℕ) (m : Message) (st : List ℕ) (p : length (m .name) ≤ 32) (q : length (m .body) ≤ 128) (h : 160 * i + 160 ≤ length st) where
+module _ (i : ℕ) (m : Message) (st : List ℕ) (p : length (m .name) ≤ 32) (q : length (m .body) ≤ 128)
+    (h : 160 * i + 160 ≤ length st) where
   named : List ℕ
   named = write st (160 * i) (m .name)
 
@@ -73,27 +78,34 @@ module _ (i : ℕ) (m : Message) (st : List ℕ) (p : length (m .name) ≤ 32) (
 
   at-below : (k : ℕ) → k ≤ 160 * i → take k (storedAt i m st) ≡ take k st
   unfolding named storedAt
-  at-below k l = take-write named (160 * i + 32) k (m .body) (omega arith) (omega (arith, named-long)) ∙ take-write st (160 * i) k (m .name) l (omega arith)
+  at-below k l = take-write named (160 * i + 32) k (m .body) (omega arith) (omega (arith, named-long))
+      ∙ take-write st (160 * i) k (m .name) l (omega arith)
 
   at-name : take (160 * i + length (m .name)) (storedAt i m st) ≡ take (160 * i) st ++ m .name
   unfolding named storedAt
-  at-name = take-write named (160 * i + 32) (160 * i + length (m .name)) (m .body) (omega arith) (omega (arith, named-long)) ∙ take-written st (160 * i) (m .name) (omega arith)
+  at-name = take-write named (160 * i + 32) (160 * i + length (m .name)) (m .body) (omega arith)
+      (omega (arith, named-long)) ∙ take-written st (160 * i) (m .name) (omega arith)
 
   at-body : take (160 * i + 32 + length (m .body)) (storedAt i m st) ≡ take (160 * i + 32) named ++ m .body
   unfolding named storedAt
   at-body = take-written named (160 * i + 32) (m .body) (omega (arith, named-long))
 
   -- of any store that has the same bytes below the next entry
-  module _ (s : List ℕ) (same : (k : ℕ) → k ≤ 160 * suc i → take k s ≡ take k (storedAt i m st)) (l : length s ≡ length st) where
+  module _ (s : List ℕ) (same : (k : ℕ) → k ≤ 160 * suc i → take k s ≡ take k (storedAt i m st)) (l : length s
+      ≡ length st) where
     read-name : take (length (m .name)) (drop (160 * i) s) ≡ m .name
     read-name = take-drop s (160 * i) (length (m .name)) (omega arith)
-        ∙ (ap (drop (160 * i)) (same (160 * i + length (m .name)) (omega arith) ∙ at-name) ∙ drop-at (take (160 * i) st) (m .name) (160 * i) (length-take-le (160 * i) st (omega arith)))
+        ∙ (ap (drop (160 * i)) (same (160 * i + length (m .name)) (omega arith) ∙ at-name)
+        ∙ drop-at (take (160 * i) st) (m .name) (160 * i) (length-take-le (160 * i) st (omega arith)))
 
     read-body : take (length (m .body)) (drop (160 * i + 32) s) ≡ m .body
     read-body = take-drop s (160 * i + 32) (length (m .body)) (omega arith)
-        ∙ (ap (drop (160 * i + 32)) (same (160 * i + 32 + length (m .body)) (omega arith) ∙ at-body) ∙ drop-at (take (160 * i + 32) named) (m .body) (160 * i + 32) (length-take-le (160 * i + 32) named (omega (arith, named-long))))
+        ∙ (ap (drop (160 * i + 32)) (same (160 * i + 32 + length (m .body)) (omega arith) ∙ at-body)
+        ∙ drop-at (take (160 * i + 32) named) (m .body) (160 * i + 32) (length-take-le (160 * i + 32) named
+        (omega (arith, named-long))))
 
-pub stored-long : (ms : List Message) (i : ℕ) (st : List ℕ) → allFit ms ≡ true → 160 * (i + length ms) ≤ length st → length (stored i ms st) ≡ length st
+pub stored-long : (ms : List Message) (i : ℕ) (st : List ℕ) → allFit ms ≡ true → 160 * (i + length ms) ≤ length st
+    → length (stored i ms st) ≡ length st
 unfolding stored
 stored-long [] i st f h = refl
 stored-long (m ∷ ms) i st f h =
@@ -101,25 +113,33 @@ stored-long (m ∷ ms) i st f h =
     let e = at-long i m st (g .name) (g .body) (omega arith) in
     stored-long ms (suc i) (storedAt i m st) (g .others) (omega (arith, e)) ∙ e
 
-stored-below : (ms : List Message) (i k : ℕ) (st : List ℕ) → k ≤ 160 * i → allFit ms ≡ true → 160 * (i + length ms) ≤ length st → take k (stored i ms st) ≡ take k st
+stored-below : (ms : List Message) (i k : ℕ) (st : List ℕ) → k ≤ 160 * i → allFit ms ≡ true
+    → 160 * (i + length ms) ≤ length st → take k (stored i ms st) ≡ take k st
 unfolding stored
 stored-below [] i k st l f h = refl
 stored-below (m ∷ ms) i k st l f h =
     let g = fit-first m ms f in
     let e = at-long i m st (g .name) (g .body) (omega arith) in
-    stored-below ms (suc i) k (storedAt i m st) (omega arith) (g .others) (omega (arith, e)) ∙ at-below i m st (g .name) (g .body) (omega arith) k l
+    stored-below ms (suc i) k (storedAt i m st) (omega arith) (g .others) (omega (arith, e))
+    ∙ at-below i m st (g .name) (g .body) (omega arith) k l
 
 -- what was stored is read back, by the lengths handed back
-pub read-back : (ms : List Message) (i : ℕ) (st : List ℕ) → allFit ms ≡ true → 160 * (i + length ms) ≤ length st → fromStore i (map leftRow ms) (stored i ms st) ≡ ms
+pub read-back : (ms : List Message) (i : ℕ) (st : List ℕ) → allFit ms ≡ true → 160 * (i + length ms) ≤ length st
+    → fromStore i (map leftRow ms) (stored i ms st) ≡ ms
 unfolding stored fromStore
 read-back [] i st f h = refl
 read-back (m ∷ ms) i st f h =
     let g = fit-first m ms f in
     let e = at-long i m st (g .name) (g .body) (omega arith) in
     let s : List ℕ = stored (suc i) ms (storedAt i m st) in
-    let b : (k : ℕ) → k ≤ 160 * suc i → take k s ≡ take k (storedAt i m st) = λ k l. stored-below ms (suc i) k (storedAt i m st) l (g .others) (omega (arith, e)) in
+    let b : (k : ℕ) → k ≤ 160 * suc i → take k s ≡ take k (storedAt i m st) = λ k l. stored-below ms (suc i) k
+    (storedAt i m st) l (g .others) (omega (arith, e)) in
     let l : length s ≡ length st = stored-long ms (suc i) (storedAt i m st) (g .others) (omega (arith, e)) ∙ e in
-    rw (read-name i m st (g .name) (g .body) (omega arith) s b l, read-body i m st (g .name) (g .body) (omega arith) s b l) (ap (λ r. m ∷ r) (read-back ms (suc i) (storedAt i m st) (g .others) (omega (arith, e))))
+    rw (
+      read-name i m st (g .name) (g .body) (omega arith) s b l,
+      read-body i m st (g .name) (g .body) (omega arith) s
+          b l,
+    ) (ap (λ r. m ∷ r) (read-back ms (suc i) (storedAt i m st) (g .others) (omega (arith, e))))
 
 pub left-fit : (ms : List Message) → allFit ms ≡ true → fitLeft (map leftRow ms) ≡ true
 unfolding fitLeft allFit fits
@@ -127,29 +147,40 @@ left-fit [] f = refl
 left-fit (m ∷ ms) f = let g = fit-first m ms f in cc (g .first, left-fit ms (g .others))
 
 -- storing, entry by entry
-pub record Storing (file : List ℕ) (rows : List (List ℕ)) (count : ℕ) (store₀ : List ℕ) (left₀ : List (List ℕ)) (store : List ℕ) (left : List (List ℕ)) (i : ℕ) : Type 0 where
+pub record Storing (file : List ℕ) (rows : List (List ℕ)) (count : ℕ) (store₀ : List ℕ) (left₀ : List (List ℕ))
+    (store : List ℕ) (left : List (List ℕ)) (i : ℕ) : Type 0 where
   pub long : length store ≡ length store₀
   pub many : length left ≡ length left₀
   pub within : i ≤ count
-  pub entries : stored i (messagesOf file (drop i (take count rows))) store ≡ stored 0 (messagesOf file (take count rows)) store₀
-  pub table : write left i (map leftRow (messagesOf file (drop i (take count rows)))) ≡ write left₀ 0 (map leftRow (messagesOf file (take count rows)))
+  pub entries : stored i (messagesOf file (drop i (take count rows))) store
+      ≡ stored 0 (messagesOf file (take count rows)) store₀
+  pub table : write left i (map leftRow (messagesOf file (drop i (take count rows))))
+      ≡ write left₀ 0 (map leftRow (messagesOf file (take count rows)))
   pub fit : allFit (messagesOf file (drop i (take count rows))) ≡ true
 
-module _ {file : List ℕ} {rows : List (List ℕ)} {count : ℕ} {store₀ : List ℕ} {left₀ : List (List ℕ)} {store : List ℕ} {left : List (List ℕ)} {i : ℕ} (s : Storing file rows count store₀ left₀ store left i) where
-  pub storing-ends : drop i (take count rows) ≡ [] → (store ≡ stored 0 (messagesOf file (take count rows)) store₀) × (left ≡ write left₀ 0 (map leftRow (messagesOf file (take count rows))))
+module _ {file : List ℕ} {rows : List (List ℕ)} {count : ℕ} {store₀ : List ℕ} {left₀ : List (List ℕ)} {store : List ℕ}
+    {left : List (List ℕ)} {i : ℕ} (s : Storing file rows count store₀ left₀ store left i) where
+  pub storing-ends : drop i (take count rows) ≡ [] → (store ≡ stored 0 (messagesOf file (take count rows)) store₀)
+      × (left ≡ write left₀ 0 (map leftRow (messagesOf file (take count rows))))
   unfolding stored
-  storing-ends e =
-      (sym (ap (λ l. stored i (messagesOf file l) store) e) ∙ s .entries, sym (ap (λ l. write left i (map leftRow (messagesOf file l))) e ∙ write-none left i) ∙ s .table)
+  storing-ends e = (
+    sym (ap (λ l. stored i (messagesOf file l) store) e) ∙ s .entries,
+    sym (ap (λ l. write left i (map leftRow (messagesOf file l))) e ∙ write-none left i) ∙ s .table,
+  )
 
-  module _ (r : List ℕ) (h : i < count) (l : i < length left) (e : drop i (take count rows) ≡ r ∷ drop (i + 1) (take count rows)) where
+  module _ (r : List ℕ) (h : i < count) (l : i < length left) (e : drop i (take count rows)
+      ≡ r ∷ drop (i + 1) (take count rows)) where
     pub storing-fits : FitFirst (messageOf file r) (messagesOf file (drop (i + 1) (take count rows)))
-    storing-fits = fit-first (messageOf file r) (messagesOf file (drop (i + 1) (take count rows))) (ap (λ x. allFit (messagesOf file x)) (sym e) ∙ s .fit)
+    storing-fits = fit-first (messageOf file r) (messagesOf file (drop (i + 1) (take count rows)))
+        (ap (λ x. allFit (messagesOf file x)) (sym e) ∙ s .fit)
 
     pub storing-line : fitLine (lineAt file (rowAt r)) ≡ true
     unfolding fitLine fits
     storing-line = storing-fits .first
 
-    pub storing-more : (store' : List ℕ) → 160 * i + 160 ≤ length store → store' ≡ storedAt i (messageOf file r) store → (left' : List (List ℕ)) → left' ≡ set left i (leftRow (messageOf file r)) → Storing file rows count store₀ left₀ store' left' (i + 1)
+    pub storing-more : (store' : List ℕ) → 160 * i + 160 ≤ length store → store' ≡ storedAt i (messageOf file r) store
+        → (left' : List (List ℕ)) → left' ≡ set left i (leftRow (messageOf file r)) → Storing file rows count store₀
+        left₀ store' left' (i + 1)
     unfolding stored
     storing-more store' room p left' q =
         let m = messageOf file r in
@@ -158,29 +189,44 @@ module _ {file : List ℕ} {rows : List (List ℕ)} {count : ℕ} {store₀ : Li
           long = ap length p ∙ (at-long i m store (storing-fits .name) (storing-fits .body) room ∙ s .long);
           many = ap length q ∙ (length-set left i (leftRow m) ∙ s .many);
           within = omega arith;
-          entries = ap (λ k. stored k more store') (add-one i) ∙ (ap (stored (suc i) more) p ∙ (ap (λ x. stored i (messagesOf file x) store) (sym e) ∙ s .entries));
-          table = ap (λ x. write x (i + 1) (map leftRow more)) q ∙ (write-cons left i (leftRow m) (map leftRow more) l ∙ (ap (λ x. write left i (map leftRow (messagesOf file x))) (sym e) ∙ s .table));
+          entries = ap (λ k. stored k more store') (add-one i) ∙ (ap (stored (suc i) more) p
+              ∙ (ap (λ x. stored i (messagesOf file x) store) (sym e) ∙ s .entries));
+          table = ap (λ x. write x (i + 1) (map leftRow more)) q ∙ (write-cons left i (leftRow m) (map leftRow more) l
+              ∙ (ap (λ x. write left i (map leftRow (messagesOf file x))) (sym e) ∙ s .table));
           fit = storing-fits .others;
         }
 
 -- the image, record by record
-pub record Imaging (log₀ : List ℕ) (table₀ : List (List ℕ)) (store : List ℕ) (left : List (List ℕ)) (count : ℕ) (log : List ℕ) (table : List (List ℕ)) (at i : ℕ) : Type 0 where
+pub record Imaging (log₀ : List ℕ) (table₀ : List (List ℕ)) (store : List ℕ) (left : List (List ℕ)) (count : ℕ)
+    (log : List ℕ) (table : List (List ℕ)) (at i : ℕ) : Type 0 where
   pub long : length log ≡ length log₀
   pub many : length table ≡ length table₀
   pub within : i ≤ count
   pub room : at + length (image (fromStore i (drop i (take count left)) store)) ≤ length log
-  pub ends : at + length (image (fromStore i (drop i (take count left)) store)) ≡ length (image (fromStore 0 (take count left) store))
-  pub bytes : write log at (image (fromStore i (drop i (take count left)) store)) ≡ write log₀ 0 (image (fromStore 0 (take count left) store))
-  pub rows : write table i (rowsFrom at (fromStore i (drop i (take count left)) store)) ≡ write table₀ 0 (rowsFrom 0 (fromStore 0 (take count left) store))
+  pub ends : at + length (image (fromStore i (drop i (take count left)) store))
+      ≡ length (image (fromStore 0 (take count left) store))
+  pub bytes : write log at (image (fromStore i (drop i (take count left)) store))
+      ≡ write log₀ 0 (image (fromStore 0 (take count left) store))
+  pub rows : write table i (rowsFrom at (fromStore i (drop i (take count left)) store))
+      ≡ write table₀ 0 (rowsFrom 0 (fromStore 0 (take count left) store))
   pub fit : fitLeft (drop i (take count left)) ≡ true
 
 -- the message of an entry
 abbrev pub entryOf : ℕ → List ℕ → List ℕ → Message
-entryOf i x store = record { id = getD x 0 0; name = take (getD x 1 0) (drop (160 * i) store); body = take (getD x 2 0) (drop (160 * i + 32) store) }
+entryOf i x store = record {
+  id = getD x 0 0;
+  name = take (getD x 1 0) (drop (160 * i) store);
+  body =
+      take (getD x 2 0) (drop (160 * i + 32) store);
+}
 
 -- .. as the code's slices have it
 abbrev pub slicedOf : ℕ → List ℕ → List ℕ → Message
-slicedOf i x store = record { id = getD x 0 0; name = take (160 * i + getD x 1 0 - 160 * i) (drop (160 * i) store); body = take (160 * i + 32 + getD x 2 0 - (160 * i + 32)) (drop (160 * i + 32) store) }
+slicedOf i x store = record {
+  id = getD x 0 0;
+  name = take (160 * i + getD x 1 0 - 160 * i) (drop (160 * i) store);
+  body = take (160 * i + 32 + getD x 2 0 - (160 * i + 32)) (drop (160 * i + 32) store);
+}
 
 same-entry : (i : ℕ) (x store : List ℕ) → slicedOf i x store ≡ entryOf i x store
 same-entry i x store =
@@ -196,23 +242,30 @@ pub record FitRow (x : List ℕ) (xs : List (List ℕ)) : Type 0 where
 fit-row : (x : List ℕ) (xs : List (List ℕ)) → fitLeft (x ∷ xs) ≡ true → FitRow x xs
 unfolding fitLeft
 fit-row x xs e =
-    let f : (leb (getD x 1 0) 32 && leb (getD x 2 0) 128) ≡ true = and-left (leb (getD x 1 0) 32 && leb (getD x 2 0) 128) (fitLeft xs) e in
+    let f : (leb (getD x 1 0) 32 && leb (getD x 2 0) 128) ≡ true = and-left (leb (getD x 1 0) 32 && leb (getD x 2 0)
+    128) (fitLeft xs) e in
     record {
       name = leb-true (getD x 1 0) 32 (and-left (leb (getD x 1 0) 32) (leb (getD x 2 0) 128) f);
       body = leb-true (getD x 2 0) 128 (and-right (leb (getD x 1 0) 32) (leb (getD x 2 0) 128) f);
       others = and-right (leb (getD x 1 0) 32 && leb (getD x 2 0) 128) (fitLeft xs) e;
     }
 
-module _ {log₀ : List ℕ} {table₀ : List (List ℕ)} {store : List ℕ} {left : List (List ℕ)} {count : ℕ} {log : List ℕ} {table : List (List ℕ)} {at i : ℕ} (s : Imaging log₀ table₀ store left count log table at i) where
-  pub imaging-ends : drop i (take count left) ≡ [] → _≡_ {A = Imaged} (record { log = log; table = table; size = at }) (imaged log₀ table₀ (fromStore 0 (take count left) store))
+module _ {log₀ : List ℕ} {table₀ : List (List ℕ)} {store : List ℕ} {left : List (List ℕ)} {count : ℕ} {log : List ℕ}
+    {table : List (List ℕ)} {at i : ℕ} (s : Imaging log₀ table₀ store left count log table at i) where
+  pub imaging-ends : drop i (take count left) ≡ [] → _≡_ {A = Imaged} (record { log = log; table = table; size = at })
+      (imaged log₀ table₀ (fromStore 0 (take count left) store))
   unfolding fromStore image rowsFrom
   imaging-ends e =
-      let b : log ≡ write log₀ 0 (image (fromStore 0 (take count left) store)) = sym (ap (λ l. write log at (image (fromStore i l store))) e ∙ write-none log at) ∙ s .bytes in
-      let t : table ≡ write table₀ 0 (rowsFrom 0 (fromStore 0 (take count left) store)) = sym (ap (λ l. write table i (rowsFrom at (fromStore i l store))) e ∙ write-none table i) ∙ s .rows in
-      let n : at ≡ length (image (fromStore 0 (take count left) store)) = omega (arith, s .ends, ap (λ l. length (image (fromStore i l store))) e) in
+      let b : log ≡ write log₀ 0 (image (fromStore 0 (take count left) store)) =
+      sym (ap (λ l. write log at (image (fromStore i l store))) e ∙ write-none log at) ∙ s .bytes in
+      let t : table ≡ write table₀ 0 (rowsFrom 0 (fromStore 0 (take count left) store)) =
+      sym (ap (λ l. write table i (rowsFrom at (fromStore i l store))) e ∙ write-none table i) ∙ s .rows in
+      let n : at ≡ length (image (fromStore 0 (take count left) store)) =
+      omega (arith, s .ends, ap (λ l. length (image (fromStore i l store))) e) in
       rw (b, t, n) refl
 
-  module _ (x : List ℕ) (h : i < count) (l : i < length table) (e : drop i (take count left) ≡ x ∷ drop (i + 1) (take count left)) where
+  module _ (x : List ℕ) (h : i < count) (l : i < length table) (e : drop i (take count left)
+      ≡ x ∷ drop (i + 1) (take count left)) where
     abbrev rest : List Message
     rest = fromStore (i + 1) (drop (i + 1) (take count left)) store
 
@@ -221,7 +274,8 @@ module _ {log₀ : List ℕ} {table₀ : List (List ℕ)} {store : List ℕ} {le
 
     here : fromStore i (drop i (take count left)) store ≡ m ∷ rest
     unfolding fromStore
-    here = ap (λ y. fromStore i y store) e ∙ ap (λ k. m ∷ fromStore k (drop (i + 1) (take count left)) store) (sym (add-one i))
+    here = ap (λ y. fromStore i y store) e ∙ ap (λ k. m ∷ fromStore k (drop (i + 1) (take count left)) store)
+        (sym (add-one i))
 
     pub imaging-fits : FitRow x (drop (i + 1) (take count left))
     imaging-fits = fit-row x (drop (i + 1) (take count left)) (ap fitLeft (sym e) ∙ s .fit)
@@ -230,36 +284,45 @@ module _ {log₀ : List ℕ} {table₀ : List (List ℕ)} {store : List ℕ} {le
     unfolding image
     split = ap (λ y. length (image y)) here ∙ length-append (recordLine m) (image rest)
 
-    module _ (last : List ℕ) (r : Measure) (f : _≡_ {A = Filled} (record { bytes = last; answer = r }) (filled (take (length log - at) (drop at log)) (recordLine (slicedOf i x store)))) (n : ℕ) (q : n ≡ lenOf r) where
-      filled-here : _≡_ {A = Filled} (record { bytes = last; answer = r }) (filled (take (length log - at) (drop at log)) (recordLine m))
-      filled-here = f ∙ ap (λ y. filled (take (length log - at) (drop at log)) (recordLine y)) (same-entry i x store)
+    module _ (last : List ℕ) (r : Measure) (f : _≡_ {A = Filled} (record { bytes = last; answer = r })
+        (filled (take (length log - at) (drop at log)) (recordLine (slicedOf i x store)))) (n : ℕ) (q : n ≡ lenOf r)
+      where
+        filled-here : _≡_ {A = Filled} (record { bytes = last; answer = r })
+            (filled (take (length log - at) (drop at log)) (recordLine m))
+        filled-here = f ∙ ap (λ y. filled (take (length log - at) (drop at log)) (recordLine y)) (same-entry i x store)
 
-      fits-here : at + length (recordLine m) ≤ length log
-      fits-here = omega (arith, s .room, split)
+        fits-here : at + length (recordLine m) ≤ length log
+        fits-here = omega (arith, s .room, split)
 
-      pub record-length : n ≡ length (recordLine m)
-      record-length =
-          let room : length (recordLine m) ≤ length (take (length log - at) (drop at log)) = simp (length-take, length-drop) (omega (arith, fits-here)) in
-          q ∙ ap lenOf (filled-answer (take (length log - at) (drop at log)) (recordLine m) last r room filled-here)
+        pub record-length : n ≡ length (recordLine m)
+        record-length =
+            let room : length (recordLine m) ≤ length (take (length log - at) (drop at log)) =
+            simp (length-take, length-drop) (omega (arith, fits-here)) in
+            q ∙ ap lenOf (filled-answer (take (length log - at) (drop at log)) (recordLine m) last r room filled-here)
 
-      pub size-fits : at + n ≤ length log
-      size-fits = omega (arith, fits-here, record-length)
+        pub size-fits : at + n ≤ length log
+        size-fits = omega (arith, fits-here, record-length)
 
-      pub imaging-more : (table' : List (List ℕ)) → table' ≡ set table i (row (getD x 0 0) at n) → Imaging log₀ table₀ store left count (putMid at (length log - at) log last) table' (at + n) (i + 1)
-      unfolding image rowsFrom
-      imaging-more table' t =
-          let put : putMid at (length log - at) log last ≡ write log at (recordLine m) = filled-part log at (recordLine m) last r fits-here filled-here in
-          let long : length (putMid at (length log - at) log last) ≡ length log = ap length put ∙ length-write log at (recordLine m) fits-here in
-          let end : at + n ≡ at + length (recordLine m) = omega (arith, record-length) in
-          let new : List ℕ = row (m .id) at (length (recordLine m)) in
-          let set-new : table' ≡ set table i new = t ∙ ap (λ k. set table i (row (m .id) at k)) record-length in
-          record {
-            long = long ∙ s .long;
-            many = ap length set-new ∙ (length-set table i new ∙ s .many);
-            within = omega arith;
-            room = omega (arith, s .room, split, record-length);
-            ends = omega (arith, s .ends, split, record-length);
-            bytes = rw (put, end) (write-write log at (recordLine m) (image rest) fits-here ∙ (ap (λ y. write log at (image y)) (sym here) ∙ s .bytes));
-            rows = rw (set-new, end) (write-cons table i new (rowsFrom (at + length (recordLine m)) rest) l ∙ (ap (λ y. write table i (rowsFrom at y)) (sym here) ∙ s .rows));
-            fit = imaging-fits .others;
-          }
+        pub imaging-more : (table' : List (List ℕ)) → table' ≡ set table i (row (getD x 0 0) at n)
+            → Imaging log₀ table₀ store left count (putMid at (length log - at) log last) table' (at + n) (i + 1)
+        unfolding image rowsFrom
+        imaging-more table' t =
+            let put : putMid at (length log - at) log last ≡ write log at (recordLine m) =
+            filled-part log at (recordLine m) last r fits-here filled-here in
+            let long : length (putMid at (length log - at) log last) ≡ length log = ap length put
+            ∙ length-write log at (recordLine m) fits-here in
+            let end : at + n ≡ at + length (recordLine m) = omega (arith, record-length) in
+            let new : List ℕ = row (m .id) at (length (recordLine m)) in
+            let set-new : table' ≡ set table i new = t ∙ ap (λ k. set table i (row (m .id) at k)) record-length in
+            record {
+              long = long ∙ s .long;
+              many = ap length set-new ∙ (length-set table i new ∙ s .many);
+              within = omega arith;
+              room = omega (arith, s .room, split, record-length);
+              ends = omega (arith, s .ends, split, record-length);
+              bytes = rw (put, end) (write-write log at (recordLine m) (image rest) fits-here
+                  ∙ (ap (λ y. write log at (image y)) (sym here) ∙ s .bytes));
+              rows = rw (set-new, end) (write-cons table i new (rowsFrom (at + length (recordLine m)) rest) l
+                  ∙ (ap (λ y. write table i (rowsFrom at y)) (sym here) ∙ s .rows));
+              fit = imaging-fits .others;
+            }

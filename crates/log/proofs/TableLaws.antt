@@ -15,36 +15,45 @@ use Rattle.text.proofs.WriteLaws.{take-written, part-take, length-part}
 use Rattle.log.specs.Log.{rowId, findRow}
 
 module _ {A : Type 0} (z : A) (rows : List A) (count i : ℕ) where
-  pub next-row : i < count → i < length rows → drop i (take count rows) ≡ getD rows i z ∷ drop (i + 1) (take count rows)
+  pub next-row : i < count → i < length rows → drop i (take count rows) ≡ getD rows i z ∷ drop (i + 1)
+      (take count rows)
   next-row h l =
       let n : i < length (take count rows) = rw length-take (omega arith) in
-      rw add-one (drop-cons (take count rows) i z n ∙ ap (λ x. x ∷ drop (suc i) (take count rows)) (getD-take count rows i z h))
+      rw add-one (drop-cons (take count rows) i z n ∙ ap (λ x. x ∷ drop (suc i) (take count rows))
+      (getD-take count rows i z h))
 
   pub no-row : length rows ≤ i → drop i (take count rows) ≡ []
-  no-row h = let n : length (take count rows) ≤ i = rw length-take (omega arith) in drop-of-length-le (take count rows) n
+  no-row h = let n : length (take count rows) ≤ i = rw length-take (omega arith) in drop-of-length-le (take count rows)
+      n
 
   pub last-row : count ≤ i → drop i (take count rows) ≡ []
-  last-row h = let n : length (take count rows) ≤ i = rw length-take (omega arith) in drop-of-length-le (take count rows) n
+  last-row h = let n : length (take count rows) ≤ i = rw length-take (omega arith) in
+      drop-of-length-le (take count rows) n
 
 -- the rows after one was taken out of the table
-pub taken-out : {A : Type 0} (table : List A) (i n : ℕ) → i < n → n ≤ length table → take (n - 1) (write table i (part table (i + 1) n)) ≡ take i (take n table) ++ drop (suc i) (take n table)
+pub taken-out : {A : Type 0} (table : List A) (i n : ℕ) → i < n → n ≤ length table
+    → take (n - 1) (write table i (part table (i + 1) n)) ≡ take i (take n table) ++ drop (suc i) (take n table)
 taken-out table i n h l =
     let long : length (part table (i + 1) n) ≡ n - (i + 1) = length-part table (i + 1) n (omega arith) l in
     let e : n - 1 ≡ i + length (part table (i + 1) n) = omega arith in
-    let rest : part table (i + 1) n ≡ drop (i + 1) (take n table) = part-take table (i + 1) n (omega arith) (omega arith) in
+    let rest : part table (i + 1) n ≡ drop (i + 1) (take n table) = part-take table (i + 1) n (omega arith)
+    (omega arith) in
     let s : i + 1 ≡ suc i = omega arith in
     ap (λ k. take k (write table i (part table (i + 1) n))) e
     ∙ (take-written table i (part table (i + 1) n) (omega arith)
-    ∙ (ap (λ x. take i table ++ x) (rest ∙ ap (λ k. drop k (take n table)) s) ∙ ap (λ x. x ++ drop (suc i) (take n table)) (sym (take-take i n table (omega arith)))))
+    ∙ (ap (λ x. take i table ++ x) (rest ∙ ap (λ k. drop k (take n table)) s)
+    ∙ ap (λ x. x ++ drop (suc i) (take n table)) (sym (take-take i n table (omega arith)))))
 
 -- the rows after one was put in at place i, before those up to place n
-pub put-in : {A : Type 0} (table : List A) (i n : ℕ) (e : A) → i ≤ n → n < length table → take (n + 1) (write table i (e ∷ part table i n)) ≡ take i (take n table) ++ e ∷ drop i (take n table)
+pub put-in : {A : Type 0} (table : List A) (i n : ℕ) (e : A) → i ≤ n → n < length table
+    → take (n + 1) (write table i (e ∷ part table i n)) ≡ take i (take n table) ++ e ∷ drop i (take n table)
 put-in table i n e h l =
     let long : length (part table i n) ≡ n - i = length-part table i n h (omega arith) in
     let k : n + 1 ≡ i + length (e ∷ part table i n) = omega arith in
     ap (λ j. take j (write table i (e ∷ part table i n))) k
     ∙ (take-written table i (e ∷ part table i n) (omega arith)
-    ∙ (ap (λ x. take i table ++ e ∷ x) (part-take table i n h (omega arith)) ∙ ap (λ x. x ++ e ∷ drop i (take n table)) (sym (take-take i n table h))))
+    ∙ (ap (λ x. take i table ++ e ∷ x) (part-take table i n h (omega arith)) ∙ ap (λ x. x ++ e ∷ drop i (take n table))
+    (sym (take-take i n table h))))
 
 -- the search for an id
 module _ (i id : ℕ) (rs : List (List ℕ)) where
@@ -56,7 +65,8 @@ module _ (i id : ℕ) (rs : List (List ℕ)) where
   unfolding findRow
   found-here r more e h = let t : eqb (rowId r) id ≡ true = eq-eqb (rowId r) id h in cc
 
-  pub found-later : (r : List ℕ) (more : List (List ℕ)) → rs ≡ r ∷ more → (rowId r ≡ id → ⊥) → findRow i id rs ≡ findRow (i + 1) id more
+  pub found-later : (r : List ℕ) (more : List (List ℕ)) → rs ≡ r ∷ more → (rowId r ≡ id → ⊥) → findRow i id rs
+      ≡ findRow (i + 1) id more
   unfolding findRow
   found-later r more e h = let t : eqb (rowId r) id ≡ false = ne-eqb (rowId r) id h in rw add-one (cc)
 

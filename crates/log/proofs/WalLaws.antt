@@ -12,12 +12,16 @@ use Rattle.text.specs.Format.{Message, recordLine, doneLine}
 use Rattle.text.specs.Bytes.{write}
 use Rattle.log.specs.declared.Counters.{Counters}
 use Rattle.log.specs.declared.Order.the-variants.{Append, Replace, Flush}
-use Rattle.log.specs.declared.Refusal.the-variants.{Full, NoId, NoRoom}
-use Rattle.log.specs.declared.Answer.the-variants.{Ordered, Nothing}
-use Rattle.log.specs.declared.Stepped.{Stepped}
+use Rattle.log.specs.declared.Refusal.the-variants.{TooLong, Full, NoId, NoRoom}
+use Rattle.log.specs.declared.Answer.the-variants.{Ordered}
+use Rattle.log.specs.declared.Due.the-variants as due
+use Rattle.log.specs.declared.SteppedDue.{SteppedDue}
 use Rattle.log.specs.declared.table.Found.the-variants.{At, Missing}
-use Rattle.log.specs.Log.{row, Wal, state, openRows, Did, turnedAway, extended, squeezed, settled, compacted, withRecord, logged, newMessage, appendRefusal, appended, appendOf, findRow, withoutRow, keeps, markedDone, markOf, syncOf}
+use Rattle.log.specs.Log.{row, Wal, state, openRows, Did, DidMark, turnedAway, extended, squeezed, settled}
+use Rattle.log.specs.Log.{compacted, withRecord, logged, newMessage, appendRefusal, appended, appendOf, findRow}
+use Rattle.log.specs.Log.{withoutRow, keeps, markedDone, markOf, syncOf}
 use Rattle.log.specs.Table.{foundOf}
+use Rattle.log.specs.Opening.{fits}
 use Rattle.log.proofs.OpeningLaws.{and-left}
 
 -- whether a done line is appended
@@ -39,53 +43,112 @@ module _ (limit long live to : ℕ) where
   keeps-live h l = at (ltb (to / 2) live) refl
     where
       at : (t : Bool) → ltb (to / 2) live ≡ t → (leb to long && ltb to (max limit (2 * live))) ≡ ltb (to / 2) live
-      at true e = let less = ltb-true (to / 2) live e in cc (le-leb to long h, lt-ltb to (max limit (2 * live)) (omega arith))
-      at false e = let more = ltb-false (to / 2) live e in cc (le-leb to long h, le-ltb to (max limit (2 * live)) (omega arith))
+      at true e = let less = ltb-true (to / 2) live e in cc (
+        le-leb to long h,
+        lt-ltb to (max limit (2 * live))
+            (omega arith),
+      )
+      at false e = let more = ltb-false (to / 2) live e in cc (
+        le-leb to long h,
+        le-ltb to (max limit (2 * live))
+            (omega arith),
+      )
 
 -- the rewrite
-pub compacted-is : (log log' : List ℕ) (rows rows' : List (List ℕ)) (c : Counters) → log' ≡ squeezed (take (c .count) rows) 0 log → rows' ≡ write rows 0 (settled (length log) (take (c .count) rows) 0)
-    → state log' rows' (record { next = c .next; live = c .live; size = c .live; dirty = c .dirty; count = c .count }) ≡ compacted (state log rows c)
+pub compacted-is : (log log' : List ℕ) (rows rows' : List (List ℕ)) (c : Counters) → log'
+    ≡ squeezed (take (c .count) rows) 0 log → rows' ≡ write rows 0 (settled (length log) (take (c .count) rows) 0)
+    → state log' rows' (record { next = c .next; live = c .live; size = c .live; dirty = c .dirty; count = c .count })
+    ≡ compacted (state log rows c)
 unfolding compacted
 compacted-is log log' rows rows' c p q = rw (p, q) refl
 
 -- append
-pub logged-is : (log log' : List ℕ) (rows rows' : List (List ℕ)) (c : Counters) (m : Message) (len : ℕ) → len ≡ length (recordLine m) → log' ≡ write log (c .size) (recordLine m) → rows' ≡ set rows (c .count) (row (m .id) (c .size) len)
-    → state log' rows' (record { next = c .next + 1; live = c .live + len; size = c .size + len; dirty = true; count = c .count + 1 }) ≡ logged (state log rows c) m
+pub logged-is : (log log' : List ℕ) (rows rows' : List (List ℕ)) (c : Counters) (m : Message) (len : ℕ) → len
+    ≡ length (recordLine m) → log' ≡ write log (c .size) (recordLine m) → rows'
+    ≡ set rows (c .count) (row (m .id) (c .size) len)
+    → state log' rows' (record {
+      next = c .next + 1;
+      live = c .live + len;
+      size = c .size + len;
+      dirty = true;
+      count =
+          c .count + 1;
+    }) ≡ logged (state log rows c) m
 unfolding extended withRecord
 logged-is log log' rows rows' c m len e p q = rw (p, q, e) refl
 
 module _ (w after : Wal) (m : Message) (len : ℕ) (e : len ≡ length (recordLine m)) where
   pub appended-behind : leb (w .counters .size + len) (length (w .bytes)) ≡ true → after ≡ logged w m
-      → _≡_ {A = Did} (record { wal = after; answer = Ordered (Append (w .counters .size) (w .counters .size + len)) }) (appended w m)
+      → _≡_ {A = Did} (record { wal = after; answer = Ordered (Append (w .counters .size) (w .counters .size + len)) })
+      (appended w m)
   unfolding appended
-  appended-behind t a = let yes : leb (w .counters .size + length (recordLine m)) (length (w .bytes)) ≡ true = rw e at t in cc
+  appended-behind t a = let yes : leb (w .counters .size + length (recordLine m)) (length (w .bytes))
+      ≡ true = rw e at t in cc
 
   pub appended-anew : leb (w .counters .size + len) (length (w .bytes)) ≡ false → after ≡ logged (compacted w) m
       → _≡_ {A = Did} (record { wal = after; answer = Ordered (Replace (w .counters .live + len)) }) (appended w m)
   unfolding appended
-  appended-anew t a = let no : leb (w .counters .size + length (recordLine m)) (length (w .bytes)) ≡ false = rw e at t in cc
+  appended-anew t a = let no : leb (w .counters .size + length (recordLine m)) (length (w .bytes)) ≡ false =
+      rw e at t in cc
 
 module _ (w : Wal) (name body : List ℕ) where
   abbrev m : Message
   m = newMessage w name body
 
-  pub append-full : length (w .table) ≤ w .counters .count → turnedAway w Full ≡ appendOf w name body
-  unfolding appendOf appendRefusal
-  append-full h = cc (le-ltb (w .counters .count) (length (w .table)) h)
+  pub append-long-name : 32 < length name → turnedAway w TooLong ≡ appendOf w name body
+  unfolding appendOf appendRefusal fits
+  append-long-name h = cc (lt-leb (length name) 32 h)
 
-  module _ (few : w .counters .count < length (w .table)) where
-    pub append-no-id : 2 ^ 64 - 1 ≤ w .counters .next → turnedAway w NoId ≡ appendOf w name body
+  pub append-long-body : 128 < length body → turnedAway w TooLong ≡ appendOf w name body
+  unfolding appendOf appendRefusal fits
+  append-long-body h = at (leb (length name) 32) refl
+    where
+      at : (t : Bool) → leb (length name) 32 ≡ t → turnedAway w TooLong ≡ appendOf w name body
+      at true e = cc (lt-leb (length body) 128 h)
+      at false e = cc
+
+  module _ (small : length name ≤ 32) (short : length body ≤ 128) where
+    fit : fits m ≡ true
+    unfolding fits
+    fit = cc (le-leb (length name) 32 small, le-leb (length body) 128 short)
+
+    pub append-full : length (w .table) ≤ w .counters .count → turnedAway w Full ≡ appendOf w name body
     unfolding appendOf appendRefusal
-    append-no-id h = cc (lt-ltb (w .counters .count) (length (w .table)) few, le-ltb (w .counters .next) (2 ^ 64 - 1) h)
+    append-full h = cc (fit, le-ltb (w .counters .count) (length (w .table)) h)
 
-    module _ (id : w .counters .next < 2 ^ 64 - 1) where
-      pub append-no-room : length (w .bytes) < w .counters .live + length (recordLine m) → turnedAway w NoRoom ≡ appendOf w name body
+    module _ (few : w .counters .count < length (w .table)) where
+      pub append-no-id : 2 ^ 64 - 1 ≤ w .counters .next → turnedAway w NoId ≡ appendOf w name body
       unfolding appendOf appendRefusal
-      append-no-room h = cc (lt-ltb (w .counters .count) (length (w .table)) few, lt-ltb (w .counters .next) (2 ^ 64 - 1) id, lt-leb (w .counters .live + length (recordLine m)) (length (w .bytes)) h)
+      append-no-id h = cc (
+        fit,
+        lt-ltb (w .counters .count) (length (w .table)) few,
+        le-ltb (w .counters .next)
+            (2 ^ 64 - 1) h,
+      )
 
-      pub append-goes : w .counters .live + length (recordLine m) ≤ length (w .bytes) → appended w m ≡ appendOf w name body
-      unfolding appendOf appendRefusal
-      append-goes h = cc (lt-ltb (w .counters .count) (length (w .table)) few, lt-ltb (w .counters .next) (2 ^ 64 - 1) id, le-leb (w .counters .live + length (recordLine m)) (length (w .bytes)) h)
+      module _ (id : w .counters .next < 2 ^ 64 - 1) where
+        abbrev more : ℕ
+        more = w .counters .live + length (recordLine m)
+
+        pub append-no-room : length (w .bytes) < more → turnedAway w NoRoom ≡ appendOf w name body
+        unfolding appendOf appendRefusal
+        append-no-room h =
+            cc (
+              fit,
+              lt-ltb (w .counters .count) (length (w .table)) few,
+              lt-ltb (w .counters .next) (2 ^ 64 - 1) id,
+              lt-leb more (length (w .bytes)) h,
+            )
+
+        pub append-goes : more ≤ length (w .bytes) → appended w m ≡ appendOf w name body
+        unfolding appendOf appendRefusal
+        append-goes h =
+            cc (
+              fit,
+              lt-ltb (w .counters .count) (length (w .table)) few,
+              lt-ltb (w .counters .next) (2 ^ 64 - 1) id,
+              le-leb more (length (w .bytes)) h,
+            )
 
 -- mark
 pub found-missing : (o : Option ℕ) → Missing ≡ foundOf o → o ≡ none
@@ -96,38 +159,64 @@ pub found-at : (i : ℕ) (o : Option ℕ) → At i ≡ foundOf o → o ≡ some 
 found-at i none e = let z : _≡_ {A = ℕ} 0 1 = cc in absurd (omega arith)
 found-at i (some j) e = cc
 
-pub mark-unknown : (limit : ℕ) (w : Wal) (id : ℕ) → findRow 0 id (openRows w) ≡ none → record { wal = w; answer = Nothing } ≡ markOf limit w id
+pub mark-unknown : (limit : ℕ) (w : Wal) (id : ℕ) → findRow 0 id (openRows w) ≡ none
+    → record { wal = w; due = due.Nothing } ≡ markOf limit w id
 unfolding markOf
 mark-unknown limit w id e = rw e refl
 
-pub mark-known : (limit : ℕ) (w : Wal) (id i : ℕ) → findRow 0 id (openRows w) ≡ some i → markedDone limit (withoutRow w i) id ≡ markOf limit w id
+pub mark-known : (limit : ℕ) (w : Wal) (id i : ℕ) → findRow 0 id (openRows w) ≡ some i
+    → markedDone limit (withoutRow w i) id ≡ markOf limit w id
 unfolding markOf
 mark-known limit w id i e = rw e refl
 
 -- a row taken out, whatever the bytes
-pub without-any : (log : List ℕ) (rows rows' : List (List ℕ)) (c c' : Counters) (i : ℕ) → state [] rows' c' ≡ withoutRow (state [] rows c) i → state log rows' c' ≡ withoutRow (state log rows c) i
+pub without-any : (log : List ℕ) (rows rows' : List (List ℕ)) (c c' : Counters) (i : ℕ) → state [] rows' c'
+    ≡ withoutRow (state [] rows c) i → state log rows' c' ≡ withoutRow (state log rows c) i
 unfolding withoutRow
 without-any log rows rows' c c' i e = ap (λ v. state log (v .table) (v .counters)) e
 
 module _ (limit : ℕ) (w : Wal) (id n : ℕ) (e : n ≡ length (doneLine id)) where
-  pub marked-behind : keeps limit (length (w .bytes)) (w .counters .live) (w .counters .size + n) ≡ true → (log' : List ℕ) → log' ≡ write (w .bytes) (w .counters .size) (doneLine id)
-      → _≡_ {A = Did} (record {
-        wal = state log' (w .table) (record { next = w .counters .next; live = w .counters .live; size = w .counters .size + n; dirty = w .counters .dirty; count = w .counters .count });
-        answer = Ordered (Append (w .counters .size) (w .counters .size + n));
+  pub marked-behind : keeps limit (length (w .bytes)) (w .counters .live) (w .counters .size + n) ≡ true
+      → (log' : List ℕ) → log' ≡ write (w .bytes) (w .counters .size) (doneLine id)
+      → _≡_ {A = DidMark} (record {
+        wal = state log' (w .table) (record {
+          next = w .counters .next;
+          live = w .counters .live;
+          size =
+              w .counters .size + n;
+          dirty = w .counters .dirty;
+          count = w .counters .count;
+        });
+        due = due.Ordered (Append (w .counters .size) (w .counters .size + n));
       }) (markedDone limit w id)
   unfolding markedDone extended
-  marked-behind t log' p = let yes : keeps limit (length (w .bytes)) (w .counters .live) (w .counters .size + length (doneLine id)) ≡ true = rw e at t in cc
+  marked-behind t log' p = let yes : keeps limit (length (w .bytes)) (w .counters .live) (w .counters .size + length
+      (doneLine id)) ≡ true = rw e at t in cc
 
-  pub marked-anew : keeps limit (length (w .bytes)) (w .counters .live) (w .counters .size + n) ≡ false → (after : Wal) → after ≡ compacted w
-      → _≡_ {A = Did} (record { wal = after; answer = Ordered (Replace (w .counters .live)) }) (markedDone limit w id)
+  pub marked-anew : keeps limit (length (w .bytes)) (w .counters .live) (w .counters .size + n) ≡ false → (after : Wal)
+      → after ≡ compacted w
+      → _≡_ {A = DidMark} (record { wal = after; due = due.Ordered (Replace (w .counters .live)) })
+      (markedDone limit w id)
   unfolding markedDone
-  marked-anew t after a = let no : keeps limit (length (w .bytes)) (w .counters .live) (w .counters .size + length (doneLine id)) ≡ false = rw e at t in cc
+  marked-anew t after a = let no : keeps limit (length (w .bytes)) (w .counters .live) (w .counters .size + length
+      (doneLine id)) ≡ false = rw e at t in cc
 
 -- sync
-pub sync-dirty : (c : Counters) → c .dirty ≡ true → _≡_ {A = Stepped} (record { counters = record { next = c .next; live = c .live; size = c .size; dirty = false; count = c .count }; answer = Ordered Flush }) (syncOf c)
+pub sync-dirty : (c : Counters) → c .dirty ≡ true
+    → _≡_ {A = SteppedDue} (record {
+      counters = record {
+        next = c .next;
+        live = c .live;
+        size = c .size;
+        dirty = false;
+        count = c .count;
+      };
+      due = due.Ordered Flush;
+    }) (syncOf c)
 unfolding syncOf
 sync-dirty c e = rw e refl
 
-pub sync-clean : (c : Counters) → c .dirty ≡ false → _≡_ {A = Stepped} (record { counters = c; answer = Nothing }) (syncOf c)
+pub sync-clean : (c : Counters) → c .dirty ≡ false → _≡_ {A = SteppedDue} (record { counters = c; due = due.Nothing })
+    (syncOf c)
 unfolding syncOf
 sync-clean c e = cc

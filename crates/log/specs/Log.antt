@@ -1,4 +1,5 @@
--- The log's state, and what each call makes of it (01, "Log"). Every definition is total: on any bytes, any table and any counters.
+-- The log's state, and what each call makes of it (docs/RULES.md, 2). Every definition is total: on any bytes, any
+-- table and any counters.
 use mathlib.Core.Bool.{Bool, true, false, _&&_}
 use mathlib.Core.Option.{Option, none, some}
 use mathlib.Core.List.{List, [], _∷_}
@@ -11,16 +12,20 @@ use Rattle.text.specs.Bytes.{write, part}
 use Rattle.log.specs.declared.Counters.{Counters}
 use Rattle.log.specs.declared.Order.the-variants.{Append, Replace, Flush}
 use Rattle.log.specs.declared.Refusal.{Refusal}
-use Rattle.log.specs.declared.Refusal.the-variants.{Sizes, LastId, TooMuch, Full, NoId, NoRoom}
+use Rattle.log.specs.declared.Refusal.the-variants.{Sizes, LastId, TooMuch, TooLong, Full, NoId, NoRoom}
 use Rattle.log.specs.declared.Answer.{Answer}
-use Rattle.log.specs.declared.Answer.the-variants.{Ordered, Nothing, Refused}
-use Rattle.log.specs.declared.Stepped.{Stepped}
+use Rattle.log.specs.declared.Answer.the-variants.{Ordered, Refused}
+use Rattle.log.specs.declared.Due.{Due}
+use Rattle.log.specs.declared.Due.the-variants as due
+use Rattle.log.specs.declared.SteppedDue.{SteppedDue}
+use Rattle.log.specs.Opening.{fits}
 
--- 01's number of each refusal (a full table: 256 messages are logged and live)
+-- the number of each refusal (docs/RULES.md, 8; a full table: 256 messages are logged and live)
 abbrev pub numberOf : Refusal → ℕ
 numberOf Sizes = 2
 numberOf LastId = 3
 numberOf TooMuch = 4
+numberOf TooLong = 5
 numberOf Full = 8
 numberOf NoId = 9
 numberOf NoRoom = 10
@@ -38,7 +43,8 @@ rowAt r = getD r 1 0
 abbrev pub rowLen : List ℕ → ℕ
 rowLen r = getD r 2 0
 
--- bytes: the lent log, whose length is L; its first `size` bytes are the file. table: the lent table; its first `count` rows are the open records.
+-- bytes: the lent log, whose length is L; its first `size` bytes are the file. table: the lent table; its first
+-- `count` rows are the open records.
 pub record Wal : Type 0 where
   pub bytes : List ℕ
   pub table : List (List ℕ)
@@ -50,10 +56,15 @@ state bytes table counters = record { bytes = bytes; table = table; counters = c
 abbrev pub openRows : Wal → List (List ℕ)
 openRows w = take (w .counters .count) (w .table)
 
--- the log after a call, and the answer
+-- the log after an append, and the answer
 pub record Did : Type 0 where
   pub wal : Wal
   pub answer : Answer
+
+-- the log after a mark, and the order that is due
+pub record DidMark : Type 0 where
+  pub wal : Wal
+  pub due : Due
 
 abbrev pub turnedAway : Wal → Refusal → Did
 turnedAway w r = record { wal = w; answer = Refused r }
@@ -106,7 +117,8 @@ compacted w = record {
   };
 }
 
--- one message more: its row behind the others, for the record that begins at the first free byte; the next id rises by 1
+-- one message more: its row behind the others, for the record that begins at the first free byte; the next id rises
+-- by 1
 unfoldable pub withRecord : Wal → Message → Wal
 withRecord w m = record {
   bytes = w .bytes;
@@ -127,22 +139,28 @@ logged w m = extended (withRecord w m) (recordLine m)
 abbrev pub newMessage : Wal → List ℕ → List ℕ → Message
 newMessage w name body = record { id = w .counters .next; name = name; body = body }
 
--- turned away: the table is full, no id is left, or the open records and this one would not fit
+-- turned away: the name or the body is too long, the table is full, no id is left, or the open records and this one
+-- would not fit
 unfoldable pub appendRefusal : Wal → Message → Option Refusal
-appendRefusal w m = elim (ltb (w .counters .count) (length (w .table))) [
-  | false ↦ some Full
+appendRefusal w m = elim (fits m) [
+  | false ↦ some TooLong
   | true ↦
-      elim (ltb (w .counters .next) (2 ^ 64 - 1)) [
-        | false ↦ some NoId
+      elim (ltb (w .counters .count) (length (w .table))) [
+        | false ↦ some Full
         | true ↦
-            elim (leb (w .counters .live + length (recordLine m)) (length (w .bytes))) [
-              | false ↦ some NoRoom
-              | true ↦ none
+            elim (ltb (w .counters .next) (2 ^ 64 - 1)) [
+              | false ↦ some NoId
+              | true ↦
+                  elim (leb (w .counters .live + length (recordLine m)) (length (w .bytes))) [
+                    | false ↦ some NoRoom
+                    | true ↦ none
+                  ]
             ]
       ]
 ]
 
--- the record behind the others; where it has no room there, done records are dropped first, and all goes out as one replace
+-- the record behind the others; where it has no room there, done records are dropped first, and all goes out as one
+-- replace
 unfoldable pub appended : Wal → Message → Did
 appended w m = elim (leb (w .counters .size + length (recordLine m)) (length (w .bytes))) [
   | true ↦ record {
@@ -159,7 +177,7 @@ abbrev pub appendJudged : Wal → Message → Option Refusal → Did
 appendJudged w m none = appended w m
 appendJudged w m (some r) = turnedAway w r
 
--- Append: a message is logged under the next id
+-- Append: a message is logged under the next id, or turned away
 unfoldable pub appendOf : Wal → List ℕ → List ℕ → Did
 appendOf w name body = appendJudged w (newMessage w name body) (appendRefusal w (newMessage w name body))
 
@@ -193,29 +211,33 @@ withoutRow w i = record {
 unfoldable pub keeps : ℕ → ℕ → ℕ → ℕ → Bool
 keeps compactAt long live to = leb to long && ltb to (max compactAt (2 * live))
 
-unfoldable pub markedDone : ℕ → Wal → ℕ → Did
-markedDone compactAt w id = elim (keeps compactAt (length (w .bytes)) (w .counters .live) (w .counters .size + length (doneLine id))) [
+-- the size that the log would have with the done line of an id
+abbrev pub withDone : Wal → ℕ → ℕ
+withDone w id = w .counters .size + length (doneLine id)
+
+unfoldable pub markedDone : ℕ → Wal → ℕ → DidMark
+markedDone compactAt w id = elim (keeps compactAt (length (w .bytes)) (w .counters .live) (withDone w id)) [
   | true ↦ record {
     wal = extended w (doneLine id);
-    answer = Ordered (Append (w .counters .size) (w .counters .size + length (doneLine id)));
+    due = due.Ordered (Append (w .counters .size) (w .counters .size + length (doneLine id)));
   }
-  | false ↦ record { wal = compacted w; answer = Ordered (Replace (w .counters .live)) }
+  | false ↦ record { wal = compacted w; due = due.Ordered (Replace (w .counters .live)) }
 ]
 
-abbrev pub markFound : ℕ → Wal → ℕ → Option ℕ → Did
-markFound compactAt w id none = record { wal = w; answer = Nothing }
+abbrev pub markFound : ℕ → Wal → ℕ → Option ℕ → DidMark
+markFound compactAt w id none = record { wal = w; due = due.Nothing }
 markFound compactAt w id (some i) = markedDone compactAt (withoutRow w i) id
 
 -- Mark: an id that is not open does nothing; else its message is done
-unfoldable pub markOf : ℕ → Wal → ℕ → Did
+unfoldable pub markOf : ℕ → Wal → ℕ → DidMark
 markOf compactAt w id = markFound compactAt w id (findRow 0 id (openRows w))
 
 -- Sync: a flush is ordered only where a record was appended since the last one
-unfoldable pub syncOf : Counters → Stepped
+unfoldable pub syncOf : Counters → SteppedDue
 syncOf c = elim (c .dirty) [
   | true ↦ record {
     counters = record { next = c .next; live = c .live; size = c .size; dirty = false; count = c .count };
-    answer = Ordered Flush;
+    due = due.Ordered Flush;
   }
-  | false ↦ record { counters = c; answer = Nothing }
+  | false ↦ record { counters = c; due = due.Nothing }
 ]

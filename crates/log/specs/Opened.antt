@@ -23,11 +23,14 @@ pub record Opened : Type 0 where
   pub left : List (List ℕ)
   pub step : Stepped
 
--- the lent sizes: a log of 16 to 65,536 bytes with the file in it, a store of 256 entries of 160 bytes, tables of 256 rows
+-- the lent sizes: a log of 16 to 65,536 bytes with the file in it, a store of 256 entries of 160 bytes, tables of 256
+-- rows
 unfoldable pub sized : ℕ → ℕ → ℕ → ℕ → ℕ → Bool
-sized log n store table left = leb 16 log && leb log 65536 && leb n log && eqb store 40960 && eqb table 256 && eqb left 256
+sized log n store table left =
+    leb 16 log && leb log 65536 && leb n log && eqb store 40960 && eqb table 256 && eqb left 256
 
--- a message in an entry of the store: the name at 160 times the entry, the body 32 bytes on; messages in the entries from i on
+-- a message in an entry of the store: the name at 160 times the entry, the body 32 bytes on; messages in the entries
+-- from i on
 unfoldable pub storedAt : ℕ → Message → List ℕ → List ℕ
 storedAt i m store = write (write store (160 * i) (m .name)) (160 * i + 32) (m .body)
 
@@ -49,9 +52,16 @@ noCounters = record { next = 0; live = 0; size = 0; dirty = false; count = 0 }
 
 -- turned away: nothing has changed
 abbrev pub closedBy : List ℕ → List ℕ → List (List ℕ) → List (List ℕ) → Refusal → Opened
-closedBy log store table left r = record { log = log; store = store; table = table; left = left; step = record { counters = noCounters; answer = Refused r } }
+closedBy log store table left r = record {
+  log = log;
+  store = store;
+  table = table;
+  left = left;
+  step = record { counters = noCounters; answer = Refused r };
+}
 
--- accepted: the messages left stand in the store in id order, the log is written anew from them, and the order is a replace
+-- accepted: the messages left stand in the store in id order, the log is written anew from them, and the order is a
+-- replace
 abbrev pub openedBy : List ℕ → List ℕ → List (List ℕ) → List (List ℕ) → Read → Opened
 openedBy log store table left r = record {
   log = write log 0 (image (r .left));

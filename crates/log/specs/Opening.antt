@@ -1,4 +1,5 @@
--- Opening a log (01, "Log"): the messages left by a file, the next id, and the two refusals that a file can cause.
+-- Opening a log (docs/RULES.md, 2): the messages left by a file, the next id, and the two refusals that a file can
+-- cause.
 use mathlib.Core.Bool.{Bool, true, false, _&&_}
 use mathlib.Core.List.{List, [], _∷_, _++_}
 use Prim.Native.Nat.{ℕ, suc, _+_, _^_, _≤_, max}
@@ -61,7 +62,8 @@ pub data Opening : Type 0 where
   refused : Refusal → Opening
   opened : Read → Opening
 
--- refused where a record has the id 2 ^ 64 - 1 (so that there is no next id), then where more than 256 messages are left or one is too long
+-- refused where a record has the id 2 ^ 64 - 1 (so that there is no next id), then where more than 256 messages are
+-- left or one is too long
 unfoldable pub judge : Read → Opening
 judge r = elim (ltb (r .next) (2 ^ 64)) [
   | false ↦ refused LastId

@@ -1,7 +1,8 @@
--- What may be on the disk after a power cut, the moments of a list of calls, and what the next opening may then find (01, "Log": write rule, moments).
+-- What may be on the disk after a power cut, the moments of a list of calls, and what the next opening may then find
+-- (docs/RULES.md, 3).
 use mathlib.Core.Path.{_≡_}
-use mathlib.Core.Bool.{true, false}
 use mathlib.Core.Logic.{_⊎_}
+use mathlib.Core.Option.{Option, none, some}
 use mathlib.Core.List.{List, [], _∷_, _++_, List·Memᴰ}
 use Prim.Native.Nat.{ℕ, _-_, _≤_}
 use lib.ListN.{length, take, drop}
@@ -10,10 +11,12 @@ use Rattle.text.specs.Bytes.{part}
 use Rattle.log.specs.declared.Order.{Order}
 use Rattle.log.specs.declared.Order.the-variants.{Append, Replace, Flush}
 use Rattle.log.specs.declared.Answer.{Answer}
-use Rattle.log.specs.declared.Answer.the-variants.{Ordered, Nothing, Refused}
-use Rattle.log.specs.declared.Stepped.{Stepped}
-use Rattle.log.specs.Opening.{Read, remove, fits}
-use Rattle.log.specs.Log.{Wal, Did, newMessage, appendOf, markOf, syncOf}
+use Rattle.log.specs.declared.Answer.the-variants.{Ordered, Refused}
+use Rattle.log.specs.declared.Due.{Due}
+use Rattle.log.specs.declared.Due.the-variants as due
+use Rattle.log.specs.declared.SteppedDue.{SteppedDue}
+use Rattle.log.specs.Opening.{Read, remove}
+use Rattle.log.specs.Log.{Wal, Did, DidMark, newMessage, appendOf, markOf, syncOf}
 use Rattle.log.specs.Opened.{Opened, openedBy, openOf}
 
 -- the calls: log a message, mark an id done, sync
@@ -22,14 +25,35 @@ pub data Call : Type 0 where
   mark : ℕ → Call
   sync : Call
 
-abbrev pub syncDid : Wal → Stepped → Did
-syncDid w s = record { wal = record { bytes = w .bytes; table = w .table; counters = s .counters }; answer = s .answer }
+-- the order of an answer, and the order that is due, if any
+abbrev pub ordered : Answer → Option Order
+ordered (Ordered o) = some o
+ordered (Refused r) = none
 
--- what a call makes of the log. A name or body over its limit does not reach the log: its caller turns that away (5).
-unfoldable pub didCall : ℕ → Wal → Call → Did
-didCall compactAt w (append name body) = elim (fits (newMessage w name body)) [ true ↦ appendOf w name body | false ↦ record { wal = w; answer = Nothing } ]
-didCall compactAt w (mark id) = markOf compactAt w id
-didCall compactAt w sync = syncDid w (syncOf (w .counters))
+abbrev pub orderedDue : Due → Option Order
+orderedDue (due.Ordered o) = some o
+orderedDue due.Nothing = none
+
+-- the log after a call, and its order, if any
+pub record Called : Type 0 where
+  pub wal : Wal
+  pub order : Option Order
+
+abbrev pub byAppend : Did → Called
+byAppend d = record { wal = d .wal; order = ordered (d .answer) }
+
+abbrev pub byMark : DidMark → Called
+byMark d = record { wal = d .wal; order = orderedDue (d .due) }
+
+abbrev pub bySync : Wal → SteppedDue → Called
+bySync w s =
+    record { wal = record { bytes = w .bytes; table = w .table; counters = s .counters }; order = orderedDue (s .due) }
+
+-- what a call makes of the log, whatever its arguments
+unfoldable pub didCall : ℕ → Wal → Call → Called
+didCall compactAt w (append name body) = byAppend (appendOf w name body)
+didCall compactAt w (mark id) = byMark (markOf compactAt w id)
+didCall compactAt w sync = bySync w (syncOf (w .counters))
 
 -- an order with its bytes, taken from the log as it stands when the order goes out
 pub data Sent : Type 0 where
@@ -58,7 +82,8 @@ pub record Disk : Type 0 where
 abbrev pub Cut : List ℕ → List ℕ → List ℕ → Type 0
 Cut sure since file = (k : ℕ) × (file ≡ sure ++ take k since)
 
--- Write rule: the files that a cut may leave while an order is not confirmed (an order that failed did what an unconfirmed one may) ..
+-- Write rule: the files that a cut may leave while an order is not confirmed (an order that failed did what an
+-- unconfirmed one may) ..
 abbrev pub Unconfirmed : Sent → List ℕ → List ℕ → List ℕ → Type 0
 Unconfirmed (appending new) sure since file = Cut sure (since ++ new) file
 Unconfirmed (replacing new) sure since file = Cut sure since file ⊎ (file ≡ new)
@@ -79,13 +104,15 @@ confirm (appending new) disk = record { sure = disk .sure; since = disk .since +
 confirm (replacing new) disk = record { sure = new; since = []; status = settled }
 confirm flushing disk = record { sure = disk .sure ++ disk .since; since = []; status = settled }
 
--- the place of the moment at which the last confirmed flush or replace stands: `last` if this order is one, else `old`
+-- the place of the moment at which the last confirmed flush or replace stands: `last` if this order is one, else
+-- `old`
 unfoldable pub firmMoment : Sent → ℕ → ℕ → ℕ
 firmMoment (appending bytes) old last = old
 firmMoment (replacing bytes) old last = last
 firmMoment flushing old last = last
 
--- Moments: the messages logged and not done at the opening, and after each order that went out since. now: those of the last moment.
+-- Moments: the messages logged and not done at the opening, and after each order that went out since. now: those of
+-- the last moment.
 -- firm: the place in `moments` of the last confirmed flush or replace; without one, of the opening.
 pub record World : Type 0 where
   pub wal : Wal
@@ -94,7 +121,8 @@ pub record World : Type 0 where
   pub now : List Message
   pub firm : ℕ
 
--- what a call whose order goes out does to the messages logged and not done: a new record adds its message, with the name and body given and the next id;
+-- what a call whose order goes out does to the messages logged and not done: a new record adds its message, with the
+-- name and body given and the next id;
 -- a mark takes its message off; any other order changes nothing
 unfoldable pub effect : Wal → Call → List Message → List Message
 effect w (append name body) now = now ++ (newMessage w name body ∷ [])
@@ -111,13 +139,12 @@ issue w wal now s = record {
   firm = w .firm;
 }
 
-abbrev pub issued : World → Call → Wal → Answer → World
-issued w c wal (Ordered o) = issue w wal (effect (w .wal) c (w .now)) (sent (wal .bytes) o)
-issued w c wal Nothing = record { wal = wal; disk = w .disk; moments = w .moments; now = w .now; firm = w .firm }
-issued w c wal (Refused r) = record { wal = wal; disk = w .disk; moments = w .moments; now = w .now; firm = w .firm }
+abbrev pub issued : World → Call → Wal → Option Order → World
+issued w c wal (some o) = issue w wal (effect (w .wal) c (w .now)) (sent (wal .bytes) o)
+issued w c wal none = record { wal = wal; disk = w .disk; moments = w .moments; now = w .now; firm = w .firm }
 
-unfoldable pub called : World → Call → Did → World
-called w c did = issued w c (did .wal) (did .answer)
+unfoldable pub called : World → Call → Called → World
+called w c did = issued w c (did .wal) (did .order)
 
 -- the order is answered: stored, or failed
 unfoldable pub storedOrder : World → Sent → World
@@ -161,10 +188,10 @@ run compactAt w (e ∷ es) = run compactAt (step compactAt (w .disk .status) w e
 abbrev pub walOf : Opened → Wal
 walOf o = record { bytes = o .log; table = o .table; counters = o .step .counters }
 
--- the accepted opening of a file, which left these messages, with its replace not yet answered; the file given counts as confirmed
+-- the accepted opening of a file, which left these messages, with its replace not yet answered; the file given counts
+-- as confirmed
 abbrev pub statusOf : List ℕ → Answer → Status
 statusOf bytes (Ordered o) = waits (sent bytes o)
-statusOf bytes Nothing = settled
 statusOf bytes (Refused r) = settled
 
 unfoldable pub begin : Opened → List ℕ → List Message → World
@@ -176,15 +203,28 @@ begin o file left = record {
   firm = 0;
 }
 
--- the next opening of a file, in any lent log of this length that begins with it and with any store and tables of the right sizes, is accepted,
+-- the next opening of a file, in any lent log of this length that begins with it and with any store and tables of the
+-- right sizes, is accepted,
 -- and the messages left, handed back in rising id order, are those of one of the moments
 pub record Recovers (long : ℕ) (file : List ℕ) (moments : List (List Message)) : Type 0 where
   pub short : length file ≤ long
   pub found : Read
   pub among : List·Memᴰ (found .left) moments
-  pub accepted : (log store : List ℕ) (table left : List (List ℕ)) → length log ≡ long → take (length file) log ≡ file → length store ≡ 40960 → length table ≡ 256 → length left ≡ 256
+  pub accepted : (log store : List ℕ) (table left : List (List ℕ)) → length log ≡ long → take (length file) log ≡ file
+      → length store ≡ 40960 → length table ≡ 256 → length left ≡ 256
       → openOf log (length file) store table left ≡ openedBy log store table left found
 
 -- whatever file a cut may leave, the next opening finds a moment no earlier than the last confirmed flush or replace
 abbrev pub Recoverable : ℕ → World → Type 0
 Recoverable long w = (file : List ℕ) → Possible (w .disk) file → Recovers long file (drop (w .firm) (w .moments))
+
+-- the bytes at and after the size that a step reaches have their value from before it ..
+abbrev pub TailKept : Wal → Wal → Type 0
+TailKept before after = drop (after .counters .size) (after .bytes) ≡ drop (after .counters .size) (before .bytes)
+
+-- .. and so in every step of a run
+abbrev pub TailsKept : ℕ → World → List Event → Type 0
+TailsKept compactAt w [] = Unit {0}
+TailsKept compactAt w (e ∷ es) =
+    TailKept (w .wal) (step compactAt (w .disk .status) w e .wal)
+    × TailsKept compactAt (step compactAt (w .disk .status) w e) es

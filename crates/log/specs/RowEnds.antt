@@ -1,4 +1,5 @@
--- The row ends 1 to 7 that are marked to be proved, as one list; and the examples of the refusals that belong to the log, as another.
+-- The row ends 1 to 7 that are marked to be proved, as one list; and the examples of the refusals that belong to the
+-- log, as another.
 use mathlib.Core.Bool.{Bool, true, false, _&&_}
 use mathlib.Core.List.{List, [], _∷_, _++_}
 use Prim.Native.Nat.{ℕ, zero, suc}
@@ -6,9 +7,9 @@ use lib.Dec.{eqb}
 use lib.ListN.{length, replicate}
 use Rattle.text.specs.Format.{Message, recordLine, unescape}
 use Rattle.log.specs.declared.Answer.{Answer}
-use Rattle.log.specs.declared.Answer.the-variants.{Ordered, Nothing, Refused}
+use Rattle.log.specs.declared.Answer.the-variants.{Ordered, Refused}
 use Rattle.log.specs.Opening.{Opening, refused, opened, opening, image}
-use Rattle.log.specs.Log.{Wal, numberOf}
+use Rattle.log.specs.Log.{Wal, numberOf, appendOf}
 use Rattle.log.specs.Recovery.{Call, append, mark, didCall}
 
 unfoldable pub sameBytes : List ℕ → List ℕ → Bool
@@ -32,7 +33,6 @@ refusedBy (opened r) n = false
 
 unfoldable pub answeredBy : Answer → ℕ → Bool
 answeredBy (Ordered o) n = false
-answeredBy Nothing n = false
 answeredBy (Refused r) n = eqb (numberOf r) n
 
 unfoldable pub message : ℕ → List ℕ → List ℕ → Message
@@ -44,7 +44,11 @@ rowName = 114 ∷ 111 ∷ 119 ∷ []
 
 -- a log of l bytes with no message, and the log after calls
 unfoldable pub emptyLog : ℕ → ℕ → Wal
-emptyLog l next = record { bytes = replicate l 0; table = replicate 256 []; counters = record { next = next; live = 0; size = 0; dirty = false; count = 0 } }
+emptyLog l next = record {
+  bytes = replicate l 0;
+  table = replicate 256 [];
+  counters = record { next = next; live = 0; size = 0; dirty = false; count = 0 };
+}
 
 unfoldable pub after : ℕ → Wal → List Call → Wal
 after compactAt w [] = w
@@ -71,7 +75,8 @@ tornOne = 49 ∷ 50 ∷ 9 ∷ 114 ∷ 111 ∷ 119 ∷ 9 ∷ 120 ∷ 10 ∷ 49 �
 unfoldable pub rowEnds : List Bool
 rowEnds =
     -- 1
-    sameBytes (recordLine (message 7 rowName (97 ∷ 9 ∷ 98 ∷ []))) (55 ∷ 9 ∷ 114 ∷ 111 ∷ 119 ∷ 9 ∷ 97 ∷ 92 ∷ 116 ∷ 98 ∷ 10 ∷ []) ∷
+    sameBytes (recordLine (message 7 rowName (97 ∷ 9 ∷ 98 ∷ [])))
+    (55 ∷ 9 ∷ 114 ∷ 111 ∷ 119 ∷ 9 ∷ 97 ∷ 92 ∷ 116 ∷ 98 ∷ 10 ∷ []) ∷
     eqb (length (recordLine (message 7 rowName (97 ∷ 9 ∷ 98 ∷ [])))) 11 ∷
     sameBytes (recordLine (message 0 [] [])) (48 ∷ 9 ∷ 9 ∷ 10 ∷ []) ∷
     -- 2
@@ -81,9 +86,11 @@ rowEnds =
     -- 3
     leaves (opening doneThree) (1 ∷ []) 4 (49 ∷ 9 ∷ 114 ∷ 111 ∷ 119 ∷ 9 ∷ 121 ∷ 10 ∷ []) ∷
     -- 4
-    leaves (opening tornOne) (1 ∷ 12 ∷ []) 13 (49 ∷ 9 ∷ 114 ∷ 111 ∷ 119 ∷ 9 ∷ 121 ∷ 10 ∷ 49 ∷ 50 ∷ 9 ∷ 114 ∷ 111 ∷ 119 ∷ 9 ∷ 120 ∷ 10 ∷ []) ∷
+    leaves (opening tornOne) (1 ∷ 12 ∷ []) 13
+    (49 ∷ 9 ∷ 114 ∷ 111 ∷ 119 ∷ 9 ∷ 121 ∷ 10 ∷ 49 ∷ 50 ∷ 9 ∷ 114 ∷ 111 ∷ 119 ∷ 9 ∷ 120 ∷ 10 ∷ []) ∷
     -- 5
-    leaves (opening (43 ∷ 53 ∷ 9 ∷ 114 ∷ 111 ∷ 119 ∷ 9 ∷ 120 ∷ 10 ∷ [])) (5 ∷ []) 6 (53 ∷ 9 ∷ 114 ∷ 111 ∷ 119 ∷ 9 ∷ 120 ∷ 10 ∷ []) ∷
+    leaves (opening (43 ∷ 53 ∷ 9 ∷ 114 ∷ 111 ∷ 119 ∷ 9 ∷ 120 ∷ 10 ∷ [])) (5 ∷ []) 6
+    (53 ∷ 9 ∷ 114 ∷ 111 ∷ 119 ∷ 9 ∷ 120 ∷ 10 ∷ []) ∷
     leaves (opening (53 ∷ 9 ∷ 114 ∷ 111 ∷ 119 ∷ 10 ∷ [])) [] 0 [] ∷
     -- 6
     eqb (sizeAfter 64 20 (two ++ (mark 0 ∷ []))) 18 ∷
@@ -93,13 +100,27 @@ rowEnds =
     eqb (sizeAfter 16 64 (two ++ (mark 0 ∷ []))) 8 ∷
     []
 
--- 3: the last id; 4: 257 records; 9: opened on the last id but one; 10: the third record of 8 bytes in 16
+-- a log with no room for anything: every refusal of an append from 8 on holds
+unfoldable pub fullLog : Wal
+fullLog = record {
+  bytes = [];
+  table = [];
+  counters = record { next = 18446744073709551615; live = 0; size = 0; dirty = false; count = 0 };
+}
+
+-- 3: the last id; 4: 257 records; 5: a name of 33 bytes, a body of 129, and that before 8; 8: no free row; 9: opened
+-- on the last id but one;
+-- 10: the third record of 8 bytes in 16
 unfoldable pub refusals : List Bool
 refusals =
     refusedBy (opening (recordLine (message 18446744073709551615 (97 ∷ []) (98 ∷ [])))) 3 ∷
     refusedBy (opening (records 257 0)) 4 ∷
-    answeredBy (didCall 64 (emptyLog 64 18446744073709551615) (append [] []) .answer) 9 ∷
-    answeredBy (didCall 64 (after 64 (emptyLog 16 0) two) (append rowName (122 ∷ [])) .answer) 10 ∷
+    answeredBy (appendOf (emptyLog 64 0) (replicate 33 97) [] .answer) 5 ∷
+    answeredBy (appendOf (emptyLog 64 0) [] (replicate 129 97) .answer) 5 ∷
+    answeredBy (appendOf fullLog (replicate 33 97) [] .answer) 5 ∷
+    answeredBy (appendOf fullLog [] [] .answer) 8 ∷
+    answeredBy (appendOf (emptyLog 64 18446744073709551615) [] [] .answer) 9 ∷
+    answeredBy (appendOf (after 64 (emptyLog 16 0) two) rowName (122 ∷ []) .answer) 10 ∷
     []
 
 unfoldable pub allTrue : List Bool → Bool

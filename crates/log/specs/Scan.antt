@@ -1,4 +1,5 @@
--- Reading a file with a table of rows (id, where its line begins): what the parts of the reader answer. Rows beyond the table's room are let go from the largest id on,
+-- Reading a file with a table of rows (id, where its line begins): what the parts of the reader answer. Rows beyond
+-- the table's room are let go from the largest id on,
 -- and read in a later pass.
 use mathlib.Core.Path.{_≡_}
 use mathlib.Core.Bool.{Bool, true, false, _&&_}
@@ -28,7 +29,8 @@ use Rattle.text.specs.declared.escape.Measure.the-variants as measure
 
 -- the message of a row: its id, with the name and body of the line where it begins
 abbrev pub messageOf : List ℕ → List ℕ → Message
-messageOf file r = record { id = rowId r; name = nameOf (lineAt file (rowAt r)); body = bodyOf (lineAt file (rowAt r)) }
+messageOf file r =
+    record { id = rowId r; name = nameOf (lineAt file (rowAt r)); body = bodyOf (lineAt file (rowAt r)) }
 
 abbrev pub messagesOf : List ℕ → List (List ℕ) → List Message
 messagesOf file rs = map (messageOf file) rs
@@ -66,7 +68,8 @@ pub data Took (lo hi : ℕ) (these : List (List ℕ)) (e : List ℕ) (hi' : ℕ)
   beneath : rowId e < lo → hi' ≡ hi → these' ≡ these → Took lo hi these e hi' these'
   beyond : hi ≤ rowId e → hi' ≡ hi → these' ≡ these → Took lo hi these e hi' these'
   set-in : lo ≤ rowId e → rowId e < hi → hi' ≡ hi → these' ≡ insertRow e these → Took lo hi these e hi' these'
-  evicted : lo ≤ rowId e → rowId e < hi → (y : List ℕ) → insertRow e these ≡ these' ++ (y ∷ []) → hi' ≡ rowId y → 0 < length these' → Took lo hi these e hi' these'
+  evicted : lo ≤ rowId e → rowId e < hi → (y : List ℕ) → insertRow e these ≡ these' ++ (y ∷ []) → hi' ≡ rowId y
+      → 0 < length these' → Took lo hi these e hi' these'
 
 -- the rows of a pass
 abbrev pub passRows : Pass → List (List ℕ) → List (List ℕ)
@@ -74,9 +77,13 @@ passRows p table = take (p .count) table
 
 -- what a line that begins at a place does to a pass; over: a record has the last id, so that there is no next one
 abbrev pub TookNext : ℕ → Pass → List (List ℕ) → Line → ℕ → Pass → List (List ℕ) → Type 0
-TookNext lo p table (put m) at q table' = Took lo (p .hi) (passRows p table) (row (m .id) at 0) (q .hi) (passRows q table') × (q .next ≡ max (p .next) (suc (m .id))) × (m .id < 2 ^ 64 - 1)
-TookNext lo p table (done id) at q table' = (passRows q table' ≡ removeRow id (passRows p table)) × (q .hi ≡ p .hi) × (q .next ≡ p .next)
-TookNext lo p table other at q table' = (passRows q table' ≡ passRows p table) × (q .hi ≡ p .hi) × (q .next ≡ p .next)
+TookNext lo p table (put m) at q table' =
+    Took lo (p .hi) (passRows p table) (row (m .id) at 0) (q .hi) (passRows q table')
+    × (q .next ≡ max (p .next) (suc (m .id))) × (m .id < 2 ^ 64 - 1)
+TookNext lo p table (done id) at q table' =
+    (passRows q table' ≡ removeRow id (passRows p table)) × (q .hi ≡ p .hi) × (q .next ≡ p .next)
+TookNext lo p table other at q table' =
+    (passRows q table' ≡ passRows p table) × (q .hi ≡ p .hi) × (q .next ≡ p .next)
 
 abbrev pub LastId : Line → Type 0
 LastId (put m) = 2 ^ 64 - 1 ≤ m .id
@@ -97,13 +104,16 @@ going Over = false
 
 -- what the reader handed back can be taken in, and was
 abbrev pub CanTake : ℕ → List ℕ → List (List ℕ) → Taken → reader.Line → Type 0
-CanTake lo file table (Next p) (At a e) = (p .count ≤ length table) × (0 < length table) × RowsRise lo (passRows p table) (p .hi) × (a ≤ e) × (e ≤ length file)
+CanTake lo file table (Next p) (At a e) =
+    (p .count ≤ length table) × (0 < length table) × RowsRise lo (passRows p table) (p .hi)
+    × (a ≤ e) × (e ≤ length file)
 CanTake lo file table (Next p) End = Unit {0}
 CanTake lo file table Over (At a e) = Unit {0}
 CanTake lo file table Over End = Unit {0}
 
 abbrev pub TookTurn : ℕ → List ℕ → List (List ℕ) → Taken → reader.Line → Passing → List (List ℕ) → Type 0
-TookTurn lo file table (Next p) (At a e) r table' = TookLine lo p table (readLine (part file a e)) a (r .taken) table' × (r .on ≡ going (r .taken))
+TookTurn lo file table (Next p) (At a e) r table' =
+    TookLine lo p table (readLine (part file a e)) a (r .taken) table' × (r .on ≡ going (r .taken))
 TookTurn lo file table (Next p) End r table' = (r .taken ≡ Next p) × (r .on ≡ false) × (table' ≡ table)
 TookTurn lo file table Over (At a e) r table' = (r .taken ≡ Over) × (r .on ≡ false) × (table' ≡ table)
 TookTurn lo file table Over End r table' = (r .taken ≡ Over) × (r .on ≡ false) × (table' ≡ table)
@@ -175,7 +185,8 @@ pub record Imaged : Type 0 where
   pub size : ℕ
 
 abbrev pub imaged : List ℕ → List (List ℕ) → List Message → Imaged
-imaged log table ms = record { log = write log 0 (image ms); table = write table 0 (rowsFrom 0 ms); size = length (image ms) }
+imaged log table ms =
+    record { log = write log 0 (image ms); table = write table 0 (rowsFrom 0 ms); size = length (image ms) }
 
 -- a measured length, 0 where there is none
 abbrev pub lenOf : Measure → ℕ

@@ -36,7 +36,8 @@ pub record Stands (w : Wal) (ms : List Message) : Type 0 where
   pub rows : length (w .table) ≡ 256
   pub tabled : Tabled (w .bytes) 0 ms (openRows w) (w .counters .size)
 
--- what holds after every list of calls: the state stands for the messages of the last moment, in a log of its first length, and the open records' length is at most the file's
+-- what holds after every list of calls: the state stands for the messages of the last moment, in a log of its first
+-- length, and the open records' length is at most the file's
 pub record Standing (long : ℕ) (w : World) : Type 0 where
   pub stands : Stands (w .wal) (w .now)
   pub bytes : length (w .wal .bytes) ≡ long

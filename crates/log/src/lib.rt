@@ -1,9 +1,13 @@
-// The write-ahead log of the rail pool, over a lent slice of bytes: each message logged, each marked done, so that a restart hands back only the rest.
-// State: the lent log (its first `size` bytes are the file), a lent table of 256 rows of open records (id, where the record begins, its length) in rising id order,
-// and the counters, lent or by value. One invariant, a law and no precondition: the table is what the bytes say (specs/Stands, theorem `standing`).
-// Calls: `open_log` one pass over the file, `append` and `sync` in the record's length, `mark` in the table's; a rewrite moves the open records down.
-// Each ends on any bytes, tables and numbers and equals its definition (specs/Log). proofs/Recovery: after any list of calls, wherever the power fails, the next opening
-// hands back exactly the messages of one moment no earlier than the last confirmed flush or replace.
+// The write-ahead log of the rail pool, over a lent slice of bytes: each message logged, each marked done, so that a
+// restart hands back only the rest.
+// State: the lent log (its first `size` bytes are the file), a lent table of 256 rows of open records (id, where the
+// record begins, its length) in rising id order, and the counters, lent by `&mut`. One invariant, a law and no
+// precondition: the table is what the bytes say (specs/Stands, theorem `standing`).
+// Cost: `open_log` reads the file once, and once more each time that its table of 257 rows had to let open records go;
+// `append` goes by the record's length, `mark` by the table's, `sync` by neither; a rewrite moves the open records.
+// Each call ends on any bytes, tables and numbers and equals its definition (specs/Log, specs/Opened). The theorem
+// (proofs/Recovery): after any list of calls with any arguments, wherever the power fails, the next opening hands back
+// exactly the messages of one moment no earlier than the last confirmed flush or replace.
 ghost use mathlib.Core.Path.{_≡_};
 ghost use Rattle.log.specs.Log.{numberOf};
 
@@ -14,8 +18,8 @@ pub mod wal; // wal.rt: append, mark, sync, and the rewrite
 // The id under which a message is logged.
 pub struct LogId(pub u64);
 
-// The log's counters: the next id, the length of the open records, the file's length, whether a record was appended since the last flush,
-// and the number of open records.
+// The log's counters: the next id, the length of the open records, the file's length, whether a record was appended
+// since the last flush, and the number of open records.
 pub struct Counters {
     pub next: u64,
     pub live: usize,
@@ -36,21 +40,34 @@ pub enum Refusal {
     Sizes,
     LastId,
     TooMuch,
+    TooLong,
     Full,
     NoId,
     NoRoom,
 }
 
+// What an opening or an append answers: its order, or why it was turned away.
 pub enum Answer {
     Ordered(Order),
-    Nothing,
     Refused(Refusal),
 }
 
-// The counters after a call, and its answer.
+// What a mark or a sync has due: an order, or nothing. Neither is ever turned away.
+pub enum Due {
+    Ordered(Order),
+    Nothing,
+}
+
+// The counters after an opening or an append, and its answer.
 pub struct Stepped {
     pub counters: Counters,
     pub answer: Answer,
+}
+
+// The counters after a mark or a sync, and the order that is due.
+pub struct SteppedDue {
+    pub counters: Counters,
+    pub due: Due,
 }
 
 // The number of a refusal.
@@ -61,6 +78,7 @@ pub fn number(r: Refusal) -> u64
         Refusal::Sizes => 2,
         Refusal::LastId => 3,
         Refusal::TooMuch => 4,
+        Refusal::TooLong => 5,
         Refusal::Full => 8,
         Refusal::NoId => 9,
         Refusal::NoRoom => 10,

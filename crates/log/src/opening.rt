@@ -1,4 +1,5 @@
-// Opening: a file is read with a table of rows and decided on before anything is written; then what is left goes into the store, and from there into the log.
+// Opening: a file is read with a table of rows and decided on before anything is written; then what is left goes into
+// the store, and from there into the log.
 ghost use mathlib.Core.Path.{_≡_};
 ghost use mathlib.Core.Bool.{true};
 ghost use mathlib.Core.List.{map};
@@ -8,7 +9,9 @@ ghost use Rattle.text.specs.Bytes.{write};
 ghost use Rattle.text.specs.Line.{readLine, nameOf, bodyOf, lineAt};
 ghost use Rattle.log.specs.Opening.{readFile, allFit, image};
 ghost use Rattle.log.specs.Opened.{sized, stored, leftRow, noCounters, openedBy, openOf};
-ghost use Rattle.log.specs.Scan.{messagesOf, RowsRise, PlaceOf, holds, lenOf, Took, passRows, removeRow, TookLine, CanTake, TookTurn, going, begun, Scanned, LeftIn, Accepted, Decided, fitLine, fitLeft, fromStore, imaged, lengthsOf};
+ghost use Rattle.log.specs.Scan.{messagesOf, RowsRise, PlaceOf, holds, lenOf, Took, passRows, removeRow};
+ghost use Rattle.log.specs.Scan.{TookLine, CanTake, TookTurn, going, begun, Scanned, LeftIn, Accepted};
+ghost use Rattle.log.specs.Scan.{Decided, fitLine, fitLeft, fromStore, imaged, lengthsOf};
 ghost use Rattle.log.specs.Log.{row};
 ghost use Rattle.log.specs.declared.Answer.the-variants.{Refused};
 use crate::Answer;
@@ -101,9 +104,11 @@ fn row_is(rows: &[[u64; 3]], i: usize, count: usize, id: u64) -> bool
 
 // A record taken in, where its id is in the window. A full table lets its largest id go.
 fn put_row(rows: &mut [[u64; 3]], p: Pass, lo: u64, id: u64, at: usize) -> Pass
-    requires { ⌜ (p .count ≤ length (now rows)) × (0 < length (now rows)) × RowsRise lo (passRows p (now rows)) (p .hi) ⌝ }
+    requires { ⌜ (p .count ≤ length (now rows)) × (0 < length (now rows))
+        × RowsRise lo (passRows p (now rows)) (p .hi) ⌝ }
     ensures within { λ r. ⌜ r .count ≤ length (now (rows .exit)) ⌝ }
-    ensures took { λ r. ⌜ Took lo (p .hi) (passRows p (now (rows .entry))) (row id at 0) (r .hi) (passRows r (now (rows .exit))) ⌝ }
+    ensures took { λ r. ⌜ Took lo (p .hi) (passRows p (now (rows .entry))) (row id at 0) (r .hi)
+        (passRows r (now (rows .exit))) ⌝ }
     ensures next { λ r. ⌜ r .next ≡ p .next ⌝ }
 {
     let hi = p.hi;
@@ -178,7 +183,8 @@ fn next_after(n: u64, id: u64) -> u64
 
 // What the line that begins at a place says, taken in.
 fn pass_line(rows: &mut [[u64; 3]], p: Pass, lo: u64, line: &[u8], at: usize) -> Taken
-    requires { ⌜ (p .count ≤ length (now rows)) × (0 < length (now rows)) × RowsRise lo (passRows p (now rows)) (p .hi) ⌝ }
+    requires { ⌜ (p .count ≤ length (now rows)) × (0 < length (now rows))
+        × RowsRise lo (passRows p (now rows)) (p .hi) ⌝ }
     ensures { λ r. ⌜ TookLine lo p (now (rows .entry)) (readLine (now (line .entry))) at r (now (rows .exit)) ⌝ }
 {
     match line_kind(line) {
@@ -260,7 +266,8 @@ fn take_line(rows: &mut [[u64; 3]], file: &[u8], lo: u64, s: Passing, line: Line
     Passing { taken: t, on }
 }
 
-// One pass over the file, by one reader: the rows of the messages left with ids from lo on, as far as the table goes, and the next id.
+// One pass over the file, by one reader: the rows of the messages left with ids from lo on, as far as the table goes,
+// and the next id.
 fn scan(rows: &mut [[u64; 3]], file: &[u8], lo: u64) -> Taken
     requires { ⌜ (0 < length (now rows)) × (lo < 2 ^ 64 - 1) ⌝ }
     ensures { λ r. ⌜ Scanned (now (file .entry)) lo r (now (rows .exit)) ⌝ }
@@ -274,7 +281,8 @@ fn scan(rows: &mut [[u64; 3]], file: &[u8], lo: u64) -> Taken
     s.taken
 }
 
-// The rows of the messages left: one pass where the file never has more than 257 open records, else further ones from where the last left off.
+// The rows of the messages left: one pass where the file never has more than 257 open records, else further ones from
+// where the last left off.
 fn left_rows(rows: &mut [[u64; 3]], file: &[u8]) -> LeftRows
     requires { ⌜ length (now rows) ≡ 257 ⌝ }
     ensures { λ r. ⌜ LeftIn (now (file .entry)) r (now (rows .exit)) ⌝ }
@@ -356,8 +364,11 @@ fn len_of(m: Measure) -> usize
 // The name and the body of the line at a place, unescaped, into the entry of the store that begins at `base`.
 fn copy_row(file: &[u8], at: usize, store: &mut [u8], base: usize) -> Lengths
     requires { ⌜ (base + 160 ≤ length (now store)) × (fitLine (lineAt (now file) at) ≡ true) ⌝ }
-    ensures lengths { λ r. ⌜ r ≡ lengthsOf (nameOf (lineAt (now (file .entry)) at)) (bodyOf (lineAt (now (file .entry)) at)) ⌝ }
-    ensures copied { λ r. ⌜ now (store .exit) ≡ write (write (now (store .entry)) base (nameOf (lineAt (now (file .entry)) at))) (base + 32) (bodyOf (lineAt (now (file .entry)) at)) ⌝ }
+    ensures lengths { λ r. ⌜ r
+        ≡ lengthsOf (nameOf (lineAt (now (file .entry)) at)) (bodyOf (lineAt (now (file .entry)) at)) ⌝ }
+    ensures copied { λ r. ⌜ now (store .exit)
+        ≡ write (write (now (store .entry)) base (nameOf (lineAt (now (file .entry)) at))) (base + 32)
+        (bodyOf (lineAt (now (file .entry)) at)) ⌝ }
 {
     let line = line_at(file, at);
     let name = len_of(copy_field(&mut store[base..], name_field(line)));
@@ -368,9 +379,16 @@ fn copy_row(file: &[u8], at: usize, store: &mut [u8], base: usize) -> Lengths
 
 // The messages of the rows into the entries of the store, in their order, and what is handed back of each.
 fn store_rows(file: &[u8], rows: &[[u64; 3]], count: usize, store: &mut [u8], left: &mut [[u64; 3]])
-    requires { ⌜ (count ≤ 256) × (count ≤ length (now rows)) × (length (now store) ≡ 40960) × (length (now left) ≡ 256) × (allFit (messagesOf (now file) (take count (now rows))) ≡ true) ⌝ }
-    ensures store { λ r. ⌜ now (store .exit) ≡ stored 0 (messagesOf (now (file .entry)) (take count (now (rows .entry)))) (now (store .entry)) ⌝ }
-    ensures left { λ r. ⌜ now (left .exit) ≡ write (now (left .entry)) 0 (map leftRow (messagesOf (now (file .entry)) (take count (now (rows .entry))))) ⌝ }
+    requires { ⌜ (count ≤ 256)
+        × (count ≤ length (now rows))
+        × (length (now store) ≡ 40960)
+        × (length (now left) ≡ 256)
+        × (allFit (messagesOf (now file) (take count (now rows))) ≡ true) ⌝ }
+    ensures store { λ r. ⌜ now (store .exit)
+        ≡ stored 0 (messagesOf (now (file .entry)) (take count (now (rows .entry)))) (now (store .entry)) ⌝ }
+    ensures left { λ r. ⌜ now (left .exit)
+        ≡ write (now (left .entry)) 0
+        (map leftRow (messagesOf (now (file .entry)) (take count (now (rows .entry))))) ⌝ }
 {
     let mut i: usize = 0;
     while i < count {
@@ -389,8 +407,15 @@ fn write_image(
     left: &[[u64; 3]],
     count: usize,
 ) -> usize
-    requires { ⌜ (count ≤ length (now left)) × (count ≤ 256) × (length (now store) ≡ 40960) × (length (now records) ≡ 256) × (fitLeft (take count (now left)) ≡ true) × (length (image (fromStore 0 (take count (now left)) (now store))) ≤ length (now log)) ⌝ }
-    ensures { λ r. ⌜ record { log = now (log .exit); table = now (records .exit); size = r } ≡ imaged (now (log .entry)) (now (records .entry)) (fromStore 0 (take count (now (left .entry))) (now (store .entry))) ⌝ }
+    requires { ⌜ (count ≤ length (now left))
+        × (count ≤ 256)
+        × (length (now store) ≡ 40960)
+        × (length (now records) ≡ 256)
+        × (fitLeft (take count (now left)) ≡ true)
+        × (length (image (fromStore 0 (take count (now left)) (now store))) ≤ length (now log)) ⌝ }
+    ensures { λ r. ⌜ record { log = now (log .exit); table = now (records .exit); size = r }
+        ≡ imaged (now (log .entry)) (now (records .entry))
+        (fromStore 0 (take count (now (left .entry))) (now (store .entry))) ⌝ }
 {
     let mut p: usize = 0;
     let mut i: usize = 0;
@@ -457,8 +482,18 @@ fn accept(
     count: usize,
     next: u64,
 ) -> Stepped
-    requires { ⌜ (sized (length (now log)) n (length (now store)) (length (now records)) (length (now left)) ≡ true) × (length (now rows) ≡ 257) × Accepted (take n (now log)) count next (now rows) ⌝ }
-    ensures { λ r. ⌜ record { log = now (log .exit); store = now (store .exit); table = now (records .exit); left = now (left .exit); step = r } ≡ openedBy (now (log .entry)) (now (store .entry)) (now (records .entry)) (now (left .entry)) (readFile (take n (now (log .entry)))) ⌝ }
+    requires { ⌜ (sized (length (now log)) n (length (now store)) (length (now records)) (length (now left)) ≡ true)
+        × (length (now rows) ≡ 257)
+        × Accepted (take n (now log)) count next (now rows) ⌝ }
+    ensures { λ r. ⌜ record {
+      log = now (log .exit);
+      store = now (store .exit);
+      table = now (records .exit);
+      left = now (left .exit);
+      step = r;
+    }
+        ≡ openedBy (now (log .entry)) (now (store .entry)) (now (records .entry)) (now (left .entry))
+        (readFile (take n (now (log .entry)))) ⌝ }
 {
     store_rows(&log[..n], rows, count, store, left);
     let size = write_image(log, records, store, left, count);
@@ -475,8 +510,8 @@ fn accept(
     }
 }
 
-// Opens the log whose file is the first n bytes: what is left goes into the store, the log is written anew, and for each entry of the store in use
-// the id and the lengths of name and body are handed back.
+// Opens the log whose file is the first n bytes: what is left goes into the store, the log is written anew, and for
+// each entry of the store in use the id and the lengths of name and body are handed back.
 pub fn open_log(
     log: &mut [u8],
     n: usize,
@@ -484,7 +519,14 @@ pub fn open_log(
     records: &mut [[u64; 3]],
     left: &mut [[u64; 3]],
 ) -> Stepped
-    ensures { λ r. ⌜ record { log = now (log .exit); store = now (store .exit); table = now (records .exit); left = now (left .exit); step = r } ≡ openOf (now (log .entry)) n (now (store .entry)) (now (records .entry)) (now (left .entry)) ⌝ }
+    ensures { λ r. ⌜ record {
+      log = now (log .exit);
+      store = now (store .exit);
+      table = now (records .exit);
+      left = now (left .exit);
+      step = r;
+    }
+        ≡ openOf (now (log .entry)) n (now (store .entry)) (now (records .entry)) (now (left .entry)) ⌝ }
 {
     if sizes_fit(log.len(), n, store.len(), records.len(), left.len()) {
         let mut rows = [[0u64; 3]; 257];

@@ -1,4 +1,5 @@
-// Rows of the table of open records: an id, where its record begins, and the record's length. The first `count` rows are in use.
+// Rows of the table of open records: an id, where its record begins, and the record's length. The first `count` rows
+// are in use.
 ghost use mathlib.Core.Path.{_≡_};
 ghost use mathlib.Core.List.{_∷_};
 ghost use Prim.Native.Nat.{_+_, _≤_, _<_};

@@ -1,20 +1,23 @@
 // The log's steps: append, mark and sync, and the rewrite to the open records.
-// The counters are lent by `&mut` to `append_in`, `mark_in` and `sync_in`; the work is in `append_step`, `mark_step` and `sync_step`, by value. `append`, `mark` and `sync`
-// lend a local, and have plain parameters. The first and the last three are proved by walks (tools/stepped.py), so whoever calls the last three needs none.
+// The counters are lent by `&mut` to `append`, `mark` and `sync`, which are proved by walks (tools/stepped.py). The
+// work is in `append_step`, `mark_step` and `sync_step`, by value.
 ghost use mathlib.Core.Path.{_≡_};
 ghost use mathlib.Core.List.{[]};
 ghost use Prim.Native.Nat.{_+_, _-_, _≤_};
 ghost use lib.Dec.{leb};
 ghost use lib.ListN.{length, take, getD};
 ghost use Rattle.text.specs.Bytes.{write, part};
-ghost use Rattle.log.specs.Log.{state, rowLen, squeezed, settled, CanAppend, newMessage, logged, appended, appendOf, withoutRow, keeps, markedDone, markOf, syncOf};
+ghost use Rattle.log.specs.Log.{state, rowLen, squeezed, settled, CanAppend, newMessage, logged, appended};
+ghost use Rattle.log.specs.Log.{appendOf, withoutRow, keeps, markedDone, markOf, syncOf};
 ghost use Rattle.log.specs.declared.Answer.the-variants.{Refused};
 use crate::Answer;
 use crate::Counters;
+use crate::Due;
 use crate::LogId;
 use crate::Order;
 use crate::Refusal;
 use crate::Stepped;
+use crate::SteppedDue;
 use crate::table::Found;
 use crate::table::close_row;
 use crate::table::find_row;
@@ -54,10 +57,13 @@ fn fits_behind(size: usize, n: usize, long: usize) -> bool
     n <= long - size
 }
 
-// The log rewritten to its open records: their ranges are moved down, in their order, and their rows say where to. It goes by the table, and reads no line.
+// The log rewritten to its open records: their ranges are moved down, in their order, and their rows say where to. It
+// goes by the table, and reads no line.
 pub(crate) fn compact(log: &mut [u8], records: &mut [[u64; 3]], count: usize)
     ensures bytes { λ r. ⌜ now (log .exit) ≡ squeezed (take count (now (records .entry))) 0 (now (log .entry)) ⌝ }
-    ensures table { λ r. ⌜ now (records .exit) ≡ write (now (records .entry)) 0 (settled (length (now (log .entry))) (take count (now (records .entry))) 0) ⌝ }
+    ensures table { λ r. ⌜ now (records .exit)
+        ≡ write (now (records .entry)) 0
+        (settled (length (now (log .entry))) (take count (now (records .entry))) 0) ⌝ }
 {
     let mut to: usize = 0;
     let mut i: usize = 0;
@@ -89,8 +95,12 @@ fn put_record(
     name: &[u8],
     body: &[u8],
 ) -> Counters
-    requires { ⌜ CanAppend (state (now log) (now records) counters) (newMessage (state (now log) (now records) counters) (now name) (now body)) len × (counters .size + len ≤ length (now log)) ⌝ }
-    ensures { λ r. ⌜ state (now (log .exit)) (now (records .exit)) r ≡ logged (state (now (log .entry)) (now (records .entry)) counters) (record { id = counters .next; name = now (name .entry); body = now (body .entry) }) ⌝ }
+    requires { ⌜ CanAppend (state (now log) (now records) counters)
+        (newMessage (state (now log) (now records) counters) (now name) (now body)) len
+        × (counters .size + len ≤ length (now log)) ⌝ }
+    ensures { λ r. ⌜ state (now (log .exit)) (now (records .exit)) r
+        ≡ logged (state (now (log .entry)) (now (records .entry)) counters)
+        (record { id = counters .next; name = now (name .entry); body = now (body .entry) }) ⌝ }
 {
     let next = counters.next;
     let size = counters.size;
@@ -115,8 +125,11 @@ fn append_record(
     name: &[u8],
     body: &[u8],
 ) -> Stepped
-    requires { ⌜ CanAppend (state (now log) (now records) counters) (newMessage (state (now log) (now records) counters) (now name) (now body)) len ⌝ }
-    ensures { λ r. ⌜ record { wal = state (now (log .exit)) (now (records .exit)) (r .counters); answer = r .answer } ≡ appended (state (now (log .entry)) (now (records .entry)) counters) (record { id = counters .next; name = now (name .entry); body = now (body .entry) }) ⌝ }
+    requires { ⌜ CanAppend (state (now log) (now records) counters)
+        (newMessage (state (now log) (now records) counters) (now name) (now body)) len ⌝ }
+    ensures { λ r. ⌜ record { wal = state (now (log .exit)) (now (records .exit)) (r .counters); answer = r .answer }
+        ≡ appended (state (now (log .entry)) (now (records .entry)) counters)
+        (record { id = counters .next; name = now (name .entry); body = now (body .entry) }) ⌝ }
 {
     let size = counters.size;
     if fits_behind(size, len, log.len()) {
@@ -152,7 +165,7 @@ fn turned_away(counters: Counters, r: Refusal) -> Stepped
     }
 }
 
-// Append, by value.
+// Append, by value: turned away with the lowest number that applies.
 fn append_step(
     counters: Counters,
     log: &mut [u8],
@@ -160,8 +173,16 @@ fn append_step(
     name: &[u8],
     body: &[u8],
 ) -> Stepped
-    ensures { λ r. ⌜ record { wal = state (now (log .exit)) (now (records .exit)) (r .counters); answer = r .answer } ≡ appendOf (state (now (log .entry)) (now (records .entry)) counters) (now (name .entry)) (now (body .entry)) ⌝ }
+    ensures { λ r. ⌜ record { wal = state (now (log .exit)) (now (records .exit)) (r .counters); answer = r .answer }
+        ≡ appendOf (state (now (log .entry)) (now (records .entry)) counters)
+        (now (name .entry)) (now (body .entry)) ⌝ }
 {
+    if 32 < name.len() {
+        return turned_away(counters, Refusal::TooLong);
+    }
+    if 128 < body.len() {
+        return turned_away(counters, Refusal::TooLong);
+    }
     let next = counters.next;
     let live = counters.live;
     let count = counters.count;
@@ -180,37 +201,21 @@ fn append_step(
     append_record(log, records, counters, len, name, body)
 }
 
-// Append, on counters that are lent.
-pub fn append_in(
+// Logs a message under the next id.
+pub fn append(
     counters: &mut Counters,
     log: &mut [u8],
     records: &mut [[u64; 3]],
     name: &[u8],
     body: &[u8],
 ) -> Answer
-    ensures { λ a. ⌜ record { wal = state (now (log .exit)) (now (records .exit)) (now (counters .exit)); answer = a } ≡ appendOf (state (now (log .entry)) (now (records .entry)) (now (counters .entry))) (now (name .entry)) (now (body .entry)) ⌝ }
+    ensures { λ a. ⌜ record { wal = state (now (log .exit)) (now (records .exit)) (now (counters .exit)); answer = a }
+        ≡ appendOf (state (now (log .entry)) (now (records .entry)) (now (counters .entry)))
+        (now (name .entry)) (now (body .entry)) ⌝ }
 {
     let s = append_step(*counters, log, records, name, body);
     *counters = s.counters;
     s.answer
-}
-
-// Logs a message under the next id.
-pub fn append(
-    log: &mut [u8],
-    records: &mut [[u64; 3]],
-    counters: Counters,
-    name: &[u8],
-    body: &[u8],
-) -> Stepped
-    ensures { λ r. ⌜ record { wal = state (now (log .exit)) (now (records .exit)) (r .counters); answer = r .answer } ≡ appendOf (state (now (log .entry)) (now (records .entry)) counters) (now (name .entry)) (now (body .entry)) ⌝ }
-{
-    let mut c = counters;
-    let answer = append_in(&mut c, log, records, name, body);
-    Stepped {
-        counters: c,
-        answer,
-    }
 }
 
 // A difference, 0 where there is none.
@@ -277,8 +282,9 @@ fn mark_done(
     counters: Counters,
     limit: usize,
     id: u64,
-) -> Stepped
-    ensures { λ r. ⌜ record { wal = state (now (log .exit)) (now (records .exit)) (r .counters); answer = r .answer } ≡ markedDone limit (state (now (log .entry)) (now (records .entry)) counters) id ⌝ }
+) -> SteppedDue
+    ensures { λ r. ⌜ record { wal = state (now (log .exit)) (now (records .exit)) (r .counters); due = r .due }
+        ≡ markedDone limit (state (now (log .entry)) (now (records .entry)) counters) id ⌝ }
 {
     let size = counters.size;
     let live = counters.live;
@@ -293,9 +299,9 @@ fn mark_done(
             dirty: counters.dirty,
             count,
         };
-        return Stepped {
+        return SteppedDue {
             counters: more,
-            answer: Answer::Ordered(Order::Append(size, size + n)),
+            due: Due::Ordered(Order::Append(size, size + n)),
         };
     }
     compact(log, records, count);
@@ -306,9 +312,9 @@ fn mark_done(
         dirty: counters.dirty,
         count,
     };
-    Stepped {
+    SteppedDue {
         counters: dense,
-        answer: Answer::Ordered(Order::Replace(live)),
+        due: Due::Ordered(Order::Replace(live)),
     }
 }
 
@@ -319,56 +325,40 @@ fn mark_step(
     records: &mut [[u64; 3]],
     limit: usize,
     id: LogId,
-) -> Stepped
-    ensures { λ r. ⌜ record { wal = state (now (log .exit)) (now (records .exit)) (r .counters); answer = r .answer } ≡ markOf limit (state (now (log .entry)) (now (records .entry)) counters) (id .0) ⌝ }
+) -> SteppedDue
+    ensures { λ r. ⌜ record { wal = state (now (log .exit)) (now (records .exit)) (r .counters); due = r .due }
+        ≡ markOf limit (state (now (log .entry)) (now (records .entry)) counters) (id .0) ⌝ }
 {
     let n = id.0;
     let count = counters.count;
     let Found::At(i) = find_row(records, count, n) else {
-        return Stepped {
+        return SteppedDue {
             counters,
-            answer: Answer::Nothing,
+            due: Due::Nothing,
         };
     };
     let rest = take_record(records, counters, i);
     mark_done(log, records, rest, limit, n)
 }
 
-// Mark, on counters that are lent.
-pub fn mark_in(
+// Marks a message done; an id that is not open does nothing.
+pub fn mark(
     counters: &mut Counters,
     log: &mut [u8],
     records: &mut [[u64; 3]],
     limit: usize,
     id: LogId,
-) -> Answer
-    ensures { λ a. ⌜ record { wal = state (now (log .exit)) (now (records .exit)) (now (counters .exit)); answer = a } ≡ markOf limit (state (now (log .entry)) (now (records .entry)) (now (counters .entry))) (id .0) ⌝ }
+) -> Due
+    ensures { λ d. ⌜ record { wal = state (now (log .exit)) (now (records .exit)) (now (counters .exit)); due = d }
+        ≡ markOf limit (state (now (log .entry)) (now (records .entry)) (now (counters .entry))) (id .0) ⌝ }
 {
     let s = mark_step(*counters, log, records, limit, id);
     *counters = s.counters;
-    s.answer
-}
-
-// Marks a message done; an id that is not open does nothing.
-pub fn mark(
-    log: &mut [u8],
-    records: &mut [[u64; 3]],
-    counters: Counters,
-    limit: usize,
-    id: LogId,
-) -> Stepped
-    ensures { λ r. ⌜ record { wal = state (now (log .exit)) (now (records .exit)) (r .counters); answer = r .answer } ≡ markOf limit (state (now (log .entry)) (now (records .entry)) counters) (id .0) ⌝ }
-{
-    let mut c = counters;
-    let answer = mark_in(&mut c, log, records, limit, id);
-    Stepped {
-        counters: c,
-        answer,
-    }
+    s.due
 }
 
 // Sync, by value.
-fn sync_step(counters: Counters) -> Stepped
+fn sync_step(counters: Counters) -> SteppedDue
     ensures { λ r. ⌜ r ≡ syncOf counters ⌝ }
 {
     if counters.dirty {
@@ -379,34 +369,22 @@ fn sync_step(counters: Counters) -> Stepped
             dirty: false,
             count: counters.count,
         };
-        return Stepped {
+        return SteppedDue {
             counters: clean,
-            answer: Answer::Ordered(Order::Flush),
+            due: Due::Ordered(Order::Flush),
         };
     }
-    Stepped {
+    SteppedDue {
         counters,
-        answer: Answer::Nothing,
+        due: Due::Nothing,
     }
-}
-
-// Sync, on counters that are lent.
-pub fn sync_in(counters: &mut Counters) -> Answer
-    ensures { λ a. ⌜ record { counters = now (counters .exit); answer = a } ≡ syncOf (now (counters .entry)) ⌝ }
-{
-    let s = sync_step(*counters);
-    *counters = s.counters;
-    s.answer
 }
 
 // Orders a flush, where a record was appended since the last one.
-pub fn sync(counters: Counters) -> Stepped
-    ensures { λ r. ⌜ r ≡ syncOf counters ⌝ }
+pub fn sync(counters: &mut Counters) -> Due
+    ensures { λ d. ⌜ record { counters = now (counters .exit); due = d } ≡ syncOf (now (counters .entry)) ⌝ }
 {
-    let mut c = counters;
-    let answer = sync_in(&mut c);
-    Stepped {
-        counters: c,
-        answer,
-    }
+    let s = sync_step(*counters);
+    *counters = s.counters;
+    s.due
 }

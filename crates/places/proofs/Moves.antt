@@ -5,7 +5,8 @@ use native.Mathlib.Omega.{arith}
 use borrow.Author.Tests.{lt-ltb}
 use lib.ListN.{length, take, length-append, length-drop}
 use lib.Seq.{length-take-le}
-use Rattle.lists.specs.Links.{pick, Table, FREE, headOf, lenOf, capped, moveFirst, moveFirstToFront, moveAll, mailboxOf, handOf}
+use Rattle.lists.specs.Links.{pick, Table, FREE, headOf, lenOf, capped, moveFirst, moveFirstToFront, moveAll}
+use Rattle.lists.specs.Links.{mailboxOf, handOf}
 use Rattle.lists.specs.Family.{count, view, Pair, Moved, MovedToFront}
 use Rattle.lists.proofs.Family.{length-view, first-view, count-at, entry}
 use Rattle.lists.proofs.Moves.{move-first, move-first-to-front}
@@ -17,7 +18,10 @@ use Rattle.steps.proofs.Times.{capped-fits}
 use Rattle.group.specs.Roster.{overAll}
 use Rattle.places.specs.Places.{isId, idCount, stands, mailTotal, Sound, Keeps, Desk, Comes, Goes, mailChange}
 use Rattle.places.proofs.Totals.{id-first, id-append, id-split, rows-length, stands-row, stands-free}
-use Rattle.places.proofs.Through.{mailbox-is, aside-desk, aside-mailbox, Through, mail-desk, mail-fits, mail-by, moved-exchange, moved-to-front-exchange, free-change, exchange-through, through-by, through-desk, through-keeps, first-through, all-through, over-through, over-all-through}
+use Rattle.places.proofs.Through.{mailbox-is, aside-desk, aside-mailbox, Through, mail-desk, mail-fits, mail-by}
+use Rattle.places.proofs.Through.{moved-exchange, moved-to-front-exchange, free-change, exchange-through}
+use Rattle.places.proofs.Through.{through-by, through-desk, through-keeps, first-through, all-through}
+use Rattle.places.proofs.Through.{over-through, over-all-through}
 
 -- the mailboxes begin at list 6
 low-desk : (k : ℕ) → 0 < k → k < 6 → Desk k
@@ -40,9 +44,15 @@ unfolding handOf
 hand-is slot slot-is = rw (lt-ltb slot 128 slot-is)
 
 pub desk-held : (slot : ℕ) → slot < 128 → Desk (handOf slot)
-desk-held slot slot-is = rw (hand-is slot slot-is) (record { is = omega arith; place = omega arith; no-mail = λ s s-is e. omega arith })
+desk-held slot slot-is = rw (hand-is slot slot-is) (record {
+  is = omega arith;
+  place = omega arith;
+  no-mail =
+      λ s s-is e. omega arith;
+})
 
-pub then-keeps : {t rows t₁ rows₁ t₂ rows₂ : Table} {q₁ q₂ : ℕ} → Keeps t rows t₁ rows₁ q₁ → Keeps t₁ rows₁ t₂ rows₂ q₂ → Keeps t rows t₂ rows₂ q₂
+pub then-keeps : {t rows t₁ rows₁ t₂ rows₂ : Table} {q₁ q₂ : ℕ} → Keeps t rows t₁ rows₁ q₁ → Keeps t₁ rows₁ t₂ rows₂ q₂
+    → Keeps t rows t₂ rows₂ q₂
 then-keeps first second = record { sound = second .sound; same = λ x. second .same x ∙ first .same x }
 
 module _ (t rows : Table) (q : ℕ) (sound : Sound t rows q) where
@@ -51,29 +61,38 @@ module _ (t rows : Table) (q : ℕ) (sound : Sound t rows q) where
 
   pub move-keeps : (from to : ℕ) → Desk from → Desk to → Keeps t rows (moveFirst t from to) rows q
   move-keeps from to f g =
-      through-desk t rows _ q 128 sound (first-through t rows (sound .good) from 128 (aside-desk 128 from f) to (aside-desk 128 to g)) (omega arith)
+      through-desk t rows _ q 128 sound (first-through t rows (sound .good) from 128 (aside-desk 128 from f) to
+      (aside-desk 128 to g)) (omega arith)
 
   pub move-all-keeps : (from to : ℕ) → Desk from → Desk to → Keeps t rows (moveAll t from to) rows q
   move-all-keeps from to f g =
-      through-desk t rows _ q 128 sound (all-through t rows (sound .good) from 128 (aside-desk 128 from f) to (aside-desk 128 to g)) (omega arith)
+      through-desk t rows _ q 128 sound (all-through t rows (sound .good) from 128 (aside-desk 128 from f) to
+      (aside-desk 128 to g)) (omega arith)
 
   -- the first message of a place is over: a logged one waits for its mark, any other is free
   pub over-keeps : (from : ℕ) → Desk from → Keeps t rows (overFirst t rows from) rows q
   over-keeps from f =
-      through-desk t rows _ q 128 sound (over-through t rows (sound .good) from 128 (aside-desk 128 from f)) (omega arith)
+      through-desk t rows _ q 128 sound (over-through t rows (sound .good) from 128 (aside-desk 128 from f))
+      (omega arith)
 
   -- whatever the slot: where there is no such mailbox nothing moves
-  pub to-mailbox : (from slot : ℕ) → Desk from → Keeps t rows (moveFirst t from (mailboxOf slot)) rows (mailChange t (moveFirst t from (mailboxOf slot)) slot q)
+  pub to-mailbox : (from slot : ℕ) → Desk from → Keeps t rows (moveFirst t from (mailboxOf slot)) rows
+      (mailChange t (moveFirst t from (mailboxOf slot)) slot q)
   to-mailbox from slot f =
-      through-keeps t rows _ q slot sound (first-through t rows (sound .good) from slot (aside-desk slot from f) (mailboxOf slot) (aside-mailbox slot))
+      through-keeps t rows _ q slot sound (first-through t rows (sound .good) from slot (aside-desk slot from f)
+      (mailboxOf slot) (aside-mailbox slot))
 
-  pub empty-mailbox : (slot to : ℕ) → Desk to → Keeps t rows (moveAll t (mailboxOf slot) to) rows (mailChange t (moveAll t (mailboxOf slot) to) slot q)
+  pub empty-mailbox : (slot to : ℕ) → Desk to → Keeps t rows (moveAll t (mailboxOf slot) to) rows
+      (mailChange t (moveAll t (mailboxOf slot) to) slot q)
   empty-mailbox slot to g =
-      through-keeps t rows _ q slot sound (all-through t rows (sound .good) (mailboxOf slot) slot (aside-mailbox slot) to (aside-desk slot to g))
+      through-keeps t rows _ q slot sound (all-through t rows (sound .good) (mailboxOf slot) slot (aside-mailbox slot)
+      to (aside-desk slot to g))
 
-  pub over-mailbox : (slot n : ℕ) → Keeps t rows (overAll t rows (mailboxOf slot) n) rows (mailChange t (overAll t rows (mailboxOf slot) n) slot q)
+  pub over-mailbox : (slot n : ℕ) → Keeps t rows (overAll t rows (mailboxOf slot) n) rows
+      (mailChange t (overAll t rows (mailboxOf slot) n) slot q)
   over-mailbox slot n =
-      through-keeps t rows _ q slot sound (over-all-through n t rows (sound .good) (mailboxOf slot) slot (aside-mailbox slot))
+      through-keeps t rows _ q slot sound (over-all-through n t rows (sound .good) (mailboxOf slot) slot
+      (aside-mailbox slot))
 
   -- the first message of a mailbox is in the step's hand
   module _ (slot : ℕ) (slot-is : slot < 128) (some : 0 < lenOf t (mailboxOf slot)) where
@@ -81,11 +100,23 @@ module _ (t rows : Table) (q : ℕ) (sound : Sound t rows q) where
     taken = moveFirst t (mailboxOf slot) HAND
 
     took : Moved t (mailboxOf slot) HAND 1 taken
-    took = move-first (record { good = sound .good; from-is = omega (arith, mailbox-is slot slot-is); to-is = omega arith; apart = λ e. omega (arith, mailbox-is slot slot-is) })
+    took = move-first (record {
+      good = sound .good;
+      from-is = omega (arith, mailbox-is slot slot-is);
+      to-is =
+          omega arith;
+      apart = λ e. omega (arith, mailbox-is slot slot-is);
+    })
 
     took-less : lenOf taken (mailboxOf slot) + 1 ≡ lenOf t (mailboxOf slot)
     took-less =
-        omega (arith, length-view taken (mailboxOf slot), length-view t (mailboxOf slot), ap length (took .left), length-drop 1 (view t (mailboxOf slot)))
+        omega (
+          arith,
+          length-view taken (mailboxOf slot),
+          length-view t (mailboxOf slot),
+          ap length (took .left),
+          length-drop 1 (view t (mailboxOf slot)),
+        )
 
     took-more : 0 < lenOf taken HAND
     took-more =
@@ -99,16 +130,24 @@ module _ (t rows : Table) (q : ℕ) (sound : Sound t rows q) where
 
     took-keeps : Keeps t rows taken rows (q - 1)
     took-keeps =
-        through-by t rows taken q slot sound through (q - 1) (omega (arith, took-less, mail-by t rows taken q slot sound through))
+        through-by t rows taken q slot sound through (q - 1) (omega (
+          arith,
+          took-less,
+          mail-by t rows taken q slot
+              sound through,
+        ))
       where
         through : Through t rows taken slot
-        through = first-through t rows (sound .good) (mailboxOf slot) slot (aside-mailbox slot) HAND (aside-desk slot HAND desk-hand)
+        through = first-through t rows (sound .good) (mailboxOf slot) slot (aside-mailbox slot) HAND
+            (aside-desk slot HAND desk-hand)
 
-  pub take-keeps : (slot : ℕ) → slot < 128 → 0 < lenOf t (mailboxOf slot) → Keeps t rows (moveFirst t (mailboxOf slot) HAND) rows (q - 1)
+  pub take-keeps : (slot : ℕ) → slot < 128 → 0 < lenOf t (mailboxOf slot)
+      → Keeps t rows (moveFirst t (mailboxOf slot) HAND) rows (q - 1)
   take-keeps slot slot-is some = took-keeps slot slot-is some
 
   -- a message was taken: the step's hand is not empty
-  pub take-fills : (slot : ℕ) → slot < 128 → 0 < lenOf t (mailboxOf slot) → 0 < lenOf (moveFirst t (mailboxOf slot) HAND) HAND
+  pub take-fills : (slot : ℕ) → slot < 128 → 0 < lenOf t (mailboxOf slot)
+      → 0 < lenOf (moveFirst t (mailboxOf slot) HAND) HAND
   take-fills slot slot-is some = took-more slot slot-is some
 
   -- the first message of the step's hand is the first of a mailbox again
@@ -117,7 +156,12 @@ module _ (t rows : Table) (q : ℕ) (sound : Sound t rows q) where
     put-back = moveFirstToFront t HAND (mailboxOf slot)
 
     back-pair : Pair t HAND (mailboxOf slot)
-    back-pair = record { good = sound .good; from-is = omega arith; to-is = omega (arith, mailbox-is slot slot-is); apart = λ e. omega (arith, mailbox-is slot slot-is) }
+    back-pair = record {
+      good = sound .good;
+      from-is = omega arith;
+      to-is = omega (arith, mailbox-is slot slot-is);
+      apart = λ e. omega (arith, mailbox-is slot slot-is);
+    }
 
     back : MovedToFront t HAND (mailboxOf slot) 1 put-back
     back = move-first-to-front back-pair
@@ -139,9 +183,11 @@ module _ (t rows : Table) (q : ℕ) (sound : Sound t rows q) where
         (omega (arith, back-more, capped-fits (q + 1) (omega (arith, mail-fits t rows q sound))))
       where
         through : Through t rows put-back slot
-        through = exchange-through rows slot (moved-to-front-exchange back-pair 1 back) (aside-desk slot HAND desk-hand) (aside-mailbox slot)
+        through = exchange-through rows slot (moved-to-front-exchange back-pair 1 back)
+            (aside-desk slot HAND desk-hand) (aside-mailbox slot)
 
-  pub back-keeps : (slot : ℕ) → slot < 128 → 0 < lenOf t HAND → Keeps t rows (moveFirstToFront t HAND (mailboxOf slot)) rows (capped (q + 1))
+  pub back-keeps : (slot : ℕ) → slot < 128 → 0 < lenOf t HAND → Keeps t rows (moveFirstToFront t HAND (mailboxOf slot))
+      rows (capped (q + 1))
   back-keeps slot slot-is some = put-back-keeps slot slot-is some
 
   -- a row is written anew under the same log id
@@ -155,7 +201,13 @@ module _ (t rows : Table) (q : ℕ) (sound : Sound t rows q) where
   -- the first free entry goes to a place
   module _ (to : ℕ) (g : Desk to) where
     free-pair : Pair t FREE to
-    free-pair = record { good = sound .good; from-is = omega arith; to-is = g .is; apart = λ e. omega (arith, g .place) }
+    free-pair = record {
+      good = sound .good;
+      from-is = omega arith;
+      to-is = g .is;
+      apart =
+          λ e. omega (arith, g .place);
+    }
 
     came : Moved t FREE to 1 (moveFirst t FREE to)
     came = move-first free-pair
@@ -166,18 +218,31 @@ module _ (t rows : Table) (q : ℕ) (sound : Sound t rows q) where
           arith,
           sound .mail,
           mail-desk t (moveFirst t FREE to) 128 (sound .good) (came .good)
-              (λ s s-is other. came .others (6 + 2 * s) (λ z. omega arith) (λ z. g .no-mail s s-is (sym z))) (omega arith),
+              (λ s s-is other. came .others (6 + 2 * s) (λ z. omega arith) (λ z. g .no-mail s s-is (sym z)))
+              (omega arith),
         )
 
-    came-more : (x : ℕ) (rows′ : Table) → stands x (moveFirst t FREE to) rows′ ≡ stands x t rows′ + idCount x rows′ (take 1 (view t FREE))
+    came-more : (x : ℕ) (rows′ : Table) → stands x (moveFirst t FREE to) rows′ ≡ stands x t rows′ + idCount x rows′
+        (take 1 (view t FREE))
     came-more x rows′ =
-        omega (arith, free-change (moved-exchange free-pair 1 came) x rows′, ap (idCount x rows′) (came .left), id-split x rows′ 1 (view t FREE))
+        omega (
+          arith,
+          free-change (moved-exchange free-pair 1 came) x rows′,
+          ap (idCount x rows′) (came .left),
+          id-split x rows′ 1 (view t FREE),
+        )
 
   -- the first free entry gets a message, which goes to a place
-  pub comes : (to : ℕ) (m : Message) → Desk to → 0 < lenOf t FREE → Comes t rows (moveFirst t FREE to) (putMessage rows (headOf t FREE) m) q (m .id)
+  pub comes : (to : ℕ) (m : Message) → Desk to → 0 < lenOf t FREE → Comes t rows (moveFirst t FREE to)
+      (putMessage rows (headOf t FREE) m) q (m .id)
   comes to m g some =
       record {
-        sound = record { good = came to g .good; sized = rows-length rows (headOf t FREE) m ∙ sound .sized; mail = came-mail to g };
+        sound = record {
+          good = came to g .good;
+          sized = rows-length rows (headOf t FREE) m ∙ sound .sized;
+          mail =
+              came-mail to g;
+        };
         more = more;
       }
     where
@@ -188,9 +253,15 @@ module _ (t rows : Table) (q : ℕ) (sound : Sound t rows q) where
       here = rw (first-view t FREE first) at (count-at (view t FREE) 0 first)
 
       written : messageAt (putMessage rows (headOf t FREE) m) (headOf t FREE) ≡ m
-      written = message-put rows (headOf t FREE) m (omega (arith, sound .sized, entry t (sound .good) (headOf t FREE) FREE (omega arith) here))
+      written = message-put rows (headOf t FREE) m (omega (
+        arith,
+        sound .sized,
+        entry t (sound .good) (headOf t FREE)
+            FREE (omega arith) here,
+      ))
 
-      more : (x : ℕ) → stands x (moveFirst t FREE to) (putMessage rows (headOf t FREE) m) ≡ stands x t rows + pick (isId x (m .id)) 1 0
+      more : (x : ℕ) → stands x (moveFirst t FREE to) (putMessage rows (headOf t FREE) m)
+          ≡ stands x t rows + pick (isId x (m .id)) 1 0
       more x =
           omega (
             arith,
@@ -222,7 +293,8 @@ module _ (t rows : Table) (q : ℕ) (sound : Sound t rows q) where
                 (λ s s-is other. gone .others (6 + 2 * s) (λ z. omega arith) (λ z. omega arith)) (omega arith),
           )
 
-      less : (x : ℕ) → stands x (moveFirst t OVER FREE) rows + pick (isId x (messageAt rows (headOf t OVER) .id)) 1 0 ≡ stands x t rows
+      less : (x : ℕ) → stands x (moveFirst t OVER FREE) rows + pick (isId x (messageAt rows (headOf t OVER) .id)) 1 0
+          ≡ stands x t rows
       less x =
           omega (
             arith,

@@ -24,36 +24,44 @@ use Rattle.actor.specs.declared.question.RanIn.{RanIn}
 use Rattle.actor.specs.declared.question.RanIn.the-variants as ran
 use Rattle.actor.specs.Questions.{yesIn, clockIn, countIn, ranIn, isTold}
 use Rattle.actor.specs.Actors.{actorAt, hasRun, deadlineOf}
-use Rattle.steps.specs.declared.fixed.FixedAt.{FixedAt}
-use Rattle.steps.specs.declared.fixed.FixedAt.the-variants as fixed
-use Rattle.steps.specs.declared.eval.EvalAt.{EvalAt}
-use Rattle.steps.specs.declared.eval.EvalAt.the-variants as eval
+use Rattle.steps.specs.declared.fixed.FixedAsk.{FixedAsk}
+use Rattle.steps.specs.declared.fixed.FixedAsk.the-variants as fixed
+use Rattle.steps.specs.declared.eval.EvalAsk.{EvalAsk}
+use Rattle.steps.specs.declared.eval.EvalAsk.the-variants as eval
 use Rattle.steps.specs.declared.eval.Limit.{Limit}
 use Rattle.steps.specs.Steps.{HAND, callerFirst, overFirst, idledAt, MailTaken, takeMail}
 use Rattle.steps.specs.StepFixed.{FixedBoth, stepFixed}
 use Rattle.steps.specs.StepFixed as one
 use Rattle.steps.specs.StepEval.{EvalStarted, EvalBoth, evalStart, stepEval}
 use Rattle.steps.specs.StepEval as two
-use Rattle.places.specs.Places.{Sound, Keeps, HandFull}
-use Rattle.places.proofs.Moves.{desk-hand, desk-held, then-keeps, same-keeps, move-keeps, over-keeps, take-keeps, take-fills, back-keeps}
+use Rattle.places.specs.Places.{Sound, Keeps, HandFull, NextFull}
+use Rattle.places.proofs.Moves.{desk-hand, desk-held, then-keeps, same-keeps, move-keeps, over-keeps}
+use Rattle.places.proofs.Moves.{take-keeps, take-fills, back-keeps}
 
 -- what a transition of a fixed actor keeps
 pub record FixedKeeps (t rows : Table) (s : FixedBoth) : Type 0 where
   pub keeps : Keeps t rows (s .links) rows (s .step .queued)
-  pub full : HandFull (s .step .at) (s .links)
+  pub full : NextFull (s .step .next) (s .links)
 
 -- what a transition of an eval actor keeps
 abbrev EvalKeeps : Table → Table → ℕ → EvalBoth → Type 0
 EvalKeeps t rows q s = Keeps t rows (s .links) rows q
 
 -- what holds of both branches holds of the choice
-pub pick-rule : {A : Type 0} (P : A → Type 0) (b : Bool) {x y : A} → (b ≡ true → P x) → (b ≡ false → P y) → P (pick b x y)
+pub pick-rule : {A : Type 0} (P : A → Type 0) (b : Bool) {x y : A} → (b ≡ true → P x) → (b ≡ false → P y)
+    → P (pick b x y)
 pick-rule P true f g = f refl
 pick-rule P false f g = g refl
 
 -- what holds with mail and without holds of the mail that is taken
-mail-rule : (t l : Table) (slot q : ℕ) (P : MailTaken → Type 0) → P (record { links = t; actors = idledAt l slot; mail = record { taken = false; queued = q } })
-    → (0 < lenOf t (mailboxOf slot) → P (record { links = moveFirst t (mailboxOf slot) HAND; actors = l; mail = record { taken = true; queued = q - 1 } })) → P (takeMail t l slot q)
+mail-rule : (t l : Table) (slot q : ℕ) (P : MailTaken → Type 0)
+    → P (record { links = t; actors = idledAt l slot; mail = record { taken = false; queued = q } })
+    → (0 < lenOf t (mailboxOf slot) → P (record {
+      links = moveFirst t (mailboxOf slot) HAND;
+      actors = l;
+      mail =
+          record { taken = true; queued = q - 1 };
+    })) → P (takeMail t l slot q)
 unfolding takeMail
 mail-rule t l slot q P none some = go (ℕ-discrete (lenOf t (mailboxOf slot)) 0)
   where
@@ -110,8 +118,13 @@ module _ (t rows l : Table) (q slot : ℕ) (sound : Sound t rows q) (slot-is : s
   unfolding one.fixedDrained
   drained-keeps n =
       pick-rule (FixedKeeps t rows) (ltb 0 n) (λ e. record { keeps = same; full = omega arith })
-      (λ e. mail-rule t l slot q (λ (m : MailTaken). FixedKeeps t rows (one.fixedMail m)) (record { keeps = same; full = omega arith })
-      (λ some. record { keeps = take-keeps t rows q sound slot slot-is some; full = take-fills t rows q sound slot slot-is some }))
+      (λ e. mail-rule t l slot q (λ (m : MailTaken). FixedKeeps t rows (one.fixedMail m))
+      (record { keeps = same; full = omega arith })
+      (λ some. record {
+        keeps = take-keeps t rows q sound slot slot-is some;
+        full = take-fills t rows q sound slot
+            slot-is some;
+      }))
 
   pushed-keeps : 0 < lenOf t HAND → (b : Bool) → FixedKeeps t rows (one.fixedPushed t l slot q b)
   unfolding one.fixedPushed
@@ -121,7 +134,8 @@ module _ (t rows l : Table) (q slot : ℕ) (sound : Sound t rows q) (slot-is : s
   dispatched-keeps : (n : ℕ) → FixedKeeps t rows (one.keptFixed l q (one.fixedDispatched t slot n))
   unfolding one.fixedDispatched
   dispatched-keeps n =
-      pick-rule (λ (f : one.FixedLinks). FixedKeeps t rows (one.keptFixed l q f)) (ltb 0 n) (λ e. record { keeps = same; full = omega arith }) (λ e. failed-keeps)
+      pick-rule (λ (f : one.FixedLinks). FixedKeeps t rows (one.keptFixed l q f)) (ltb 0 n)
+      (λ e. record { keeps = same; full = omega arith }) (λ e. failed-keeps)
 
   by-run : (start : Bool) (r : RanIn) → FixedKeeps t rows (one.keptFixed l q (one.runBy t rows slot start r))
   by-run start (ran.Of s) = ran-keeps s
@@ -140,29 +154,32 @@ module _ (t rows l : Table) (q slot : ℕ) (sound : Sound t rows q) (slot-is : s
   by-dispatch (count.Of n) = dispatched-keeps n
   by-dispatch count.Other = record { keeps = same; full = omega arith }
 
-  pub fixed-keeps : (a : FixedAt) → HandFull a t → (r : Reply) → FixedKeeps t rows (stepFixed t rows l slot q a r)
+  pub fixed-keeps : (a : FixedAsk) → HandFull a t → (r : Reply) → FixedKeeps t rows (stepFixed t rows l slot q a r)
   unfolding one.stepFixed one.runReply one.drainReply one.pushReply one.dispatchReply
   fixed-keeps (fixed.Run start) full r = by-run start (ranIn r)
   fixed-keeps fixed.Drain full r = by-drain (countIn r)
   fixed-keeps fixed.Push full r = by-push full (yesIn r)
   fixed-keeps fixed.Dispatch full r = by-dispatch (countIn r)
-  fixed-keeps (fixed.End e) full r = record { keeps = same; full = omega arith }
 
   -- ---- an eval actor: queued changes only where mail is taken, as a step begins
 
   pub eval-start-keeps : Keeps t rows (evalStart t l slot q .links) rows (evalStart t l slot q .step .queued)
   unfolding two.evalStart
   eval-start-keeps =
-      pick-rule (λ (s : EvalStarted). Keeps t rows (s .links) rows (s .step .queued)) (hasRun (actorAt l slot .run)) (λ e. same)
-      (λ e. mail-rule t l slot q (λ (m : MailTaken). Keeps t rows (m .links) rows (m .mail .queued)) same (λ some. take-keeps t rows q sound slot slot-is some))
+      pick-rule (λ (s : EvalStarted). Keeps t rows (s .links) rows (s .step .queued)) (hasRun (actorAt l slot .run))
+      (λ e. same)
+      (λ e. mail-rule t l slot q (λ (m : MailTaken). Keeps t rows (m .links) rows (m .mail .queued)) same
+      (λ some. take-keeps t rows q sound slot slot-is some))
 
   finish-eval : (o : Outcome) → EvalKeeps t rows q (two.evalFinish t rows l slot o)
   unfolding two.evalFinish
-  finish-eval o = then-keeps held-to-hand (tell-eval (moveFirst t (handOf slot) HAND) rows _ q slot (held-to-hand .sound) o)
+  finish-eval o = then-keeps held-to-hand (tell-eval (moveFirst t (handOf slot) HAND) rows _ q slot
+      (held-to-hand .sound) o)
 
   clocked-eval : (c : ℕ) → EvalKeeps t rows q (two.evalClocked t rows l slot c)
   unfolding two.evalClocked
-  clocked-eval c = pick-rule (EvalKeeps t rows q) (leb (deadlineOf (actorAt l slot .run)) c) (λ e. finish-eval outcome.Late) (λ e. same)
+  clocked-eval c = pick-rule (EvalKeeps t rows q) (leb (deadlineOf (actorAt l slot .run)) c)
+      (λ e. finish-eval outcome.Late) (λ e. same)
 
   booted-eval : (b : Bool) → EvalKeeps t rows q (two.evalBooted t rows l slot b)
   unfolding two.evalBooted
@@ -208,12 +225,13 @@ module _ (t rows l : Table) (q slot : ℕ) (sound : Sound t rows q) (slot-is : s
   by-dispatch-eval (count.Of n) = dispatched-eval n
   by-dispatch-eval count.Other = same
 
-  pub eval-keeps : (limit : Limit) (a : EvalAt) (r : Reply) → Keeps t rows (stepEval t rows l slot limit a r .links) rows q
+  pub eval-keeps : (limit : Limit) (a : EvalAsk) (r : Reply) → Keeps t rows (stepEval t rows l slot limit a r .links)
+      rows q
   unfolding two.stepEval two.clockReply two.bootReply two.startReply two.runReply two.dispatchReply two.tellReply
   eval-keeps limit eval.Clock r = by-clock (clockIn r)
   eval-keeps limit eval.Boot r = by-boot (yesIn r)
   eval-keeps limit eval.StartClock r = by-start limit (clockIn r)
   eval-keeps limit (eval.Run start) r = by-run-eval start (ranIn r)
   eval-keeps limit eval.Dispatch r = by-dispatch-eval (countIn r)
-  eval-keeps limit (eval.Tell o) r = pick-rule (EvalKeeps t rows q) (isTold r) (λ e. over-eval t rows l q slot sound) (λ e. same)
-  eval-keeps limit (eval.End e) r = same
+  eval-keeps limit (eval.Tell o) r = pick-rule (EvalKeeps t rows q) (isTold r) (λ e. over-eval t rows l q slot sound)
+      (λ e. same)

@@ -19,7 +19,8 @@ use Rattle.steps.specs.Steps.{OVER, placeLogged, placeOver, overFirst}
 use Rattle.steps.proofs.Times.{capped-fits}
 use Rattle.group.specs.Roster.{overAll}
 use Rattle.places.specs.Places.{idCount, stands, mailTotal, Sound, Keeps, Desk, mailChange}
-use Rattle.places.proofs.Totals.{total-same, total-at, id-append, id-split, id-none, id-single, stands-all, mail-few}
+use Rattle.places.proofs.Totals.{total-same, total-at, id-append, id-split, id-none, id-single, stands-all}
+use Rattle.places.proofs.Totals.{mail-few}
 
 -- ---- mailboxes
 
@@ -43,13 +44,21 @@ pub aside-mailbox : (slot : ℕ) → Aside slot (mailboxOf slot)
 aside-mailbox slot = go (decLt slot 128)
   where
     go : Dec (slot < 128) → Aside slot (mailboxOf slot)
-    go (yes p) = record { place = omega (arith, mailbox-is slot p); no-mail = λ s s-is other e. other (omega (arith, mailbox-is slot p)) }
-    go (no p) = record { place = omega (arith, mailbox-past slot (omega arith)); no-mail = λ s s-is other e. omega (arith, mailbox-past slot (omega arith)) }
+    go (yes p) = record {
+      place = omega (arith, mailbox-is slot p);
+      no-mail = λ s s-is other e. other
+          (omega (arith, mailbox-is slot p));
+    }
+    go (no p) = record {
+      place = omega (arith, mailbox-past slot (omega arith));
+      no-mail = λ s s-is other e. omega
+          (arith, mailbox-past slot (omega arith));
+    }
 
 -- ---- messages go from place to place
 
--- from the links t to the links r: no log id comes or goes, and no mailbox changes but that of `slot`; at slot 128 none
--- does
+-- from the links t to the links r: no log id comes or goes, and no mailbox changes but that of `slot`; at slot 128
+-- none does
 pub record Through (t rows r : Table) (slot : ℕ) : Type 0 where
   pub good : Good r
   pub same : (x : ℕ) → stands x r rows ≡ stands x t rows
@@ -59,7 +68,8 @@ pub same-through : (t rows : Table) (slot : ℕ) → Good t → Through t rows t
 same-through t rows slot good = record { good = good; same = λ x. refl; others = λ s s-is other. refl }
 
 -- one after the other
-pub then-through : {t rows r u : Table} {slot : ℕ} → Through t rows r slot → Through r rows u slot → Through t rows u slot
+pub then-through : {t rows r u : Table} {slot : ℕ} → Through t rows r slot → Through r rows u slot
+    → Through t rows u slot
 then-through first second =
     record {
       good = second .good;
@@ -76,20 +86,27 @@ mailbox-few : (t : Table) → Good t → (slot : ℕ) → lenOf t (mailboxOf slo
 mailbox-few t good slot = go (decLt slot 128)
   where
     go : Dec (slot < 128) → lenOf t (mailboxOf slot) ≤ ENTRIES
-    go (yes p) = omega (arith, length-view t (mailboxOf slot), at-most-all t good (mailboxOf slot) (omega (arith, mailbox-is slot p)))
+    go (yes p) = omega (
+      arith,
+      length-view t (mailboxOf slot),
+      at-most-all t good (mailboxOf slot)
+          (omega (arith, mailbox-is slot p)),
+    )
     go (no p) = omega (arith, mailbox-none t good slot (omega arith))
 
 -- the mailbox of each slot
 abbrev mailboxes : Table → ℕ → List ℕ
 mailboxes t slot = view t (6 + 2 * slot)
 
-module _ (t r : Table) (slot : ℕ) (good : Good t) (good′ : Good r) (others : (s : ℕ) → s < 128 → s ≢ slot → mailboxes r s ≡ mailboxes t s) where
+module _ (t r : Table) (slot : ℕ) (good : Good t) (good′ : Good r) (others : (s : ℕ) → s < 128 → s ≢ slot
+    → mailboxes r s ≡ mailboxes t s) where
   -- the sum of the mailbox lengths changes as that mailbox does
   mail-through : mailTotal r + lenOf t (mailboxOf slot) ≡ mailTotal t + lenOf r (mailboxOf slot)
   unfolding mailTotal
   mail-through = go (decLt slot 128)
     where
-      go : Dec (slot < 128) → total length 128 (mailboxes r) + lenOf t (mailboxOf slot) ≡ total length 128 (mailboxes t) + lenOf r (mailboxOf slot)
+      go : Dec (slot < 128) → total length 128 (mailboxes r) + lenOf t (mailboxOf slot)
+          ≡ total length 128 (mailboxes t) + lenOf r (mailboxOf slot)
       go (yes p) =
           rw (mailbox-is slot p)
           (omega (
@@ -101,7 +118,8 @@ module _ (t r : Table) (slot : ℕ) (good : Good t) (good′ : Good r) (others :
       go (no p) =
           omega (
             arith,
-            total-same length length 128 (mailboxes r) (mailboxes t) (λ s s-is. ap length (others s s-is (λ e. p (omega arith)))),
+            total-same length length 128 (mailboxes r) (mailboxes t)
+                (λ s s-is. ap length (others s s-is (λ e. p (omega arith)))),
             mailbox-none t good slot (omega arith),
             mailbox-none r good′ slot (omega arith),
           )
@@ -120,18 +138,35 @@ module _ (t rows r : Table) (q slot : ℕ) (sound : Sound t rows q) (through : T
 
   -- queued changes as that mailbox does
   pub through-by : (p : ℕ) → p + lenOf t (mailboxOf slot) ≡ q + lenOf r (mailboxOf slot) → Keeps t rows r rows p
-  through-by p by = record { sound = record { good = through .good; sized = sound .sized; mail = omega (arith, mail-by) }; same = through .same }
+  through-by p by = record {
+    sound = record {
+      good = through .good;
+      sized = sound .sized;
+      mail =
+          omega (arith, mail-by);
+    };
+    same = through .same;
+  }
 
   -- no mailbox changes
   pub through-desk : 128 ≤ slot → Keeps t rows r rows q
-  through-desk out = through-by q (omega (arith, mailbox-none t (sound .good) slot out, mailbox-none r (through .good) slot out))
+  through-desk out = through-by q (omega (
+    arith,
+    mailbox-none t (sound .good) slot out,
+    mailbox-none r (through .good)
+        slot out,
+  ))
 
   -- queued changes as the rules write it, and is never capped
   pub through-keeps : Keeps t rows r rows (mailChange t r slot q)
   through-keeps = through-by (mailChange t r slot q) (rw fits (omega (arith, mail-by)))
     where
       fits : capped (q + lenOf r (mailboxOf slot)) ≡ q + lenOf r (mailboxOf slot)
-      fits = capped-fits (q + lenOf r (mailboxOf slot)) (omega (arith, mail-fits t rows q sound, mailbox-few r (through .good) slot))
+      fits = capped-fits (q + lenOf r (mailboxOf slot)) (omega (
+        arith,
+        mail-fits t rows q sound,
+        mailbox-few r (through .good) slot,
+      ))
 
 -- ---- whatever the numbers
 
@@ -160,7 +195,8 @@ module _ (t : Table) (good : Good t) (from to : ℕ) (P : Table → Type 0) (sta
 pub record Exchange (t r : Table) (from to : ℕ) : Type 0 where
   pub pair : Pair t from to
   pub good : Good r
-  pub ids : (x : ℕ) (rows : Table) → idCount x rows (view r from) + idCount x rows (view r to) ≡ idCount x rows (view t from) + idCount x rows (view t to)
+  pub ids : (x : ℕ) (rows : Table) → idCount x rows (view r from) + idCount x rows (view r to)
+      ≡ idCount x rows (view t from) + idCount x rows (view t to)
   pub others : (k : ℕ) → k ≢ from → k ≢ to → view r k ≡ view t k
 
 module _ {t r : Table} {from to : ℕ} (pair : Pair t from to) where
@@ -169,7 +205,11 @@ module _ {t r : Table} {from to : ℕ} (pair : Pair t from to) where
       record {
         pair = pair;
         good = m .good;
-        ids = λ x rows. rw (m .left, m .joined) (omega (arith, id-append x rows (view t to) (take n (view t from)), id-split x rows n (view t from)));
+        ids = λ x rows. rw (m .left, m .joined) (omega (
+          arith,
+          id-append x rows (view t to) (take n (view t from)),
+          id-split x rows n (view t from),
+        ));
         others = m .others;
       }
 
@@ -178,7 +218,12 @@ module _ {t r : Table} {from to : ℕ} (pair : Pair t from to) where
       record {
         pair = pair;
         good = m .good;
-        ids = λ x rows. rw (m .left, m .joined) (omega (arith, id-none x rows, id-append x rows (view t to) (view t from)));
+        ids = λ x rows. rw (m .left, m .joined) (omega (
+          arith,
+          id-none x rows,
+          id-append x rows (view t to)
+              (view t from),
+        ));
         others = m .others;
       }
 
@@ -187,7 +232,11 @@ module _ {t r : Table} {from to : ℕ} (pair : Pair t from to) where
       record {
         pair = pair;
         good = m .good;
-        ids = λ x rows. rw (m .left, m .joined) (omega (arith, id-append x rows (take n (view t from)) (view t to), id-split x rows n (view t from)));
+        ids = λ x rows. rw (m .left, m .joined) (omega (
+          arith,
+          id-append x rows (take n (view t from)) (view t to),
+          id-split x rows n (view t from),
+        ));
         others = m .others;
       }
 
@@ -195,8 +244,10 @@ module _ {t r : Table} {from to : ℕ} (e : Exchange t r from to) (x : ℕ) (row
   -- all the lists together hold what they held
   all-same : total (idCount x rows) LISTS (view r) ≡ total (idCount x rows) LISTS (view t)
   all-same =
-      ap (total (idCount x rows) LISTS) (put-two (view r) (view t) from to (view r from) (view r to) (e .pair .apart) refl refl (e .others))
-      ∙ total-kept (idCount x rows) LISTS (view t) from to (e .pair .from-is) (e .pair .to-is) (e .pair .apart) (view r from) (view r to) (e .ids x rows)
+      ap (total (idCount x rows) LISTS) (put-two (view r) (view t) from to (view r from) (view r to) (e .pair .apart)
+      refl refl (e .others))
+      ∙ total-kept (idCount x rows) LISTS (view t) from to (e .pair .from-is) (e .pair .to-is) (e .pair .apart)
+      (view r from) (view r to) (e .ids x rows)
 
   -- what the places lose is free
   pub free-change : stands x r rows + idCount x rows (view r FREE) ≡ stands x t rows + idCount x rows (view t FREE)
@@ -204,9 +255,15 @@ module _ {t r : Table} {from to : ℕ} (e : Exchange t r from to) (x : ℕ) (row
 
   -- between two places
   pub stands-same : 0 < from → 0 < to → stands x r rows ≡ stands x t rows
-  stands-same f g = omega (arith, free-change, ap (idCount x rows) (e .others FREE (λ z. omega arith) (λ z. omega arith)))
+  stands-same f g = omega (
+    arith,
+    free-change,
+    ap (idCount x rows) (e .others FREE (λ z. omega arith)
+        (λ z. omega arith)),
+  )
 
-pub exchange-through : {t r : Table} {from to : ℕ} (rows : Table) (slot : ℕ) → Exchange t r from to → Aside slot from → Aside slot to → Through t rows r slot
+pub exchange-through : {t r : Table} {from to : ℕ} (rows : Table) (slot : ℕ) → Exchange t r from to → Aside slot from
+    → Aside slot to → Through t rows r slot
 exchange-through rows slot e f g =
     record {
       good = e .good;
@@ -229,14 +286,22 @@ module _ (t rows : Table) (good : Good t) (from slot : ℕ) (f : Aside slot from
 
   -- a message that is not logged goes
   free-through : ((x : ℕ) → idCount x rows (take 1 (view t from)) ≡ 0) → Through t rows (moveFirst t from FREE) slot
-  free-through never = first-rule t good from FREE (λ (r : Table). Through t rows r slot) (same-through t rows slot good) moved
+  free-through never = first-rule t good from FREE (λ (r : Table). Through t rows r slot) (same-through t rows slot
+      good) moved
     where
       moved : Pair t from FREE → Through t rows (moveFirst t from FREE) slot
       moved pair =
           let m : Moved t from FREE 1 (moveFirst t from FREE) = move-first pair in
           record {
             good = m .good;
-            same = λ x. omega (arith, never x, free-change (moved-exchange pair 1 m) x rows, ap (idCount x rows) (m .joined), id-append x rows (view t FREE) (take 1 (view t from)));
+            same = λ x. omega (
+              arith,
+              never x,
+              free-change (moved-exchange pair 1 m) x rows,
+              ap (idCount x rows)
+                  (m .joined),
+              id-append x rows (view t FREE) (take 1 (view t from)),
+            );
             others = λ s s-is other. m .others (6 + 2 * s) (f .no-mail s s-is other) (λ z. omega arith);
           }
 
@@ -245,8 +310,13 @@ module _ (t rows : Table) (good : Good t) (from slot : ℕ) (f : Aside slot from
   unfolding overFirst placeOver
   over-through = rw (ap (placeOver rows) (first-is t from)) (go (view t from) refl)
     where
-      by : (e : ℕ) (es : List ℕ) → view t from ≡ e ∷ es → (l : Logged) → messageAt rows e .id ≡ l → Through t rows (moveFirst t from (placeLogged l)) slot
-      by e es is (logged.As id) p = first-through OVER (record { place = omega arith; no-mail = λ s s-is other z. omega arith })
+      by : (e : ℕ) (es : List ℕ) → view t from ≡ e ∷ es → (l : Logged) → messageAt rows e .id ≡ l
+          → Through t rows (moveFirst t from (placeLogged l)) slot
+      by e es is (logged.As id) p = first-through OVER (record {
+        place = omega arith;
+        no-mail = λ s s-is other z. omega
+            arith;
+      })
       by e es is logged.Never p = free-through (λ x. rw (is, id-single x rows e, p))
 
       go : (l : List ℕ) → view t from ≡ l → Through t rows (moveFirst t from (placeOver rows (firstIn l))) slot
@@ -254,7 +324,8 @@ module _ (t rows : Table) (good : Good t) (from slot : ℕ) (f : Aside slot from
       go (e ∷ es) is = by e es is (messageAt rows e .id) refl
 
 -- the first n messages are over
-pub over-all-through : (n : ℕ) (t rows : Table) → Good t → (from slot : ℕ) → Aside slot from → Through t rows (overAll t rows from n) slot
+pub over-all-through : (n : ℕ) (t rows : Table) → Good t → (from slot : ℕ) → Aside slot from
+    → Through t rows (overAll t rows from n) slot
 unfolding overAll
 over-all-through zero t rows good from slot f = same-through t rows slot good
 over-all-through (suc n) t rows good from slot f =

@@ -1,6 +1,6 @@
--- The six places of a message: the lists 1 to 261 of the family (inbox, pending, batch, over, the step's hand, and for
--- each actor's slot a mailbox and a hand); list 0 is what is free. How often a log id stands in them, how many messages
--- are in mailboxes, and what every part of a turn keeps.
+-- The six places of a message: the lists 1 to 261 of the family (inbox, pending, batch, over, the step's hand, and
+-- for each actor's slot a mailbox and a hand); list 0 is what is free. How often a log id stands in them, how many
+-- messages are in mailboxes, and what every part of a turn keeps.
 use mathlib.Core.Path.{_≡_}
 use mathlib.Core.Bool.{Bool, false}
 use mathlib.Core.Logic.{_≢_}
@@ -13,8 +13,10 @@ use Rattle.lists.specs.Family.{total, view, Good}
 use Rattle.actor.specs.declared.message.Logged.{Logged}
 use Rattle.actor.specs.declared.message.Logged.the-variants as logged
 use Rattle.actor.specs.Messages.{messageAt}
-use Rattle.steps.specs.declared.fixed.FixedAt.{FixedAt}
-use Rattle.steps.specs.declared.fixed.FixedAt.the-variants as fixed
+use Rattle.steps.specs.declared.fixed.FixedAsk.{FixedAsk}
+use Rattle.steps.specs.declared.fixed.FixedAsk.the-variants as fixed
+use Rattle.steps.specs.declared.fixed.FixedNext.{FixedNext}
+use Rattle.steps.specs.declared.fixed.FixedNext.the-variants as next
 
 -- a message is logged under id x
 abbrev pub isId : ℕ → Logged → Bool
@@ -66,9 +68,12 @@ abbrev pub mailChange : Table → Table → ℕ → ℕ → ℕ
 mailChange t t′ slot queued = capped (queued + lenOf t′ (mailboxOf slot)) - lenOf t (mailboxOf slot)
 
 -- while Push is open its message is in the step's hand
-abbrev pub HandFull : FixedAt → Table → Type 0
+abbrev pub HandFull : FixedAsk → Table → Type 0
 HandFull (fixed.Run start) t = 0 ≤ 0
 HandFull fixed.Drain t = 0 ≤ 0
 HandFull fixed.Push t = 0 < lenOf t 5
 HandFull fixed.Dispatch t = 0 ≤ 0
-HandFull (fixed.End e) t = 0 ≤ 0
+
+abbrev pub NextFull : FixedNext → Table → Type 0
+NextFull (next.Asks a) t = HandFull a t
+NextFull (next.Ended s) t = 0 ≤ 0

@@ -1,2 +1,3 @@
 -- Laws of the pool.
 pub mod Loops
+pub mod SyncLaws

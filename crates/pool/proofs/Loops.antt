@@ -13,7 +13,8 @@ use Rattle.pool.specs.Run.{waitersFrom}
 before : (n : ℕ) → suc n - 1 ≡ n
 before n = omega arith
 
-pub waiters-more : (keys : Table) (g : ℕ) → 0 < g → waitersFrom keys g ≡ pick (ltb 0 (countOf (keysAt keys (waitingRow (g - 1))))) true (waitersFrom keys (g - 1))
+pub waiters-more : (keys : Table) (g : ℕ) → 0 < g → waitersFrom keys g
+    ≡ pick (ltb 0 (countOf (keysAt keys (waitingRow (g - 1))))) true (waitersFrom keys (g - 1))
 unfolding waitersFrom
 waiters-more keys zero some = absurd (not-suc-le-zero some)
 waiters-more keys (suc g) some = rw (before g)

@@ -1,4 +1,5 @@
--- A turn runs on. It ends with busy (an actor was stepped, or pending is not empty) and waiters (some waiting list is not empty).
+-- A turn runs on. It ends with busy (an actor was stepped, or pending is not empty) and waiters (some waiting list is
+-- not empty).
 use mathlib.Core.Bool.{Bool, true, false}
 use mathlib.Core.List.{List}
 use Prim.Native.Nat.{ℕ, zero, suc}
@@ -56,4 +57,13 @@ unfoldable pub runOf : Pool → List ℕ → Table → List ℕ → Table → Ta
 runOf p bytes records store groups t rows keys actors =
     ranBy p
     (advanceOf (weightOf (p .turn)) (record { limits = p .limits; store = store; groups = groups })
-    (record { turn = p .turn; bytes = bytes; records = records; links = t; rows = rows; keys = keys; actors = actors }))
+    (record {
+      turn = p .turn;
+      bytes = bytes;
+      records = records;
+      links = t;
+      rows = rows;
+      keys = keys;
+      actors =
+          actors;
+    }))

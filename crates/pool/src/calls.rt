@@ -1,6 +1,9 @@
 // The calls turn, reply, sync and close.
 ghost use mathlib.Core.Path.{_≡_};
-ghost use Rattle.pool.specs.Calls.{firstPoint, begunOf, turnFree, turnOf, storedIn, storedOf, failedOf, orderReply, isMessage, sentCheck, sentOf, resumedOf, fitReply, openReply, turnReply, replyOf, syncFree, syncOf, closedPool, closeOf};
+ghost use Rattle.pool.specs.Calls.{firstPoint, begunOf, turnFree, turnOf, storedIn, storedOf, failedOf};
+ghost use Rattle.pool.specs.Calls.{orderReply, isMessage, sentCheck, sentOf};
+ghost use Rattle.pool.specs.Calls.{resumedOf, fitReply, openReply, turnReply, replyOf, syncDid, syncFree};
+ghost use Rattle.pool.specs.Calls.{syncOf, closedPool, closeOf};
 use crate::run;
 use actor::message::Caller;
 use actor::message::Logged;
@@ -14,6 +17,7 @@ use front::state::Pool;
 use front::state::Refusal;
 use front::state::Told;
 use group::at::At;
+use log::Counters;
 use log::wal;
 use setup::entry;
 use turn::asks;
@@ -79,7 +83,20 @@ fn turn_free(
     lists: &mut [[u8; 65]],
     actors: &mut [[u64; 12]],
 ) -> Told
-    ensures { λ r. ⌜ record { bytes = now (log .exit); records = now (records .exit); links = now (links .exit); rows = now (rows .exit); keys = now (lists .exit); actors = now (actors .exit); told = r } ≡ turnFree pool (now (log .entry)) (now (records .entry)) (now (store .entry)) (now (groups .entry)) (now (links .entry)) (now (rows .entry)) (now (lists .entry)) (now (actors .entry)) ⌝ }
+    ensures { λ r. ⌜
+        record {
+          bytes = now (log .exit);
+          records = now (records .exit);
+          links = now (links .exit);
+          rows = now (rows .exit);
+          keys = now (lists .exit);
+          actors = now (actors .exit);
+          told = r;
+        }
+        ≡ turnFree
+        pool (now (log .entry)) (now (records .entry)) (now (store .entry)) (now (groups .entry))
+        (now (links .entry)) (now (rows .entry)) (now (lists .entry)) (now (actors .entry))
+        ⌝ }
 {
     let turn = pool.turn;
     let at = turn.at;
@@ -103,7 +120,20 @@ pub fn turn(
     lists: &mut [[u8; 65]],
     actors: &mut [[u64; 12]],
 ) -> Told
-    ensures { λ r. ⌜ record { bytes = now (log .exit); records = now (records .exit); links = now (links .exit); rows = now (rows .exit); keys = now (lists .exit); actors = now (actors .exit); told = r } ≡ turnOf pool (now (log .entry)) (now (records .entry)) (now (store .entry)) (now (groups .entry)) (now (links .entry)) (now (rows .entry)) (now (lists .entry)) (now (actors .entry)) ⌝ }
+    ensures { λ r. ⌜
+        record {
+          bytes = now (log .exit);
+          records = now (records .exit);
+          links = now (links .exit);
+          rows = now (rows .exit);
+          keys = now (lists .exit);
+          actors = now (actors .exit);
+          told = r;
+        }
+        ≡ turnOf
+        pool (now (log .entry)) (now (records .entry)) (now (store .entry)) (now (groups .entry))
+        (now (links .entry)) (now (rows .entry)) (now (lists .entry)) (now (actors .entry))
+        ⌝ }
 {
     let turn = pool.turn;
     let disk = turn.disk;
@@ -153,7 +183,20 @@ fn stored(
     lists: &mut [[u8; 65]],
     actors: &mut [[u64; 12]],
 ) -> Told
-    ensures { λ r. ⌜ record { bytes = now (log .exit); records = now (records .exit); links = now (links .exit); rows = now (rows .exit); keys = now (lists .exit); actors = now (actors .exit); told = r } ≡ storedOf pool (now (log .entry)) (now (records .entry)) (now (store .entry)) (now (groups .entry)) (now (links .entry)) (now (rows .entry)) (now (lists .entry)) (now (actors .entry)) ⌝ }
+    ensures { λ r. ⌜
+        record {
+          bytes = now (log .exit);
+          records = now (records .exit);
+          links = now (links .exit);
+          rows = now (rows .exit);
+          keys = now (lists .exit);
+          actors = now (actors .exit);
+          told = r;
+        }
+        ≡ storedOf
+        pool (now (log .entry)) (now (records .entry)) (now (store .entry)) (now (groups .entry))
+        (now (links .entry)) (now (rows .entry)) (now (lists .entry)) (now (actors .entry))
+        ⌝ }
 {
     let turn = pool.turn;
     let at = turn.at;
@@ -189,7 +232,20 @@ fn order_reply(
     actors: &mut [[u64; 12]],
     reply: Reply,
 ) -> Told
-    ensures { λ r. ⌜ record { bytes = now (log .exit); records = now (records .exit); links = now (links .exit); rows = now (rows .exit); keys = now (lists .exit); actors = now (actors .exit); told = r } ≡ orderReply pool (now (log .entry)) (now (records .entry)) (now (store .entry)) (now (groups .entry)) (now (links .entry)) (now (rows .entry)) (now (lists .entry)) (now (actors .entry)) reply ⌝ }
+    ensures { λ r. ⌜
+        record {
+          bytes = now (log .exit);
+          records = now (records .exit);
+          links = now (links .exit);
+          rows = now (rows .exit);
+          keys = now (lists .exit);
+          actors = now (actors .exit);
+          told = r;
+        }
+        ≡ orderReply
+        pool (now (log .entry)) (now (records .entry)) (now (store .entry)) (now (groups .entry))
+        (now (links .entry)) (now (rows .entry)) (now (lists .entry)) (now (actors .entry)) reply
+        ⌝ }
 {
     let came = stored_in(reply);
     match came {
@@ -252,7 +308,12 @@ fn sent(
     name: &[u8],
     body: &[u8],
 ) -> Told
-    ensures { λ r. ⌜ record { store = now (store .exit); links = now (links .exit); rows = now (rows .exit); told = r } ≡ sentOf pool (now (store .entry)) (now (links .entry)) (now (rows .entry)) (now (name .entry)) (now (body .entry)) ⌝ }
+    ensures { λ r. ⌜
+        record { store = now (store .exit); links = now (links .exit); rows = now (rows .exit); told = r }
+        ≡ sentOf
+        pool (now (store .entry)) (now (links .entry)) (now (rows .entry)) (now (name .entry))
+        (now (body .entry))
+        ⌝ }
 {
     let check = sent_check(links, name.len(), body.len());
     match check {
@@ -286,7 +347,20 @@ fn resumed(
     actors: &mut [[u64; 12]],
     reply: Reply,
 ) -> Told
-    ensures { λ r. ⌜ record { bytes = now (log .exit); records = now (records .exit); links = now (links .exit); rows = now (rows .exit); keys = now (lists .exit); actors = now (actors .exit); told = r } ≡ resumedOf pool (now (log .entry)) (now (records .entry)) (now (store .entry)) (now (groups .entry)) (now (links .entry)) (now (rows .entry)) (now (lists .entry)) (now (actors .entry)) reply ⌝ }
+    ensures { λ r. ⌜
+        record {
+          bytes = now (log .exit);
+          records = now (records .exit);
+          links = now (links .exit);
+          rows = now (rows .exit);
+          keys = now (lists .exit);
+          actors = now (actors .exit);
+          told = r;
+        }
+        ≡ resumedOf
+        pool (now (log .entry)) (now (records .entry)) (now (store .entry)) (now (groups .entry))
+        (now (links .entry)) (now (rows .entry)) (now (lists .entry)) (now (actors .entry)) reply
+        ⌝ }
 {
     let turn = pool.turn;
     let at = turn.at;
@@ -332,7 +406,22 @@ fn fit_reply(
     name: &[u8],
     body: &[u8],
 ) -> Told
-    ensures { λ r. ⌜ record { bytes = now (log .exit); records = now (records .exit); store = now (store .exit); links = now (links .exit); rows = now (rows .exit); keys = now (lists .exit); actors = now (actors .exit); told = r } ≡ fitReply pool (now (log .entry)) (now (records .entry)) (now (store .entry)) (now (groups .entry)) (now (links .entry)) (now (rows .entry)) (now (lists .entry)) (now (actors .entry)) reply (now (name .entry)) (now (body .entry)) ⌝ }
+    ensures { λ r. ⌜
+        record {
+          bytes = now (log .exit);
+          records = now (records .exit);
+          store = now (store .exit);
+          links = now (links .exit);
+          rows = now (rows .exit);
+          keys = now (lists .exit);
+          actors = now (actors .exit);
+          told = r;
+        }
+        ≡ fitReply
+        pool (now (log .entry)) (now (records .entry)) (now (store .entry)) (now (groups .entry))
+        (now (links .entry)) (now (rows .entry)) (now (lists .entry)) (now (actors .entry)) reply
+        (now (name .entry)) (now (body .entry))
+        ⌝ }
 {
     let message = is_message(reply);
     if message {
@@ -368,7 +457,22 @@ fn open_reply(
     name: &[u8],
     body: &[u8],
 ) -> Told
-    ensures { λ r. ⌜ record { bytes = now (log .exit); records = now (records .exit); store = now (store .exit); links = now (links .exit); rows = now (rows .exit); keys = now (lists .exit); actors = now (actors .exit); told = r } ≡ openReply pool (now (log .entry)) (now (records .entry)) (now (store .entry)) (now (groups .entry)) (now (links .entry)) (now (rows .entry)) (now (lists .entry)) (now (actors .entry)) q reply (now (name .entry)) (now (body .entry)) ⌝ }
+    ensures { λ r. ⌜
+        record {
+          bytes = now (log .exit);
+          records = now (records .exit);
+          store = now (store .exit);
+          links = now (links .exit);
+          rows = now (rows .exit);
+          keys = now (lists .exit);
+          actors = now (actors .exit);
+          told = r;
+        }
+        ≡ openReply
+        pool (now (log .entry)) (now (records .entry)) (now (store .entry)) (now (groups .entry))
+        (now (links .entry)) (now (rows .entry)) (now (lists .entry)) (now (actors .entry)) q reply
+        (now (name .entry)) (now (body .entry))
+        ⌝ }
 {
     let fits = question::fits(q, reply);
     if fits {
@@ -405,7 +509,22 @@ fn turn_reply(
     name: &[u8],
     body: &[u8],
 ) -> Told
-    ensures { λ r. ⌜ record { bytes = now (log .exit); records = now (records .exit); store = now (store .exit); links = now (links .exit); rows = now (rows .exit); keys = now (lists .exit); actors = now (actors .exit); told = r } ≡ turnReply pool (now (log .entry)) (now (records .entry)) (now (store .entry)) (now (groups .entry)) (now (links .entry)) (now (rows .entry)) (now (lists .entry)) (now (actors .entry)) reply (now (name .entry)) (now (body .entry)) ⌝ }
+    ensures { λ r. ⌜
+        record {
+          bytes = now (log .exit);
+          records = now (records .exit);
+          store = now (store .exit);
+          links = now (links .exit);
+          rows = now (rows .exit);
+          keys = now (lists .exit);
+          actors = now (actors .exit);
+          told = r;
+        }
+        ≡ turnReply
+        pool (now (log .entry)) (now (records .entry)) (now (store .entry)) (now (groups .entry))
+        (now (links .entry)) (now (rows .entry)) (now (lists .entry)) (now (actors .entry)) reply
+        (now (name .entry)) (now (body .entry))
+        ⌝ }
 {
     let turn = pool.turn;
     let disk = turn.disk;
@@ -446,7 +565,22 @@ pub fn reply(
     name: &[u8],
     body: &[u8],
 ) -> Told
-    ensures { λ r. ⌜ record { bytes = now (log .exit); records = now (records .exit); store = now (store .exit); links = now (links .exit); rows = now (rows .exit); keys = now (lists .exit); actors = now (actors .exit); told = r } ≡ replyOf pool (now (log .entry)) (now (records .entry)) (now (store .entry)) (now (groups .entry)) (now (links .entry)) (now (rows .entry)) (now (lists .entry)) (now (actors .entry)) reply (now (name .entry)) (now (body .entry)) ⌝ }
+    ensures { λ r. ⌜
+        record {
+          bytes = now (log .exit);
+          records = now (records .exit);
+          store = now (store .exit);
+          links = now (links .exit);
+          rows = now (rows .exit);
+          keys = now (lists .exit);
+          actors = now (actors .exit);
+          told = r;
+        }
+        ≡ replyOf
+        pool (now (log .entry)) (now (records .entry)) (now (store .entry)) (now (groups .entry))
+        (now (links .entry)) (now (rows .entry)) (now (lists .entry)) (now (actors .entry)) reply
+        (now (name .entry)) (now (body .entry))
+        ⌝ }
 {
     let turn = pool.turn;
     let disk = turn.disk;
@@ -481,23 +615,36 @@ pub fn reply(
     }
 }
 
-fn sync_free(pool: Pool, links: &[[u64; 4]], rows: &[[u64; 7]]) -> Told
-    ensures { λ r. ⌜ r ≡ syncFree pool (now (links .entry)) (now (rows .entry)) ⌝ }
+// What the log had due for a sync, acted on: its order waits, with the counters as they are now; or the pool is as it
+// was.
+fn sync_answered(
+    pool: Pool,
+    counters: Counters,
+    due: log::Due,
+    links: &[[u64; 4]],
+    rows: &[[u64; 7]],
+) -> Told
+    ensures { λ r. ⌜
+        r ≡ syncDid pool (now (links .entry)) (now (rows .entry)) (record { counters = counters; due = due })
+        ⌝ }
 {
-    let turn = pool.turn;
-    let before = turn.log;
-    let s = wal::sync(before);
-    let counters = s.counters;
-    let answer = s.answer;
-    match answer {
-        log::Answer::Ordered(order) => {
+    match due {
+        log::Due::Ordered(order) => {
             let disk = Disk::Waits(order, What::Nothing);
             let p = state::with_disk(pool, counters, disk);
             state::shown_now(p, links, rows)
         }
-        log::Answer::Nothing => state::shown_now(pool, links, rows),
-        log::Answer::Refused(_) => state::shown_now(pool, links, rows),
+        log::Due::Nothing => state::shown_now(pool, links, rows),
     }
+}
+
+// A sync while no order waits: the log changes the pool's counters, lent to it by `&mut`.
+fn sync_free(pool: Pool, links: &[[u64; 4]], rows: &[[u64; 7]]) -> Told
+    ensures { λ r. ⌜ r ≡ syncFree pool (now (links .entry)) (now (rows .entry)) ⌝ }
+{
+    let mut counters = state::counters_of(pool);
+    let due = wal::sync(&mut counters);
+    sync_answered(pool, counters, due, links, rows)
 }
 
 // A flush is ordered, if a record was appended since the last one.

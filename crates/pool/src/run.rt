@@ -40,7 +40,7 @@ fn busy(counts: Counts, links: &[[u64; 4]]) -> bool
     0 < pending
 }
 
-// The turn ended where it is at rest and no order waits; else something is open.
+// The turn ended where it is at rest; else a question or an order is open.
 fn answered(pool: Pool, links: &[[u64; 4]], rows: &[[u64; 7]], lists: &[[u8; 65]]) -> Told
     ensures { λ r. ⌜ r ≡ answeredOf pool (now (links .entry)) (now (rows .entry)) (now (lists .entry)) ⌝ }
 {
@@ -59,7 +59,7 @@ fn answered(pool: Pool, links: &[[u64; 4]], rows: &[[u64; 7]], lists: &[[u8; 65]
     state::shown_now(pool, links, rows)
 }
 
-// As far as the turn runs.
+// Runs until a question, an order or the end.
 pub(crate) fn run(
     pool: Pool,
     log: &mut [u8],
@@ -71,7 +71,18 @@ pub(crate) fn run(
     lists: &mut [[u8; 65]],
     actors: &mut [[u64; 12]],
 ) -> Told
-    ensures { λ r. ⌜ record { bytes = now (log .exit); records = now (records .exit); links = now (links .exit); rows = now (rows .exit); keys = now (lists .exit); actors = now (actors .exit); told = r } ≡ runOf pool (now (log .entry)) (now (records .entry)) (now (store .entry)) (now (groups .entry)) (now (links .entry)) (now (rows .entry)) (now (lists .entry)) (now (actors .entry)) ⌝ }
+    ensures { λ r.
+        ⌜ record {
+          bytes = now (log .exit);
+          records = now (records .exit);
+          links = now (links .exit);
+          rows = now (rows .exit);
+          keys = now (lists .exit);
+          actors = now (actors .exit);
+          told = r;
+        }
+        ≡ runOf pool (now (log .entry)) (now (records .entry)) (now (store .entry)) (now (groups .entry))
+        (now (links .entry)) (now (rows .entry)) (now (lists .entry)) (now (actors .entry)) ⌝ }
 {
     let t = pool.turn;
     let limits = pool.limits;

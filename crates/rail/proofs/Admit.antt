@@ -7,7 +7,7 @@ use mathlib.Core.List.{List, [], _∷_, _++_}
 use Prim.Native.Nat.{ℕ, _+_, _≤_, _<_}
 use native.Mathlib.Omega.{arith}
 use native.Mathlib.Decide.{ℕ-discrete}
-use borrow.Author.Tests.{ltb-false, le-leb, eqb-true, eqb-false}
+use borrow.Author.Tests.{ltb-false, eqb-true, eqb-false}
 use lib.Dec.{eqb, ltb, leb}
 use lib.ListN.{length, drop}
 use Rattle.text.specs.Format.{Message, recordLine}
@@ -19,7 +19,6 @@ use Rattle.lists.proofs.Moves.{move-first}
 use Rattle.log.specs.declared.Order.{Order}
 use Rattle.log.specs.declared.Refusal as of-log
 use Rattle.log.specs.declared.Answer.the-variants as logged
-use Rattle.log.specs.Opening.{fits}
 use Rattle.log.specs.Log as log
 use Rattle.log.specs.Stands.{Stands}
 use Rattle.log.specs.Recovery as disk
@@ -30,7 +29,7 @@ use Rattle.actor.specs.declared.message.Caller.the-variants as caller
 use Rattle.actor.specs.declared.message.CallerId.{CallerId}
 use Rattle.actor.specs.declared.message.Logged.{Logged}
 use Rattle.actor.specs.declared.message.Logged.the-variants as id
-use Rattle.steps.specs.declared.fixed.FixedAt.the-variants as fixed
+use Rattle.steps.specs.declared.fixed.FixedAsk.the-variants as fixed
 use Rattle.steps.specs.Steps.{HAND}
 use Rattle.group.specs.declared.at.At.{At}
 use Rattle.group.specs.declared.at.At.the-variants as at
@@ -68,20 +67,19 @@ fine-lengths n m fine = go (ltb 32 n) refl (ltb 128 m) refl
     go false e false f = (ltb-false 32 n e, ltb-false 128 m f)
 
 -- and there is an entry for it
-fine-room : (p : Pool) (t : Table) (c : Check) → roomCheck p t c ≡ check.Fine → (c ≡ check.Fine) × (eqb (lenOf t FREE) 0 ≡ false)
+fine-room : (p : Pool) (t : Table) (c : Check) → roomCheck p t c ≡ check.Fine → (c ≡ check.Fine)
+    × (eqb (lenOf t FREE) 0 ≡ false)
 fine-room p t (check.Refuse r) fine = let z : _≡_ {A = ℕ} 0 1 = cc in absurd (omega arith)
-fine-room p t check.Fine fine = go (leb (p .limits .inbox) (lenOf t INBOX)) refl (p .closed) refl (eqb (lenOf t FREE) 0) refl
+fine-room p t check.Fine fine = go (leb (p .limits .inbox) (lenOf t INBOX)) refl (p .closed) refl
+    (eqb (lenOf t FREE) 0) refl
   where
-    go : (a : Bool) → leb (p .limits .inbox) (lenOf t INBOX) ≡ a → (b : Bool) → p .closed ≡ b → (c : Bool) → eqb (lenOf t FREE) 0 ≡ c
+    go : (a : Bool) → leb (p .limits .inbox) (lenOf t INBOX) ≡ a → (b : Bool) → p .closed ≡ b → (c : Bool)
+        → eqb (lenOf t FREE) 0 ≡ c
         → (_≡_ {A = Check} check.Fine check.Fine) × (eqb (lenOf t FREE) 0 ≡ false)
     go true e b f c g = let z : _≡_ {A = ℕ} 0 1 = cc in absurd (omega arith)
     go false e true f c g = let z : _≡_ {A = ℕ} 0 1 = cc in absurd (omega arith)
     go false e false f true g = let z : _≡_ {A = ℕ} 0 1 = cc in absurd (omega arith)
     go false e false f false g = (refl, g)
-
-fit-message : (w : log.Wal) (name body : List ℕ) → length name ≤ 32 → length body ≤ 128 → fits (log.newMessage w name body) ≡ true
-unfolding fits
-fit-message w name body n b = rw (le-leb (length name) 32 n, le-leb (length body) 128 b)
 
 -- ---- a message comes
 
@@ -102,7 +100,6 @@ at-kept (at.Fixed c (fixed.Run start)) t r same ok = ok
 at-kept (at.Fixed c fixed.Drain) t r same ok = ok
 at-kept (at.Fixed c fixed.Push) t r same ok = (ok .0, omega (arith, ok .1))
 at-kept (at.Fixed c fixed.Dispatch) t r same ok = ok
-at-kept (at.Fixed c (fixed.End e)) t r same ok = ok
 at-kept (at.Eval c a) t r same ok = ok
 at-kept (at.StepEnd c s) t r same ok = ok
 at-kept (at.Sends c s) t r same ok = ok
@@ -119,19 +116,33 @@ pub record Arrives (a : At) (t rows : Table) (q : ℕ) (id : Logged) (k : Kept) 
   pub ok : AtOk a (k .links)
   pub less : Less t (k .links)
 
-module _ (a : At) (store : List ℕ) (t rows : Table) (q : ℕ) (sound : Sound t rows q) (ok : AtOk a t) (name body : List ℕ) (who : Caller) (id : Logged) (to : ℕ)
+module _ (a : At) (store : List ℕ) (t rows : Table) (q : ℕ) (sound : Sound t rows q) (ok : AtOk a t)
+    (name body : List ℕ) (who : Caller) (id : Logged) (to : ℕ)
     (desk : Desk to) (low : to < HAND) where
   hand-kept : lenOf (moveFirst t FREE to) HAND ≡ lenOf t HAND
   hand-kept =
-      let moved : Moved t FREE to 1 (moveFirst t FREE to) = move-first (record { good = sound .good; from-is = omega arith; to-is = desk .is; apart = λ e. omega (arith, desk .place) }) in
-      omega (arith, length-view t HAND, length-view (moveFirst t FREE to) HAND, ap length (moved .others HAND (λ e. omega arith) (λ e. omega arith)))
+      let moved : Moved t FREE to 1 (moveFirst t FREE to) = move-first (record {
+        good = sound .good;
+        from-is =
+            omega arith;
+        to-is = desk .is;
+        apart = λ e. omega (arith, desk .place);
+      }) in
+      omega (
+        arith,
+        length-view t HAND,
+        length-view (moveFirst t FREE to) HAND,
+        ap length (moved .others HAND (λ e. omega arith) (λ e. omega arith)),
+      )
 
   pub kept-arrives : eqb (lenOf t FREE) 0 ≡ false → Arrives a t rows q id (keepOf store t rows name body who id to)
   unfolding keepOf keepAt
   kept-arrives room =
-      subst (λ f. Arrives a t rows q id (keepFound store t rows name body who id to (pick f found.Nothing (found.Entry (headOf t FREE))))) (sym room)
+      subst (λ f. Arrives a t rows q id (keepFound store t rows name body who id to
+      (pick f found.Nothing (found.Entry (headOf t FREE))))) (sym room)
       (record {
-        comes = comes t rows q sound to (newRow (length name) (length body) who id) desk (omega (arith, eqb-false (lenOf t FREE) 0 room));
+        comes = comes t rows q sound to (newRow (length name) (length body) who id) desk
+            (omega (arith, eqb-false (lenOf t FREE) 0 room));
         ok = at-kept a t (moveFirst t FREE to) hand-kept ok;
         less = first-less t (sound .good) FREE to low;
       })
@@ -152,7 +163,8 @@ withKept s k = record {
 
 -- a message that is not logged: every id stands as often as before
 pub unlogged-works : (long : ℕ) (j : disk.World) (s : State) (k : Kept) → Working long j (workIn s)
-    → Arrives (s .pool .turn .at) (s .links) (s .rows) (s .pool .turn .counts .queued) id.Never k → Working long j (workIn (withKept s k))
+    → Arrives (s .pool .turn .at) (s .links) (s .rows) (s .pool .turn .counts .queued) id.Never k
+    → Working long j (workIn (withKept s k))
 unlogged-works long j s k works came = record {
   sound = came .comes .sound;
   ids = λ x. omega (arith, came .comes .more x, works .ids x);
@@ -171,7 +183,8 @@ pub data Appends (w : log.Wal) (d : log.Did) : Type 0 where
   away : (r : of-log.Refusal) → d ≡ log.turnedAway w r → Appends w d
   out : (o : Order) → d .answer ≡ logged.Ordered o → d .wal .counters .next ≡ w .counters .next + 1 → Appends w d
 
-appended-out : (w : log.Wal) (m : Message) (t : Bool) → leb (w .counters .size + length (recordLine m)) (length (w .bytes)) ≡ t → Appends w (log.appended w m)
+appended-out : (w : log.Wal) (m : Message) (t : Bool) → leb (w .counters .size + length (recordLine m))
+    (length (w .bytes)) ≡ t → Appends w (log.appended w m)
 unfolding log.appended log.extended log.withRecord log.compacted
 appended-out w m true e = rw (e, log.appended) (out _ refl refl)
 appended-out w m false e = rw (e, log.appended) (out _ refl refl)
@@ -184,39 +197,37 @@ append-ends w name body = judged (log.appendRefusal w (log.newMessage w name bod
     judged none = appended-out w (log.newMessage w name body) _ refl
     judged (some r) = away r refl
 
--- a message that fits is a call of the log
-fit-append : (w : log.Wal) (name body : List ℕ) → fits (log.newMessage w name body) ≡ true → disk.didCall 0 w (disk.append name body) ≡ log.appendOf w name body
-unfolding disk.didCall
-fit-append w name body fit = rw (fit, disk.didCall)
-
 -- the journal after an order with a new record
 abbrev recorded : disk.World → log.Wal → List ℕ → List ℕ → Order → disk.World
 recorded j v name body o =
-    disk.issue j (log.appendOf v name body .wal) (j .now ++ (log.newMessage v name body ∷ [])) (disk.sent (log.appendOf v name body .wal .bytes) o)
+    disk.issue j (log.appendOf v name body .wal) (j .now ++ (log.newMessage v name body ∷ []))
+    (disk.sent (log.appendOf v name body .wal .bytes) o)
 
-recorded-sound : (long : ℕ) (j : disk.World) (v : log.Wal) (name body : List ℕ) (o : Order) → sound.Sound long j → j .disk .status ≡ disk.settled → j .wal ≡ v
-    → fits (log.newMessage v name body) ≡ true → log.appendOf v name body .answer ≡ logged.Ordered o → sound.Sound long (recorded j v name body o)
-unfolding disk.called disk.effect
-recorded-sound long j v name body o good settled is fit ordered =
-    subst (λ u. log.appendOf u name body .answer ≡ logged.Ordered o → sound.Sound long (recorded j u name body o)) is here ordered
+recorded-sound : (long : ℕ) (j : disk.World) (v : log.Wal) (name body : List ℕ) (o : Order) → sound.Sound long j
+    → j .disk .status ≡ disk.settled → j .wal ≡ v
+    → log.appendOf v name body .answer ≡ logged.Ordered o → sound.Sound long (recorded j v name body o)
+unfolding disk.called disk.didCall disk.effect
+recorded-sound long j v name body o good settled is ordered =
+    subst (λ u. log.appendOf u name body .answer ≡ logged.Ordered o → sound.Sound long (recorded j u name body o)) is
+    here ordered
   where
-    did : disk.didCall 0 (j .wal) (disk.append name body) ≡ log.appendOf (j .wal) name body
-    did = fit-append (j .wal) name body (ap (λ u. fits (log.newMessage u name body)) is ∙ fit)
-
-    here : log.appendOf (j .wal) name body .answer ≡ logged.Ordered o → sound.Sound long (recorded j (j .wal) name body o)
+    here : log.appendOf (j .wal) name body .answer ≡ logged.Ordered o
+        → sound.Sound long (recorded j (j .wal) name body o)
     here e =
-        subst (λ a. sound.Sound long (disk.issued j (disk.append name body) (log.appendOf (j .wal) name body .wal) a)) e
-        (subst (λ d. sound.Sound long (disk.called j (disk.append name body) d)) did (call-sound long j good settled (disk.append name body)))
+        subst (λ a. sound.Sound long (disk.issued j (disk.append name body) (log.appendOf (j .wal) name body .wal)
+        (disk.ordered a))) e
+        (call-sound long j good settled (disk.append name body))
 
 -- the log's bytes at and after the new size are as they were
-recorded-tail : (v : log.Wal) (ms : List Message) (name body : List ℕ) → Stands v ms → fits (log.newMessage v name body) ≡ true
-    → drop (log.appendOf v name body .wal .counters .size) (log.appendOf v name body .wal .bytes) ≡ drop (log.appendOf v name body .wal .counters .size) (v .bytes)
-recorded-tail v ms name body stands fit =
-    subst (λ (d : log.Did). drop (d .wal .counters .size) (d .wal .bytes) ≡ drop (d .wal .counters .size) (v .bytes)) (fit-append v name body fit)
-    (call-tail 0 v ms (disk.append name body) stands)
+recorded-tail : (v : log.Wal) (ms : List Message) (name body : List ℕ) → Stands v ms
+    → drop (log.appendOf v name body .wal .counters .size) (log.appendOf v name body .wal .bytes)
+    ≡ drop (log.appendOf v name body .wal .counters .size) (v .bytes)
+unfolding disk.didCall
+recorded-tail v ms name body stands = call-tail 0 v ms (disk.append name body) stands
 
 -- the next id is not logged
-next-new : (j : disk.World) (top : ℕ) (logged done : List ℕ) (x : ℕ) → Ledger j top logged done → x ≡ j .wal .counters .next → count x logged ≡ 0
+next-new : (j : disk.World) (top : ℕ) (logged done : List ℕ) (x : ℕ) → Ledger j top logged done → x
+    ≡ j .wal .counters .next → count x logged ≡ 0
 next-new j top logged done x old is = go (ℕ-discrete (count x logged) 0)
   where
     go : Dec (count x logged ≡ 0) → count x logged ≡ 0
@@ -224,8 +235,10 @@ next-new j top logged done x old is = go (ℕ-discrete (count x logged) 0)
     go (no e) = absurd (omega (arith, old .below x (omega arith)))
 
 -- one id more is logged
-recorded-ledger : (j j′ : disk.World) (top : ℕ) (logged done : List ℕ) (m : Message) → Ledger j top logged done → m .id ≡ j .wal .counters .next
-    → j′ .now ≡ j .now ++ (m ∷ []) → j′ .wal .counters .next ≡ j .wal .counters .next + 1 → Ledger j′ (top + 1) (logged ++ (m .id ∷ [])) done
+recorded-ledger : (j j′ : disk.World) (top : ℕ) (logged done : List ℕ) (m : Message) → Ledger j top logged done → m .id
+    ≡ j .wal .counters .next
+    → j′ .now ≡ j .now ++ (m ∷ []) → j′ .wal .counters .next ≡ j .wal .counters .next + 1
+    → Ledger j′ (top + 1) (logged ++ (m .id ∷ [])) done
 recorded-ledger j j′ top logged done m old new now next = record {
   next-is = omega (arith, old .next-is);
   adds = λ x. rw (now, now-count x m (j .now), count-snoc x (m .id) logged) (omega (arith, old .adds x));
@@ -237,7 +250,8 @@ recorded-ledger j j′ top logged done m old new now next = record {
     once x true e = rw e (omega (arith, next-new j top logged done x old (sym (eqb-true (m .id) x e) ∙ new)))
     once x false e = rw e (omega (arith, old .once x))
 
-    below : (x : ℕ) → 0 < count x logged + pick (eqb (m .id) x) 1 0 → (b : Bool) → eqb (m .id) x ≡ b → x < j′ .wal .counters .next
+    below : (x : ℕ) → 0 < count x logged + pick (eqb (m .id) x) 1 0 → (b : Bool) → eqb (m .id) x ≡ b
+        → x < j′ .wal .counters .next
     below x there true e = omega (arith, eqb-true (m .id) x e)
     below x there false e = omega (arith, old .below x (omega (arith, rw e at there)))
 
@@ -257,19 +271,25 @@ module _ (long : ℕ) (limits : Limits) (w : World) (steady : Steady long limits
   j = w .journal
 
   arrives : eqb (lenOf (s .links) FREE) 0 ≡ false → (who : Caller) (l : Logged)
-      → Arrives (p .turn .at) (s .links) (s .rows) (p .turn .counts .queued) l (keepOf (s .store) (s .links) (s .rows) name body who l INBOX)
+      → Arrives (p .turn .at) (s .links) (s .rows) (p .turn .counts .queued) l (keepOf (s .store) (s .links) (s .rows)
+      name body who l INBOX)
   arrives room who l =
-      kept-arrives (p .turn .at) (s .store) (s .links) (s .rows) (p .turn .counts .queued) (steady .works .sound) (steady .works .ok) name body who l INBOX
+      kept-arrives (p .turn .at) (s .store) (s .links) (s .rows) (p .turn .counts .queued) (steady .works .sound)
+      (steady .works .ok) name body who l INBOX
       desk-inbox (omega arith) room
 
   module _ (free : p .turn .disk ≡ order.Free) (room : eqb (lenOf (s .links) FREE) 0 ≡ false) where
     -- a caller waits: no order goes out
-    called-ends : (who : CallerId) → Ends long limits w (admit name body (caller.From who)) (didAdmit s (one.admitFit p (s .bytes) (s .records) (s .store) (s .links) (s .rows) name body (caller.From who)))
+    called-ends : (who : CallerId) → Ends long limits w (admit name body (caller.From who))
+        (didAdmit s (one.admitFit p (s .bytes) (s .records) (s .store) (s .links) (s .rows) name body
+        (caller.From who)))
     unfolding one.admitFit
     called-ends who =
-        shown-rule (λ told. Ends long limits w c (didAdmit s (one.admittedBy (s .bytes) (s .records) k told))) p (k .links) (k .rows)
+        shown-rule (λ told. Ends long limits w c (didAdmit s (one.admittedBy (s .bytes) (s .records) k told))) p
+        (k .links) (k .rows)
         (λ a ok. took ok refl (ap (λ d. ordersIn (orderOf d)) free) (rest-steady long limits c w (withKept s k) j refl
-        free ((unlogged-works long j s k (steady .works) (arrives room (caller.From who) id.Never))) (steady .ledger) (steady .limits-are)))
+        free ((unlogged-works long j s k (steady .works) (arrives room (caller.From who) id.Never))) (steady .ledger)
+        (steady .limits-are)))
       where
         c : Call
         c = admit name body (caller.From who)
@@ -294,11 +314,9 @@ module _ (long : ℕ) (limits : Limits) (w : World) (steady : Steady long limits
       settled : j .disk .status ≡ disk.settled
       settled = subst (λ q. Agrees q (j .disk .status) (s .bytes)) free (steady .works .agrees)
 
-      fit-new : fits (log.newMessage v name body) ≡ true
-      fit-new = fit-message v name body (fit .0) (fit .1)
-
       standing : Stands v (j .now)
-      standing = subst (λ u. Stands u (j .now)) (steady .works .wal) (sound.sound-stands long j (steady .works .journal) .stands)
+      standing = subst (λ u. Stands u (j .now)) (steady .works .wal) (sound.sound-stands long j
+          (steady .works .journal) .stands)
 
       inboxed-ends : (o : Order) → d .answer ≡ logged.Ordered o → d .wal .counters .next ≡ v .counters .next + 1
           → Ends long limits w c (didAdmit s (one.inboxed p d o k))
@@ -306,21 +324,30 @@ module _ (long : ℕ) (limits : Limits) (w : World) (steady : Steady long limits
       inboxed-ends o is next =
           let came = arrives room caller.Nobody (id.As (one.nextId (p .turn .log))) in
           let old : j .wal ≡ v = steady .works .wal in
-          shown-rule (λ told. Ends long limits w c (didAdmit s (one.admittedBy (d .wal .bytes) (d .wal .table) k told)))
+          shown-rule (λ told. Ends long limits w c (didAdmit s (one.admittedBy (d .wal .bytes) (d .wal .table) k
+          told)))
           (withDisk p (d .wal .counters) (order.Waits o what.Record)) (k .links) (k .rows)
-          (λ a ok. took ok (recorded-tail v (j .now) name body standing fit-new) refl
-          (subst (λ n. Steady long limits (orderedFor (withNext w n) after j o (ofRecord name body))) (sym top) (record {
+          (λ a ok. took ok (recorded-tail v (j .now) name body standing) refl
+          (subst (λ n. Steady long limits (orderedFor (withNext w n) after j o (ofRecord name body))) (sym top)
+          (record {
             works = record {
               sound = came .comes .sound;
-              ids = λ x. omega (arith, came .comes .more x, steady .works .ids x, now-count x (log.newMessage v name body) (j .now));
+              ids = λ x. omega (
+                arith,
+                came .comes .more x,
+                steady .works .ids x,
+                now-count x (log.newMessage v name body) (j .now),
+              );
               ok = came .ok;
               lives = less-lives (s .links) (k .links) (s .keys) (s .actors) (came .less) (steady .works .lives);
-              here = at-less (s .links) (k .links) (came .less) (s .keys) (s .actors) (p .turn .at) (steady .works .here);
+              here = at-less (s .links) (k .links) (came .less) (s .keys) (s .actors) (p .turn .at)
+                  (steady .works .here);
               wal = refl;
               agrees = refl;
-              journal = recorded-sound long j v name body o (steady .works .journal) settled old fit-new is;
+              journal = recorded-sound long j v name body o (steady .works .journal) settled old is;
             };
-            ledger = recorded-ledger j (recorded j v name body o) (v .counters .next) (w .logged) (w .done) (log.newMessage v name body) (subst (λ n. Ledger j n (w .logged) (w .done)) top (steady .ledger))
+            ledger = recorded-ledger j (recorded j v name body o) (v .counters .next) (w .logged) (w .done)
+                (log.newMessage v name body) (subst (λ n. Ledger j n (w .logged) (w .done)) top (steady .ledger))
                 (ap (λ u. u .counters .next) (sym old)) refl (next ∙ ap (λ u. u .counters .next + 1) (sym old));
             limits-are = steady .limits-are;
           })))
@@ -332,22 +359,31 @@ module _ (long : ℕ) (limits : Limits) (w : World) (steady : Steady long limits
           after : State
           after = didAdmit s (one.inboxed p d o k) .state
 
-      logged-ends : Ends long limits w c (didAdmit s (one.admitLogged p (s .bytes) (s .records) (s .store) (s .links) (s .rows) name body))
+      logged-ends : Ends long limits w c (didAdmit s (one.admitLogged p (s .bytes) (s .records) (s .store) (s .links)
+          (s .rows) name body))
       unfolding one.admitLogged
       logged-ends = go (append-ends v name body)
         where
-          go : Appends v d → Ends long limits w c (didAdmit s (one.loggedDid p (s .store) (s .links) (s .rows) name body d))
-          go (away r is) = subst (λ e. Ends long limits w c (didAdmit s (one.loggedDid p (s .store) (s .links) (s .rows) name body e))) (sym is) (turned (logRefusal r) refl)
-          go (out o is next) = subst (λ a. Ends long limits w c (didAdmit s (one.loggedBy p (s .store) (s .links) (s .rows) name body d a))) (sym is) (inboxed-ends o is next)
+          go : Appends v d → Ends long limits w c (didAdmit s (one.loggedDid p (s .store) (s .links) (s .rows) name
+              body d))
+          go (away r is) =
+              subst (λ e. Ends long limits w c (didAdmit s (one.loggedDid p (s .store) (s .links) (s .rows) name body
+              e))) (sym is) (turned (logRefusal r) refl)
+          go (out o is next) =
+              subst (λ a. Ends long limits w c (didAdmit s (one.loggedBy p (s .store) (s .links) (s .rows) name body d
+              a))) (sym is) (inboxed-ends o is next)
 
-      fit-ends : (who : Caller) → Ends long limits w (admit name body who) (didAdmit s (one.admitFit p (s .bytes) (s .records) (s .store) (s .links) (s .rows) name body who))
+      fit-ends : (who : Caller) → Ends long limits w (admit name body who)
+          (didAdmit s (one.admitFit p (s .bytes) (s .records) (s .store) (s .links) (s .rows) name body who))
       unfolding one.admitFit
       fit-ends (caller.From x) = called-ends x
       fit-ends caller.Nobody = logged-ends
 
   module _ (who : Caller) where
-    checked-ends : p .turn .disk ≡ order.Free → (k : Check) → one.admitCheck p (s .links) (length name) (length body) ≡ k
-        → Ends long limits w (admit name body who) (didAdmit s (one.admitChecked p (s .bytes) (s .records) (s .store) (s .links) (s .rows) name body who k))
+    checked-ends : p .turn .disk ≡ order.Free → (k : Check) → one.admitCheck p (s .links) (length name) (length body)
+        ≡ k
+        → Ends long limits w (admit name body who) (didAdmit s (one.admitChecked p (s .bytes) (s .records) (s .store)
+        (s .links) (s .rows) name body who k))
     unfolding one.admitCheck
     checked-ends free (check.Refuse r) is = turned r refl
     checked-ends free check.Fine is =
@@ -355,7 +391,8 @@ module _ (long : ℕ) (limits : Limits) (w : World) (steady : Steady long limits
         fit-ends free (fine .1) (fine-lengths (length name) (length body) (fine .0)) who
 
     in-ends : (q : Disk) → p .turn .disk ≡ q
-        → Ends long limits w (admit name body who) (didAdmit s (one.admitIn p (s .bytes) (s .records) (s .store) (s .links) (s .rows) name body who q))
+        → Ends long limits w (admit name body who) (didAdmit s (one.admitIn p (s .bytes) (s .records) (s .store)
+        (s .links) (s .rows) name body who q))
     unfolding one.admitFree
     in-ends order.Free is = checked-ends is (one.admitCheck p (s .links) (length name) (length body)) refl
     in-ends (order.Waits o for) is = turned refusal.OrderWaits refl

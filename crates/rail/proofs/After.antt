@@ -29,14 +29,17 @@ use Rattle.front.specs.declared.state.Told.{Told}
 use Rattle.front.specs.State.{shown, atRest}
 use Rattle.pool.specs.Run.{answeredOf}
 use Rattle.rail.specs.Rail.{Call, State, Did, World, walOf, moved, Shown, nothing, shows, ordersIn, orderIn}
-use Rattle.rail.specs.Rail.{ofMark, purposeOf, outOfPlaces, OrderFits, orderedFor, ordered, answered, accepted, stepDid}
+use Rattle.rail.specs.Rail.{ofMark, purposeOf, outOfPlaces, OrderFits, orderedFor, ordered, answered, accepted}
+use Rattle.rail.specs.Rail.{stepDid}
 use Rattle.rail.proofs.Ids.{gone-same, gone-other, count-snoc}
 use Rattle.rail.proofs.Left.{none-out, marked-in, marked-out, marked-one}
 use Rattle.rail.proofs.Invariant.{Ledger, Working, TailKept, Runs, still, marks, markedOff, workIn, Steady}
 
 -- an id that was logged and not done is done
-marked-ledger : (j j′ : disk.World) (top : ℕ) (logged done : List ℕ) (id : ℕ) → Ledger j top logged done → 0 < count id (idsOf (j .now))
-    → j′ .now ≡ remove id (j .now) → j′ .wal .counters .next ≡ j .wal .counters .next → Ledger j′ top logged (done ++ (id ∷ []))
+marked-ledger : (j j′ : disk.World) (top : ℕ) (logged done : List ℕ) (id : ℕ) → Ledger j top logged done
+    → 0 < count id (idsOf (j .now))
+    → j′ .now ≡ remove id (j .now) → j′ .wal .counters .next ≡ j .wal .counters .next
+    → Ledger j′ top logged (done ++ (id ∷ []))
 marked-ledger j j′ top logged done id old there now next = record {
   next-is = old .next-is ∙ sym next;
   adds = λ x. rw now (adds x (ℕ-discrete x id));
@@ -45,8 +48,20 @@ marked-ledger j j′ top logged done id old there now next = record {
 }
   where
     adds : (x : ℕ) → Dec (x ≡ id) → count x (idsOf (remove id (j .now))) + count x (done ++ (id ∷ [])) ≡ count x logged
-    adds x (yes p) = rw p (omega (arith, gone-same id (j .now), rw (eq-eqb id id refl) at (count-snoc id id done), old .adds id, old .once id))
-    adds x (no p) = omega (arith, gone-other id x (j .now) p, rw (ne-eqb id x (λ z. p (sym z))) at (count-snoc x id done), old .adds x)
+    adds x (yes p) = rw p (omega (
+      arith,
+      gone-same id (j .now),
+      rw (eq-eqb id id refl) at (count-snoc id id done),
+      old .adds id,
+      old .once id,
+    ))
+    adds x (no p) = omega (
+      arith,
+      gone-other id x (j .now) p,
+      rw (ne-eqb id x (λ z. p (sym z))) at
+          (count-snoc x id done),
+      old .adds x,
+    )
 
 -- an id is open at most once
 open-once : (j : disk.World) {top : ℕ} {logged done : List ℕ} → Ledger j top logged done → (x : ℕ)
@@ -59,7 +74,8 @@ open-once j old x = omega (arith, old .adds x, old .once x)
 pub call-sound : (long : ℕ) (j : disk.World) → sound.Sound long j → j .disk .status ≡ disk.settled → (c : disk.Call)
     → sound.Sound long (disk.called j c (disk.didCall 0 (j .wal) c))
 unfolding disk.step
-call-sound long j good settled c = subst (λ q. sound.Sound long (disk.step 0 q j (disk.call c))) settled (sound.step-sound long 0 j (disk.call c) good)
+call-sound long j good settled c = subst (λ q. sound.Sound long (disk.step 0 q j (disk.call c))) settled
+    (sound.step-sound long 0 j (disk.call c) good)
 
 -- ---- how a call ends
 
@@ -84,21 +100,39 @@ module _ (long : ℕ) (limits : Limits) where
     turned : (r : Refusal) → d ≡ record { state = w .state; answer = answer.Refused r } → Ends w c d
     took : accepted (d .answer) ≡ true → TailKept (w .state .bytes) (workIn (d .state))
         → OrderFits w c (d .state) (orderOf (d .state .pool .turn .disk))
-        → Steady long limits (orderedIn c w (d .state) (answered (w .journal) c) (d .state .pool .turn .disk)) → Ends w c d
+        → Steady long limits (orderedIn c w (d .state) (answered (w .journal) c) (d .state .pool .turn .disk))
+        → Ends w c d
 
   -- with no order: the journal is the one that the work has beside it
-  pub calm-steady : (s : State) (j : disk.World) (next : ℕ) (logged done : List ℕ) → Working long j (workIn s) → Ledger j next logged done → s .pool .limits ≡ limits
-      → Steady long limits (record { state = s; journal = moved j (walOf s); next = next; logged = logged; done = done })
+  pub calm-steady : (s : State) (j : disk.World) (next : ℕ) (logged done : List ℕ) → Working long j (workIn s)
+      → Ledger j next logged done → s .pool .limits ≡ limits
+      → Steady long limits (record {
+        state = s;
+        journal = moved j (walOf s);
+        next = next;
+        logged = logged;
+        done =
+            done;
+      })
   calm-steady s j next logged done works ledger is =
-      subst (λ v. Steady long limits (record { state = s; journal = moved j v; next = next; logged = logged; done = done })) (works .wal)
+      subst (λ v. Steady long limits (record {
+        state = s;
+        journal = moved j v;
+        next = next;
+        logged = logged;
+        done =
+            done;
+      })) (works .wal)
       (record { works = works; ledger = ledger; limits-are = is })
 
   -- after a run, and after a call that runs nothing: the journal is the answered one
-  pub rest-steady : (c : Call) (w : World) (s : State) (j : disk.World) → answered (w .journal) c ≡ j → s .pool .turn .disk ≡ order.Free → Working long j (workIn s) → Ledger j (w .next) (w .logged) (w .done)
+  pub rest-steady : (c : Call) (w : World) (s : State) (j : disk.World) → answered (w .journal) c ≡ j
+      → s .pool .turn .disk ≡ order.Free → Working long j (workIn s) → Ledger j (w .next) (w .logged) (w .done)
       → s .pool .limits ≡ limits → Steady long limits (orderedIn c w s (answered (w .journal) c) (s .pool .turn .disk))
   rest-steady c w s j from free works ledger is =
       subst (λ k. Steady long limits (orderedIn c w s k (s .pool .turn .disk))) (sym from)
-      (subst (λ d. Steady long limits (orderedIn c w s j d)) (sym free) (calm-steady s j (w .next) (w .logged) (w .done) works ledger is))
+      (subst (λ d. Steady long limits (orderedIn c w s j d)) (sym free) (calm-steady s j (w .next) (w .logged)
+      (w .done) works ledger is))
 
   -- the world after the order of a mark, with these messages left and these ids done
   abbrev offBy : World → State → disk.World → Order → List Message → List ℕ → World
@@ -125,7 +159,8 @@ module _ (long : ℕ) (limits : Limits) where
           let off : Steady long limits (offBy w s j o (remove (id .0) (j .now)) (id .0 ∷ [])) =
           record {
             works = works;
-            ledger = marked-ledger j (markedOff j (workIn s) o id) (w .next) (w .logged) (w .done) (id .0) ledger there refl next;
+            ledger = marked-ledger j (markedOff j (workIn s) o id) (w .next) (w .logged) (w .done) (id .0) ledger there
+                refl next;
             limits-are = is;
           } in
           let left = marked-in s (id .0) (j .now) there (open-once j ledger (id .0)) (works .ids) in
@@ -155,15 +190,19 @@ module _ (long : ℕ) (limits : Limits) where
       (marked-one s (id .0) (j .now) there (open-once j ledger (id .0)) (works .ids))))
 
   -- after a run the log's bytes at and after its size are those from before it
-  pub runs-tail : (j : disk.World) (x : Work) (bytes : List ℕ) → j .wal .bytes ≡ bytes → Runs long j x → TailKept bytes x
-  runs-tail j x bytes from (still free works) = ap (drop (x .turn .log .size)) (sym (ap (λ v. v .bytes) (works .wal)) ∙ from)
+  pub runs-tail : (j : disk.World) (x : Work) (bytes : List ℕ) → j .wal .bytes ≡ bytes → Runs long j x
+      → TailKept bytes x
+  runs-tail j x bytes from (still free works) = ap (drop (x .turn .log .size)) (sym (ap (λ v. v .bytes) (works .wal))
+      ∙ from)
   runs-tail j x bytes from (marks o id waits there next tail works) = tail ∙ ap (drop (x .turn .log .size)) from
 
   -- a world after a call that ended so, and whose answer shows the order that waits
-  pub ends-steady : (w : World) (c : Call) (d : Did) → Steady long limits w → (accepted (d .answer) ≡ true → orderIn (d .answer) ≡ orderOf (d .state .pool .turn .disk)) → Ends w c d
+  pub ends-steady : (w : World) (c : Call) (d : Did) → Steady long limits w → (accepted (d .answer) ≡ true
+      → orderIn (d .answer) ≡ orderOf (d .state .pool .turn .disk)) → Ends w c d
       → Steady long limits (stepDid w c d)
   ends-steady w c d steady shown-is (turned r is) =
-      subst (λ e. Steady long limits (stepDid w c e)) (sym is) (calm-steady (w .state) (w .journal) (w .next) (w .logged) (w .done) (steady .works) (steady .ledger) (steady .limits-are))
+      subst (λ e. Steady long limits (stepDid w c e)) (sym is) (calm-steady (w .state) (w .journal) (w .next)
+      (w .logged) (w .done) (steady .works) (steady .ledger) (steady .limits-are))
   ends-steady w c d steady shown-is (took ok tail fits after) = go (d .answer) refl
     where
       by : orderIn (d .answer) ≡ orderOf (d .state .pool .turn .disk)
@@ -184,10 +223,13 @@ module _ (long : ℕ) (limits : Limits) where
 
 -- ---- an answer is no refusal
 
-pub shown-rule : (P : Told → Type 0) (p : Pool) (t rows : Table) → ((a : Answer) → accepted a ≡ true → P (record { pool = p; answer = a })) → P (shown p t rows)
+pub shown-rule : (P : Told → Type 0) (p : Pool) (t rows : Table) → ((a : Answer) → accepted a ≡ true
+    → P (record { pool = p; answer = a })) → P (shown p t rows)
 unfolding shown
 shown-rule P p t rows all = all _ refl
 
-pub answered-rule : (P : Told → Type 0) (p : Pool) (t rows keys : Table) → ((a : Answer) → accepted a ≡ true → P (record { pool = p; answer = a })) → P (answeredOf p t rows keys)
+pub answered-rule : (P : Told → Type 0) (p : Pool) (t rows keys : Table) → ((a : Answer) → accepted a ≡ true
+    → P (record { pool = p; answer = a })) → P (answeredOf p t rows keys)
 unfolding answeredOf
-answered-rule P p t rows keys all = pick-rule P (atRest (p .turn .at)) (λ e. all _ refl) (λ e. shown-rule P p t rows all)
+answered-rule P p t rows keys all = pick-rule P (atRest (p .turn .at)) (λ e. all _ refl) (λ e. shown-rule P p t rows
+    all)

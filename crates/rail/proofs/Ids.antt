@@ -24,7 +24,8 @@ rising-under : (ms : List Message) (low high x : ℕ) → Rising low ms high →
 unfolding count
 rising-under [] low high x rises under = refl
 rising-under (m ∷ ms) low high x rises under =
-    count-other x (m .id) (idsOf ms) (λ same. omega (arith, rises .0)) ∙ rising-under ms (suc (m .id)) high x (rises .1) (omega (arith, rises .0))
+    count-other x (m .id) (idsOf ms) (λ same. omega (arith, rises .0)) ∙ rising-under ms (suc (m .id)) high x
+    (rises .1) (omega (arith, rises .0))
 
 pub rising-once : (ms : List Message) (low high x : ℕ) → Rising low ms high → count x (idsOf ms) ≤ 1
 unfolding count
@@ -34,7 +35,12 @@ rising-once (m ∷ ms) low high x rises = at (eqb (m .id) x) refl (rising-once m
     at : (b : Bool) → eqb (m .id) x ≡ b → count x (idsOf ms) ≤ 1 → count x (m .id ∷ idsOf ms) ≤ 1
     at true e later =
         let is : m .id ≡ x = eqb-true (m .id) x e in
-        omega (arith, count-same x (m .id) (idsOf ms) is, rising-under ms (suc (m .id)) high x (rises .1) (omega arith))
+        omega (
+          arith,
+          count-same x (m .id) (idsOf ms) is,
+          rising-under ms (suc (m .id)) high x (rises .1)
+              (omega arith),
+        )
     at false e later = omega (arith, count-other x (m .id) (idsOf ms) (eqb-false (m .id) x e))
 
 pub rising-top : (ms : List Message) (low high x : ℕ) → Rising low ms high → 0 < count x (idsOf ms) → x < high
@@ -62,8 +68,10 @@ unfolding remove count
 gone-other id x [] other = refl
 gone-other id x (m ∷ ms) other = go (gone-other id x ms other) (ℕ-discrete (m .id) id)
   where
-    go : count x (idsOf (remove id ms)) ≡ count x (idsOf ms) → Dec (m .id ≡ id) → count x (idsOf (remove id (m ∷ ms))) ≡ count x (idsOf (m ∷ ms))
-    go rest (yes p) = rw (eq-eqb (m .id) id p, remove) (omega (arith, count-other x (m .id) (idsOf ms) (λ z. other (omega arith))))
+    go : count x (idsOf (remove id ms)) ≡ count x (idsOf ms) → Dec (m .id ≡ id) → count x (idsOf (remove id (m ∷ ms)))
+        ≡ count x (idsOf (m ∷ ms))
+    go rest (yes p) = rw (eq-eqb (m .id) id p, remove)
+        (omega (arith, count-other x (m .id) (idsOf ms) (λ z. other (omega arith))))
     go rest (no p) = rw (ne-eqb (m .id) id p, remove) (omega arith)
 
 -- one id more
@@ -71,5 +79,6 @@ pub count-snoc : (x y : ℕ) (xs : List ℕ) → count x (xs ++ (y ∷ [])) ≡ 
 unfolding count
 count-snoc x y xs = omega (arith, count-append x xs (y ∷ []))
 
-pub now-count : (x : ℕ) (m : Message) (ms : List Message) → count x (idsOf (ms ++ (m ∷ []))) ≡ count x (idsOf ms) + pick (eqb (m .id) x) 1 0
+pub now-count : (x : ℕ) (m : Message) (ms : List Message) → count x (idsOf (ms ++ (m ∷ [])))
+    ≡ count x (idsOf ms) + pick (eqb (m .id) x) 1 0
 now-count x m ms = ap (count x) (map-append (λ (m : Message). m .id) ms (m ∷ [])) ∙ count-snoc x (m .id) (idsOf ms)

@@ -1,13 +1,13 @@
--- The theorem speaks of something: an opening that is accepted, of an empty file in the smallest log, with one group.
--- Assumes nothing.
+-- The theorem speaks of something: openings that are accepted, with one group, of any file that the log takes; and one
+-- of them, of an empty file in the smallest log. Assumes nothing.
 use mathlib.Core.Path.{_≡_, refl}
-use mathlib.Core.List.{[], _∷_}
-use Prim.Native.Nat.{ℕ}
+use mathlib.Core.List.{List, [], _∷_}
+use Prim.Native.Nat.{ℕ, _≤_}
 use native.Mathlib.Omega.{arith}
-use lib.ListN.{length, replicate, length-replicate}
+use lib.ListN.{length, take, replicate, length-replicate}
 use Rattle.text.specs.Format.{lines, allButLast, split}
 use Rattle.lists.specs.Links.{Table}
-use Rattle.log.specs.Opening.{allFit, opening, nothingRead, readFile, readLines, judge}
+use Rattle.log.specs.Opening.{allFit, Read, opening, opened, nothingRead, readFile, readLines, judge}
 use Rattle.log.proofs.OpenLaws.{sized-true}
 use Rattle.setup.specs.Settings.{settingsFit, numbersFit, within, rowsFit, rowFits, allBytes}
 use Rattle.door.specs.Open.{noLeft}
@@ -15,20 +15,20 @@ use Rattle.rail.specs.Rail.{Lent, Accepts}
 use Rattle.rail.proofs.Opened.{tables-true, Taken}
 use Rattle.rail.proofs.Opening.{is-accepted}
 
--- one fixed group of one replica, with an empty name
-abbrev oneGroup : Table
-oneGroup = (1 ∷ 0 ∷ 0 ∷ 0 ∷ 0 ∷ []) ∷ []
-
--- n rows
-abbrev rowsOf : ℕ → Table
+-- a table of n rows
+abbrev pub rowsOf : ℕ → Table
 rowsOf n = replicate n (0 ∷ [])
 
-abbrev pub someLent : Lent
-someLent = record {
+pub rows-are : (n : ℕ) → length (rowsOf n) ≡ n
+rows-are n = length-replicate n (0 ∷ [])
+
+-- one fixed group of one replica, with an empty name; and this lent log, whose first `size` bytes are the file
+abbrev pub lentWith : List ℕ → ℕ → Lent
+lentWith bytes size = record {
   settings = record { «max_actors» = 1; inbox = 1; backlog = 1; «compact_at» = 1; tick = 1 };
-  groupsGiven = oneGroup;
-  bytes = replicate 16 0;
-  size = 0;
+  groupsGiven = (1 ∷ 0 ∷ 0 ∷ 0 ∷ 0 ∷ []) ∷ [];
+  bytes = bytes;
+  size = size;
   store = replicate 40960 0;
   records = rowsOf 256;
   groups = rowsOf 8;
@@ -38,30 +38,37 @@ someLent = record {
   actors = rowsOf 128;
 }
 
-rows-are : (n : ℕ) → length (rowsOf n) ≡ n
-rows-are n = length-replicate n (0 ∷ [])
+-- it is taken where the log has a length that it may have and takes the file
+unfoldable pub taken-with : (bytes : List ℕ) (size : ℕ) (r : Read) → 16 ≤ length bytes → length bytes ≤ 65536
+    → size ≤ length bytes → opening (take size bytes) ≡ opened r → Taken (lentWith bytes size)
+unfolding settingsFit numbersFit within rowsFit rowFits allBytes
+taken-with bytes size r least most file reads =
+    let l = lentWith bytes size in
+    record {
+      fit = refl;
+      tables =
+          tables-true (length (l .groups)) (length (l .links)) (length (l .rows)) (length (l .keys))
+          (length (l .actors)) (rows-are 8) (rows-are 262) (rows-are 256) (rows-are 34) (rows-are 128);
+      sizes =
+          sized-true (length bytes) size (length (l .store)) (length (l .records)) (length noLeft)
+          (record {
+            least = least;
+            most = most;
+            file = file;
+            store-is = length-replicate {A = ℕ} 40960 0;
+            table-is = rows-are 256;
+            left-is = refl;
+          });
+      found = r;
+      reads = reads;
+    }
 
-some-taken : Taken someLent
-unfolding settingsFit numbersFit within rowsFit rowFits allBytes opening readFile lines readLines judge allFit allButLast split
-some-taken = record {
-  fit = refl;
-  tables =
-      tables-true (length (someLent .groups)) (length (someLent .links)) (length (someLent .rows))
-      (length (someLent .keys)) (length (someLent .actors)) (rows-are 8) (rows-are 262) (rows-are 256) (rows-are 34)
-      (rows-are 128);
-  sizes =
-      sized-true (length (someLent .bytes)) 0 (length (someLent .store)) (length (someLent .records)) (length noLeft)
-      (record {
-        least = omega arith;
-        most = omega arith;
-        file = omega arith;
-        store-is = length-replicate {A = ℕ} 40960 0;
-        table-is = rows-are 256;
-        left-is = refl;
-      });
-  found = nothingRead;
-  reads = refl;
-}
+-- an empty file leaves nothing
+pub nothing-left : opening [] ≡ opened nothingRead
+unfolding opening readFile lines readLines judge allFit allButLast split
+nothing-left = refl
 
-pub some-accepted : Accepts someLent
-some-accepted = is-accepted someLent some-taken
+pub some-accepted : Accepts (lentWith (replicate 16 0) 0)
+some-accepted =
+    is-accepted (lentWith (replicate 16 0) 0)
+    (taken-with (replicate 16 0) 0 nothingRead (omega arith) (omega arith) (omega arith) nothing-left)

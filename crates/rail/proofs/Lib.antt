@@ -13,4 +13,5 @@ pub mod Calls
 pub mod Opened
 pub mod Opening
 pub mod Instance
+pub mod WrongPools
 pub mod Rail

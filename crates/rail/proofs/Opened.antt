@@ -26,18 +26,22 @@ use Rattle.setup.specs.Settings.{settingsFit, groupsFrom}
 use Rattle.setup.specs.Tables.{Placed, putLeft}
 use Rattle.front.specs.declared.state.Refusal.{Refusal}
 use Rattle.front.specs.declared.state.Refusal.the-variants as refusal
-use Rattle.door.specs.Open.{PoolOpened, tablesSized, openTold, filledBy, openPool, noLeft, notOpened, openedPool, openedLog, openOf}
+use Rattle.door.specs.Open.{PoolOpened, tablesSized, openTold, filledBy, openPool, noLeft, notOpened, openedPool}
+use Rattle.door.specs.Open.{openedLog, openOf}
 use Rattle.rail.specs.Rail.{accepted, Lent, opens, Accepts, fileIn, Untouched}
 
 -- ---- the log turned away
 
-log-sizes : (bytes : List ℕ) (n : ℕ) (store : List ℕ) (records left : Table) → log.sized (length bytes) n (length store) (length records) (length left) ≡ false
+log-sizes : (bytes : List ℕ) (n : ℕ) (store : List ℕ) (records left : Table)
+    → log.sized (length bytes) n (length store) (length records) (length left) ≡ false
     → log.openOf bytes n store records left ≡ log.closedBy bytes store records left Sizes
 unfolding log.openOf
 log-sizes bytes n store records left e = cc
 
-log-refuses : (bytes : List ℕ) (n : ℕ) (store : List ℕ) (records left : Table) (r : of-log.Refusal) → log.sized (length bytes) n (length store) (length records) (length left) ≡ true
-    → opening (take n bytes) ≡ refused r → log.openOf bytes n store records left ≡ log.closedBy bytes store records left r
+log-refuses : (bytes : List ℕ) (n : ℕ) (store : List ℕ) (records left : Table) (r : of-log.Refusal)
+    → log.sized (length bytes) n (length store) (length records) (length left) ≡ true
+    → opening (take n bytes) ≡ refused r
+    → log.openOf bytes n store records left ≡ log.closedBy bytes store records left r
 unfolding log.openOf
 log-refuses bytes n store records left r s e = cc
 
@@ -51,16 +55,25 @@ both true b e = (refl, e)
 both false b e = (e, cc)
 
 -- the lists and the messages
-pub tables-are : (groups links rows keys actors : ℕ) → tablesSized groups links rows keys actors ≡ true → ((links ≡ 262) × (rows ≡ 256)) × ((keys ≡ 34) × (actors ≡ 128))
+pub tables-are : (groups links rows keys actors : ℕ) → tablesSized groups links rows keys actors ≡ true
+    → ((links ≡ 262) × (rows ≡ 256)) × ((keys ≡ 34) × (actors ≡ 128))
 unfolding tablesSized
 tables-are groups links rows keys actors e =
-    let one = both (eqb groups 8) (pick (eqb links 262) (pick (eqb rows 256) (pick (eqb keys 34) (eqb actors 128) false) false) false) e in
+    let one = both (eqb groups 8) (pick (eqb links 262) (pick (eqb rows 256) (pick (eqb keys 34) (eqb actors 128)
+    false) false) false) e in
     let two = both (eqb links 262) (pick (eqb rows 256) (pick (eqb keys 34) (eqb actors 128) false) false) (one .1) in
     let three = both (eqb rows 256) (pick (eqb keys 34) (eqb actors 128) false) (two .1) in
-    let four = both (eqb keys 34) (eqb actors 128) (three .1) in
-    ((eqb-true links 262 (two .0), eqb-true rows 256 (three .0)), (eqb-true keys 34 (four .0), eqb-true actors 128 (four .1)))
+    let four = both (eqb keys 34) (eqb actors 128) (three .1) in (
+      (eqb-true links 262 (two .0), eqb-true rows 256 (three .0)),
+      (
+        eqb-true keys 34 (four .0),
+        eqb-true actors 128
+            (four .1),
+      ),
+    )
 
-pub tables-true : (groups links rows keys actors : ℕ) → groups ≡ 8 → links ≡ 262 → rows ≡ 256 → keys ≡ 34 → actors ≡ 128
+pub tables-true : (groups links rows keys actors : ℕ) → groups ≡ 8 → links ≡ 262 → rows ≡ 256 → keys ≡ 34 → actors
+    ≡ 128
     → tablesSized groups links rows keys actors ≡ true
 unfolding tablesSized
 tables-true groups links rows keys actors g l r k a =
@@ -151,7 +164,8 @@ module _ (l : Lent) where
       openedPool (logMade r)
       (filledBy (groupsFrom (l .settings .«max_actors») (l .groups) (l .groupsGiven)) placed
       (replicate (length (l .keys)) blankRow)
-      (openTold (l .settings) (length (l .groupsGiven)) (logMade r .step .counters) (Replace (length (image (r .left))))))
+      (openTold (l .settings) (length (l .groupsGiven)) (logMade r .step .counters)
+      (Replace (length (image (r .left))))))
 
   abbrev pub opensAs : Read → PoolOpened
   opensAs r = madeWith r (putMessages (l .rows) (r .left))
@@ -186,7 +200,8 @@ module _ (l : Lent) where
 -- ---- the log at the start
 
 module _ (bytes : List ℕ) (n : ℕ) (store : List ℕ) (records left : Table) (r : Read)
-    (s : log.sized (length bytes) n (length store) (length records) (length left) ≡ true) (ok : opening (take n bytes) ≡ opened r) where
+    (s : log.sized (length bytes) n (length store) (length records) (length left) ≡ true) (ok : opening (take n bytes)
+    ≡ opened r) where
   abbrev pub startLog : disk.World
   startLog = disk.begin (log.openedBy bytes store records left r) (take n bytes) (r .left)
 
@@ -194,14 +209,21 @@ module _ (bytes : List ℕ) (n : ℕ) (store : List ℕ) (records left : Table) 
   start-stands = opened-stands bytes n store records left r s ok
 
   -- whatever a cut leaves of the file given, or of the opening's replace, is read as the messages left
-  start-reads : (file : List ℕ) → disk.Cut (take n bytes) [] file ⊎ (file ≡ image (r .left)) → ReadBack (length bytes) file (r .left ∷ [])
+  start-reads : (file : List ℕ) → disk.Cut (take n bytes) [] file ⊎ (file ≡ image (r .left))
+      → ReadBack (length bytes) file (r .left ∷ [])
   unfolding disk.begin
   start-reads file (inl c) =
       let lent = sized-all (length bytes) n (length store) (length records) (length left) s in
       let same : file ≡ take n bytes = cc (c .1, take-nil {A = ℕ} (c .0), append-nil (take n bytes)) in
-      record { short = omega (arith, ap length same, length-take-le n bytes (lent .file), lent .file); found = r; accepted = ap opening same ∙ ok; among = List·Memᴰ·head refl }
+      record {
+        short = omega (arith, ap length same, length-take-le n bytes (lent .file), lent .file);
+        found = r;
+        accepted = ap opening same ∙ ok;
+        among = List·Memᴰ·head refl;
+      }
   start-reads file (inr e) =
-      whole-image (length bytes) (startLog .disk) r (stands-fit (startLog .wal) (r .left) start-stands) (image-fits bytes n store records left r s ok) file e
+      whole-image (length bytes) (startLog .disk) r (stands-fit (startLog .wal) (r .left) start-stands)
+      (image-fits bytes n store records left r s ok) file e
 
   pub start-sound : Sound (length bytes) startLog
   unfolding disk.begin disk.storedOrder disk.failedOrder disk.firmMoment disk.confirm

@@ -23,8 +23,8 @@ use Rattle.log.specs.Recovery as disk
 use Rattle.log.specs.Stands.{Stands}
 use Rattle.log.proofs.OpeningLaws.{and-right, judge-opened, readLines-in-order}
 use Rattle.log.proofs.TabledLaws.{small-few}
-use Rattle.log.proofs.OpenLaws.{Sized, sized-all, sized-true, image-fits, opened-stands}
-use Rattle.log.proofs.Recovery.{opening-tail}
+use Rattle.log.proofs.OpenLaws.{Sized, sized-all, sized-true, open-accepts, opened-stands}
+use Rattle.log.proofs.Recovery.{open-tail}
 use Rattle.log.proofs.RecoveryLaws.{ReadBack, sound-reads}
 use Rattle.handing.specs.Handing.{idsOf, Hands}
 use Rattle.handing.proofs.Handing.{hands}
@@ -60,7 +60,8 @@ put-less : (n : ℕ) (t rows left : Table) (i : ℕ) → Good t → Less t (putL
 unfolding putLeft
 put-less zero t rows left i good = less-same t
 put-less (suc n) t rows left i good =
-    less-then t (moveFirst t FREE PENDING) _ (first-less t good FREE PENDING (omega arith)) (put-less n (moveFirst t FREE PENDING) _ left (suc i) (move-first-good t good FREE PENDING))
+    less-then t (moveFirst t FREE PENDING) _ (first-less t good FREE PENDING (omega arith))
+    (put-less n (moveFirst t FREE PENDING) _ left (suc i) (move-first-good t good FREE PENDING))
 
 start-empty : (rows left : Table) (n j : ℕ) → 5 ≤ j → lenOf (putLeft (startFrom 0 262) rows left 0 n .links) j ≡ 0
 start-empty rows left n j high =
@@ -85,7 +86,11 @@ start-lives n rows left m actors n-is long = record {
   keys-are = length-replicate n blankRow ∙ n-is;
   actors-are = long;
   slabs = λ g g-is. rw (blank-at n (4 * g)) sound-blank;
-  dead = λ g k g-is k-is d. (start-empty rows left m (6 + 2 * (16 * g + k)) (omega arith), start-empty rows left m (7 + 2 * (16 * g + k)) (omega arith));
+  dead = λ g k g-is k-is d. (
+    start-empty rows left m (6 + 2 * (16 * g + k)) (omega arith),
+    start-empty rows left m
+        (7 + 2 * (16 * g + k)) (omega arith),
+  );
   one = λ g k g-is k-is. omega (arith, start-empty rows left m (7 + 2 * (16 * g + k)) (omega arith));
   runs = λ g k g-is k-is e f. start-empty rows left m (7 + 2 * (16 * g + k)) (omega arith);
 }
@@ -108,10 +113,11 @@ module _ (l : Lent) (t : Taken l) where
   stands : Stands (disk.walOf (log.openedBy (l .bytes) (l .store) (l .records) noLeft (t .found))) left
   stands = opened-stands (l .bytes) (l .size) (l .store) (l .records) noLeft (t .found) (t .sizes) (t .reads)
 
-  lent : Sized (length (l .bytes)) (l .size) (length (l .store)) (length (l .records)) (length noLeft)
+  pub lent : Sized (length (l .bytes)) (l .size) (length (l .store)) (length (l .records)) (length noLeft)
   lent = sized-all (length (l .bytes)) (l .size) (length (l .store)) (length (l .records)) (length noLeft) (t .sizes)
 
-  sizes : ((length (l .links) ≡ 262) × (length (l .rows) ≡ 256)) × ((length (l .keys) ≡ 34) × (length (l .actors) ≡ 128))
+  sizes : ((length (l .links) ≡ 262) × (length (l .rows) ≡ 256)) × ((length (l .keys) ≡ 34)
+      × (length (l .actors) ≡ 128))
   sizes =
       tables-are (length (l .groups)) (length (l .links)) (length (l .rows)) (length (l .keys)) (length (l .actors))
       (t .tables)
@@ -149,7 +155,7 @@ module _ (l : Lent) (t : Taken l) where
   pub is-accepted : Accepts l
   is-accepted = ap (λ o. accepted (o .told .answer)) (opens-as l t)
 
-  hands-back : handedBack (opens l) ≡ left
+  pub hands-back : handedBack (opens l) ≡ left
   hands-back = ap handedBack (opens-as l t) ∙ given-back .back
 
   -- its order is a replace
@@ -160,8 +166,9 @@ module _ (l : Lent) (t : Taken l) where
   pub opens-tail : KeepsTail (opens l .told .pool .turn .log .size) (l .bytes) (opens l .bytes)
   opens-tail =
       subst (λ (o : PoolOpened). KeepsTail (o .told .pool .turn .log .size) (l .bytes) (o .bytes)) (sym (opens-as l t))
-      (opening-tail (l .bytes) left
-      (image-fits (l .bytes) (l .size) (l .store) (l .records) noLeft (t .found) (t .sizes) (t .reads)))
+      (subst (λ (o : log.Opened). KeepsTail (o .step .counters .size) (l .bytes) (o .log))
+      (open-accepts (l .bytes) (l .size) (l .store) (l .records) noLeft (t .found) (t .sizes) (t .reads))
+      (open-tail (l .bytes) (l .size) (l .store) (l .records) noLeft))
 
 -- what an accepted file leaves has rising ids
 rising-left : (file : List ℕ) (r : Read) → opening file ≡ opened r → Rising 0 (r .left) (r .next)

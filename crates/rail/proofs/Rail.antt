@@ -20,7 +20,7 @@ use Rattle.keeping.proofs.LivingTurn.{few-hand}
 use Rattle.rail.specs.Rail.{Call, World, Lent, Accepts, opens, fileIn, begin, after, mailboxAt, handAt, Living}
 use Rattle.rail.specs.Rail.{Reopens, Holds, WholeRail, TailsKept, RefusedSame, OrdersFit}
 use Rattle.rail.proofs.Invariant.{Steady}
-use Rattle.rail.proofs.Calls.{run-steady, tail-kept, order-fits}
+use Rattle.rail.proofs.Calls.{run-steady, size-is, tail-kept, order-fits}
 use Rattle.rail.proofs.Refused.{refused-stays}
 use Rattle.rail.proofs.Opened.{accepted-taken, refused-untouched}
 use Rattle.rail.proofs.Opening.{limitsOf, opens-replacing, opens-tail, open-steady, reopens}
@@ -35,13 +35,22 @@ placed-by n d l s adds once ids there = go (ℕ-discrete d 0)
 
 -- who holds a message lives
 holder : (t keys actors : Table) → Lives t keys actors → (g k : ℕ) → g < 8 → k < 16 → Living t keys g k
-holder t keys actors l g k g-is k-is = (λ some. go some (given keys g k) refl, omega (arith, length-view t (7 + 2 * (16 * g + k)), l .one g k g-is k-is))
+holder t keys actors l g k g-is k-is = (
+  λ some. go some (given keys g k) refl,
+  omega (arith, length-view t (7 + 2 * (16 * g + k)), l .one g k g-is k-is),
+)
   where
     go : 0 < length (mailboxAt t g k) + length (handAt t g k) → (b : Bool) → given keys g k ≡ b → given keys g k ≡ true
     go some true e = e
     go some false e =
         let none = l .dead g k g-is k-is e in
-        absurd (omega (arith, none .0, none .1, length-view t (6 + 2 * (16 * g + k)), length-view t (7 + 2 * (16 * g + k))))
+        absurd (omega (
+          arith,
+          none .0,
+          none .1,
+          length-view t (6 + 2 * (16 * g + k)),
+          length-view t (7 + 2 * (16 * g + k)),
+        ))
 
 -- an id that was not logged stands nowhere
 strange-by : (n d l s : ℕ) → n + d ≡ l → s ≡ n → l ≡ 0 → s ≡ 0
@@ -71,7 +80,8 @@ steady-holds l limits w steady safe = record {
       omega (
         arith,
         length-view (w .state .links) 5,
-        few-hand (w .state .pool .turn .at) (w .state .links) (w .state .keys) (w .state .actors) (steady .works .here),
+        few-hand (w .state .pool .turn .at) (w .state .links) (w .state .keys) (w .state .actors)
+            (steady .works .here),
       );
   safe = safe;
 }
@@ -85,6 +95,7 @@ whole-rail l ok calls =
 
 pub tails-kept : TailsKept
 tails-kept = record {
+  sizes = λ l ok calls. size-is (length (l .bytes)) (limitsOf l) (after l calls) (after-steady l ok calls);
   openings = λ l ok. opens-tail l (accepted-taken l ok);
   calls = λ l ok before c.
       tail-kept (length (l .bytes)) (limitsOf l) (after l before) c (after-steady l ok before);

@@ -6,8 +6,8 @@ use mathlib.Core.List.{List}
 use Prim.Native.Nat.{ℕ}
 use lib.ListN.{length}
 use Rattle.lists.specs.Links.{Table}
-use Rattle.log.specs.declared.Answer as of-log
-use Rattle.log.specs.declared.Answer.the-variants as logged
+use Rattle.log.specs.declared.Due.{Due}
+use Rattle.log.specs.declared.Due.the-variants as due
 use Rattle.log.specs.Log as log
 use Rattle.actor.specs.declared.message.Caller.{Caller}
 use Rattle.actor.specs.declared.message.Caller.the-variants as caller
@@ -29,8 +29,8 @@ use Rattle.pool.specs.declared.calls.StoredIn.the-variants as stored
 use Rattle.pool.specs.Run.{runOf}
 use Rattle.door.specs.Admit as door
 use Rattle.pool.specs.Calls as one
-use Rattle.rail.specs.Rail.{State, Call, admit, turn, reply, sync, close, Did, didAdmit, didRun, didReply, didTell, callOf}
-use Rattle.rail.specs.Rail.{accepted}
+use Rattle.rail.specs.Rail.{State, Call, admit, turn, reply, sync, close, Did, callOf, accepted}
+use Rattle.rail.specs.Rail.{didAdmit, didRun, didReply, didTell}
 use Rattle.rail.proofs.After.{shown-rule, answered-rule}
 use Rattle.rail.proofs.Shown.{never}
 use Rattle.rail.proofs.Admit.{Appends, away, out, append-ends}
@@ -151,15 +151,14 @@ module _ (s : State) where
     reply-stays (order.Waits o for) = order-stays (one.storedIn r)
     reply-stays order.Failed = same-stays _
 
-  synced-stays : (a : of-log.Answer)
+  synced-stays : (a : Due)
       → Stays (didTell s (one.syncBy p (s .links) (s .rows) (log.syncOf (p .turn .log)) a))
-  synced-stays (logged.Ordered o) = taken-stays _ (shown-taken _ _ _)
-  synced-stays logged.Nothing = taken-stays _ (shown-taken _ _ _)
-  synced-stays (logged.Refused r) = taken-stays _ (shown-taken _ _ _)
+  synced-stays (due.Ordered o) = taken-stays _ (shown-taken _ _ _)
+  synced-stays due.Nothing = taken-stays _ (shown-taken _ _ _)
 
   sync-stays : (d : Disk) → Stays (didTell s (one.syncIn p (s .links) (s .rows) d))
   unfolding one.syncFree
-  sync-stays order.Free = synced-stays (log.syncOf (p .turn .log) .answer)
+  sync-stays order.Free = synced-stays (log.syncOf (p .turn .log) .due)
   sync-stays (order.Waits o for) = same-stays _
   sync-stays order.Failed = same-stays _
 

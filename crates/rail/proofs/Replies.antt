@@ -12,8 +12,8 @@ use Rattle.lists.specs.Links.{Table, FREE, lenOf}
 use Rattle.log.specs.declared.Counters.{Counters}
 use Rattle.log.specs.declared.Order.{Order}
 use Rattle.log.specs.declared.Order.the-variants.{Flush}
-use Rattle.log.specs.declared.Answer.the-variants as logged
-use Rattle.log.specs.declared.Stepped.{Stepped}
+use Rattle.log.specs.declared.Due.the-variants as due
+use Rattle.log.specs.declared.SteppedDue.{SteppedDue}
 use Rattle.log.specs.Log as log
 use Rattle.log.specs.Recovery as disk
 use Rattle.log.proofs.RecoveryLaws as sound
@@ -46,7 +46,8 @@ use Rattle.front.specs.State.{lengthCheck, withTurn, withDisk, shown, atRest}
 use Rattle.pool.specs.Run.{Ran, PENDING, runOf}
 use Rattle.pool.specs.Calls as one
 use Rattle.pool.specs.Calls.{firstPoint, begunOf, freed, withWent, closedPool, storedIn}
-use Rattle.rail.specs.Rail.{Call, turn, reply, sync, close, State, didRun, didReply, didTell, callOf, World, walOf, answered, answeredBy, orderAnswered, nothing, OrderFits}
+use Rattle.rail.specs.Rail.{Call, turn, reply, sync, close, State, didRun, didReply, didTell, callOf, World}
+use Rattle.rail.specs.Rail.{walOf, answered, answeredBy, orderAnswered, nothing, OrderFits}
 use Rattle.rail.proofs.Invariant.{Agrees, Ledger, Working, Runs, workIn, Steady}
 use Rattle.keeping.proofs.Turn.{ResumeKeeps, resume-keeps}
 use Rattle.keeping.specs.Living.{stepHand, AtLives}
@@ -96,28 +97,38 @@ confirmed-settled disk.flushing d = refl
 module _ (long : ℕ) (j : disk.World) (s : disk.Sent) (waits : j .disk .status ≡ disk.waits s) where
   stored-sound : sound.Sound long j → sound.Sound long (disk.storedOrder j s)
   unfolding disk.step
-  stored-sound good = subst (λ q. sound.Sound long (disk.step 0 q j disk.stored)) waits (sound.step-sound long 0 j disk.stored good)
+  stored-sound good = subst (λ q. sound.Sound long (disk.step 0 q j disk.stored)) waits (sound.step-sound long 0 j
+      disk.stored good)
 
   failed-sound : sound.Sound long j → sound.Sound long (disk.failedOrder j s)
   unfolding disk.step
-  failed-sound good = subst (λ q. sound.Sound long (disk.step 0 q j disk.failed)) waits (sound.step-sound long 0 j disk.failed good)
+  failed-sound good = subst (λ q. sound.Sound long (disk.step 0 q j disk.failed)) waits (sound.step-sound long 0 j
+      disk.failed good)
 
   answered-waits : (x : StoredIn) → answeredBy j (j .disk .status) x ≡ orderAnswered j s x
   answered-waits x = ap (λ q. answeredBy j q x) waits
 
-answered-settled : (j : disk.World) (x : StoredIn) → j .disk .status ≡ disk.settled → answeredBy j (j .disk .status) x ≡ j
+answered-settled : (j : disk.World) (x : StoredIn) → j .disk .status ≡ disk.settled → answeredBy j (j .disk .status) x
+    ≡ j
 answered-settled j x settled = ap (λ q. answeredBy j q x) settled
 
 -- a journal with the same messages and the same next id
-same-ledger : (j j′ : disk.World) (top : ℕ) (logged done : List ℕ) → Ledger j top logged done → j′ .now ≡ j .now → j′ .wal .counters .next ≡ j .wal .counters .next → Ledger j′ top logged done
-same-ledger j j′ top logged done old now next = record { next-is = old .next-is ∙ sym next; adds = λ x. rw now (old .adds x); once = old .once; below = λ x some. omega (arith, old .below x some) }
+same-ledger : (j j′ : disk.World) (top : ℕ) (logged done : List ℕ) → Ledger j top logged done → j′ .now ≡ j .now
+    → j′ .wal .counters .next ≡ j .wal .counters .next → Ledger j′ top logged done
+same-ledger j j′ top logged done old now next = record {
+  next-is = old .next-is ∙ sym next;
+  adds =
+      λ x. rw now (old .adds x);
+  once = old .once;
+  below = λ x some. omega (arith, old .below x some);
+}
 
 -- ---- sync
 
 -- nothing to flush, or a flush
-data Syncs (n : Counters) (s : Stepped) : Type 0 where
-  idle : s ≡ record { counters = n; answer = logged.Nothing } → Syncs n s
-  flush : s .answer ≡ logged.Ordered Flush → s .counters .next ≡ n .next → Syncs n s
+data Syncs (n : Counters) (s : SteppedDue) : Type 0 where
+  idle : s ≡ record { counters = n; due = due.Nothing } → Syncs n s
+  flush : s .due ≡ due.Ordered Flush → s .counters .next ≡ n .next → Syncs n s
 
 sync-view : (n : Counters) → Syncs n (log.syncOf n)
 unfolding log.syncOf
@@ -129,30 +140,42 @@ sync-view n = go (n .dirty) refl
 
 -- the journal after a flush was ordered
 abbrev synced : disk.World → log.Wal → disk.World
-synced j v = disk.issue j (record { bytes = v .bytes; table = v .table; counters = log.syncOf (v .counters) .counters }) (j .now) (disk.sent (v .bytes) Flush)
+synced j v = disk.issue j (record {
+  bytes = v .bytes;
+  table = v .table;
+  counters = log.syncOf (v .counters)
+      .counters;
+}) (j .now) (disk.sent (v .bytes) Flush)
 
-synced-sound : (long : ℕ) (j : disk.World) (v : log.Wal) → sound.Sound long j → j .disk .status ≡ disk.settled → j .wal ≡ v
-    → log.syncOf (v .counters) .answer ≡ logged.Ordered Flush → sound.Sound long (synced j v)
+synced-sound : (long : ℕ) (j : disk.World) (v : log.Wal) → sound.Sound long j → j .disk .status ≡ disk.settled → j .wal
+    ≡ v
+    → log.syncOf (v .counters) .due ≡ due.Ordered Flush → sound.Sound long (synced j v)
 unfolding disk.called disk.didCall disk.effect
-synced-sound long j v good settled is ordered = subst (λ u. log.syncOf (u .counters) .answer ≡ logged.Ordered Flush → sound.Sound long (synced j u)) is here ordered
+synced-sound long j v good settled is ordered = subst (λ u. log.syncOf (u .counters) .due ≡ due.Ordered Flush
+    → sound.Sound long (synced j u)) is here ordered
   where
-    here : log.syncOf (j .wal .counters) .answer ≡ logged.Ordered Flush → sound.Sound long (synced j (j .wal))
+    here : log.syncOf (j .wal .counters) .due ≡ due.Ordered Flush → sound.Sound long (synced j (j .wal))
     here e =
-        subst (λ a. sound.Sound long (disk.issued j disk.sync (disk.syncDid (j .wal) (log.syncOf (j .wal .counters)) .wal) a)) e
+        subst (λ a. sound.Sound long (disk.issued j disk.sync (disk.bySync (j .wal) (log.syncOf (j .wal .counters))
+        .wal) (disk.orderedDue a))) e
         (call-sound long j good settled disk.sync)
 
 -- ---- a run
 
 module _ (long : ℕ) (limits : Limits) (w : World) (c : Call) where
   -- nothing runs, and no order goes out
-  rest-ends : (s : State) (j : disk.World) → OrderFits w c s nothing → s .bytes ≡ w .state .bytes → answered (w .journal) c ≡ j → s .pool .turn .disk ≡ order.Free → Working long j (workIn s)
-      → Ledger j (w .next) (w .logged) (w .done) → s .pool .limits ≡ limits → Ends long limits w c (didTell s (shown (s .pool) (s .links) (s .rows)))
+  rest-ends : (s : State) (j : disk.World) → OrderFits w c s nothing → s .bytes ≡ w .state .bytes
+      → answered (w .journal) c ≡ j → s .pool .turn .disk ≡ order.Free → Working long j (workIn s)
+      → Ledger j (w .next) (w .logged) (w .done) → s .pool .limits ≡ limits
+      → Ends long limits w c (didTell s (shown (s .pool) (s .links) (s .rows)))
   rest-ends s j fits same from free works ledger is =
       shown-rule (λ told. Ends long limits w c (didTell s told)) (s .pool) (s .links) (s .rows)
       (λ a ok. took ok (ap (drop (s .pool .turn .log .size)) same)
-      (subst (λ d. OrderFits w c s (orderOf d)) (sym free) fits) (rest-steady long limits c w s j from free works ledger is))
+      (subst (λ d. OrderFits w c s (orderOf d)) (sym free) fits) (rest-steady long limits c w s j from free works
+      ledger is))
 
-  run-ends : Marking w c → (s : State) (j : disk.World) → j .now ≡ w .journal .now → s .bytes ≡ w .state .bytes → answered (w .journal) c ≡ j → s .pool .turn .disk ≡ order.Free → Working long j (workIn s)
+  run-ends : Marking w c → (s : State) (j : disk.World) → j .now ≡ w .journal .now → s .bytes ≡ w .state .bytes
+      → answered (w .journal) c ≡ j → s .pool .turn .disk ≡ order.Free → Working long j (workIn s)
       → Ledger j (w .next) (w .logged) (w .done) → s .pool .limits ≡ limits → Ends long limits w c (didRun s (runIn s))
   unfolding runOf
   run-ends own s j now same from free works ledger is =
@@ -171,10 +194,20 @@ module _ (long : ℕ) (limits : Limits) (w : World) (c : Call) where
       (runs-fits long limits c w _ j own now runs ledger) (runs-steady long limits c w _ j own from runs ledger is))
     where
       x : Work
-      x = advanceOf (weightOf (s .pool .turn)) (record { limits = s .pool .limits; store = s .store; groups = s .groups }) (workIn s)
+      x = advanceOf (weightOf (s .pool .turn)) (record {
+        limits = s .pool .limits;
+        store = s .store;
+        groups =
+            s .groups;
+      }) (workIn s)
 
       runs : Runs long j x
-      runs = run-runs (weightOf (s .pool .turn)) long (record { limits = s .pool .limits; store = s .store; groups = s .groups }) j (workIn s) free works
+      runs = run-runs (weightOf (s .pool .turn)) long (record {
+        limits = s .pool .limits;
+        store = s .store;
+        groups =
+            s .groups;
+      }) j (workIn s) free works
 
 -- ---- the calls
 
@@ -237,18 +270,21 @@ module _ (long : ℕ) (limits : Limits) (w : World) (steady : Steady long limits
     ids = works .ids;
     ok = first-ok (s .links) (p .seeded);
     lives = works .lives;
-    here = first-lives (s .links) (s .keys) (s .actors) (p .seeded) (rest-hand (p .turn .at) (s .links) (s .keys) (s .actors) rests (works .here));
+    here = first-lives (s .links) (s .keys) (s .actors) (p .seeded) (rest-hand (p .turn .at) (s .links) (s .keys)
+        (s .actors) rests (works .here));
     wal = works .wal;
     agrees = works .agrees;
     journal = works .journal;
   }
 
   turn-in-ends : (q : Disk) → p .turn .disk ≡ q
-      → Ends long limits w turn (didRun s (one.turnIn p (s .bytes) (s .records) (s .store) (s .groups) (s .links) (s .rows) (s .keys) (s .actors) q))
+      → Ends long limits w turn (didRun s (one.turnIn p (s .bytes) (s .records) (s .store) (s .groups) (s .links)
+      (s .rows) (s .keys) (s .actors) q))
   unfolding one.turnFree
   turn-in-ends order.Free is =
       pick-rule (λ r. Ends long limits w turn (didRun s r)) (atRest (p .turn .at))
-      (λ e. run-ends long limits w turn (refl, λ s o h. h) (withPool s (begunOf p)) j refl refl refl is (begun-works e) (steady .ledger) (steady .limits-are)) (λ e. turned refusal.InTurn refl)
+      (λ e. run-ends long limits w turn (refl, λ s o h. h) (withPool s (begunOf p)) j refl refl refl is (begun-works e)
+      (steady .ledger) (steady .limits-are)) (λ e. turned refusal.InTurn refl)
   turn-in-ends (order.Waits o for) is = turned refusal.OrderWaits refl
   turn-in-ends order.Failed is = turned refusal.StoreFailed refl
 
@@ -259,10 +295,22 @@ module _ (long : ℕ) (limits : Limits) (w : World) (steady : Steady long limits
   -- ---- close and sync
 
   closed-works : Working long j (workIn (withPool s (closedPool p)))
-  closed-works = record { sound = works .sound; ids = works .ids; ok = works .ok; lives = works .lives; here = works .here; wal = works .wal; agrees = works .agrees; journal = works .journal }
+  closed-works = record {
+    sound = works .sound;
+    ids = works .ids;
+    ok = works .ok;
+    lives = works .lives;
+    here =
+        works .here;
+    wal = works .wal;
+    agrees = works .agrees;
+    journal = works .journal;
+  }
 
-  close-in-ends : (q : Disk) → p .turn .disk ≡ q → Ends long limits w close (didTell s (one.closeIn p (s .links) (s .rows) q))
-  close-in-ends order.Free is = rest-ends long limits w close (withPool s (closedPool p)) j refl refl refl is closed-works (steady .ledger) (steady .limits-are)
+  close-in-ends : (q : Disk) → p .turn .disk ≡ q
+      → Ends long limits w close (didTell s (one.closeIn p (s .links) (s .rows) q))
+  close-in-ends order.Free is = rest-ends long limits w close (withPool s (closedPool p)) j refl refl refl is
+      closed-works (steady .ledger) (steady .limits-are)
   close-in-ends (order.Waits o for) is = turned refusal.OrderWaits refl
   close-in-ends order.Failed is = turned refusal.StoreFailed refl
 
@@ -270,14 +318,17 @@ module _ (long : ℕ) (limits : Limits) (w : World) (steady : Steady long limits
   unfolding callOf one.closeOf
   close-ends = close-in-ends (p .turn .disk) refl
 
-  sync-free-ends : p .turn .disk ≡ order.Free → Syncs (p .turn .log) (log.syncOf (p .turn .log)) → Ends long limits w sync (didTell s (one.syncFree p (s .links) (s .rows)))
+  sync-free-ends : p .turn .disk ≡ order.Free → Syncs (p .turn .log) (log.syncOf (p .turn .log))
+      → Ends long limits w sync (didTell s (one.syncFree p (s .links) (s .rows)))
   unfolding one.syncFree disk.issue
   sync-free-ends free (idle is) =
       subst (λ d. Ends long limits w sync (didTell s (one.syncDid p (s .links) (s .rows) d))) (sym is)
       (rest-ends long limits w sync s j (inl refl) refl refl free works (steady .ledger) (steady .limits-are))
   sync-free-ends free (flush is next) =
-      subst (λ a. Ends long limits w sync (didTell s (one.syncBy p (s .links) (s .rows) (log.syncOf (p .turn .log)) a))) (sym is)
-      (shown-rule (λ told. Ends long limits w sync (didTell s told)) (withDisk p (log.syncOf (p .turn .log) .counters) (order.Waits Flush what.Nothing)) (s .links) (s .rows)
+      subst (λ a. Ends long limits w sync (didTell s (one.syncBy p (s .links) (s .rows) (log.syncOf (p .turn .log))
+      a))) (sym is)
+      (shown-rule (λ told. Ends long limits w sync (didTell s told)) (withDisk p (log.syncOf (p .turn .log) .counters)
+      (order.Waits Flush what.Nothing)) (s .links) (s .rows)
       (λ a ok. took ok refl (inr refl) (record {
         works = record {
           sound = works .sound;
@@ -289,11 +340,13 @@ module _ (long : ℕ) (limits : Limits) (w : World) (steady : Steady long limits
           agrees = refl;
           journal = synced-sound long j (walOf s) (works .journal) (settled free) (works .wal) is;
         };
-        ledger = same-ledger j (synced j (walOf s)) (w .next) (w .logged) (w .done) (steady .ledger) refl (next ∙ ap (λ u. u .counters .next) (sym (works .wal)));
+        ledger = same-ledger j (synced j (walOf s)) (w .next) (w .logged) (w .done) (steady .ledger) refl (next
+            ∙ ap (λ u. u .counters .next) (sym (works .wal)));
         limits-are = steady .limits-are;
       })))
 
-  sync-in-ends : (q : Disk) → p .turn .disk ≡ q → Ends long limits w sync (didTell s (one.syncIn p (s .links) (s .rows) q))
+  sync-in-ends : (q : Disk) → p .turn .disk ≡ q
+      → Ends long limits w sync (didTell s (one.syncIn p (s .links) (s .rows) q))
   sync-in-ends order.Free is = sync-free-ends is (sync-view (p .turn .log))
   sync-in-ends (order.Waits o for) is = turned refusal.OrderWaits refl
   sync-in-ends order.Failed is = turned refusal.StoreFailed refl
@@ -339,7 +392,8 @@ module _ (long : ℕ) (limits : Limits) (w : World) (steady : Steady long limits
       unfolding disk.storedOrder
       freed-ledger = same-ledger j (disk.storedOrder j out) (w .next) (w .logged) (w .done) (steady .ledger) refl refl
 
-      failed-works : Working long (disk.failedOrder j out) (workIn (withPool s (withDisk p (p .turn .log) order.Failed)))
+      failed-works : Working long (disk.failedOrder j out)
+          (workIn (withPool s (withDisk p (p .turn .log) order.Failed)))
       unfolding disk.failedOrder
       failed-works = record {
         sound = works .sound;
@@ -357,19 +411,26 @@ module _ (long : ℕ) (limits : Limits) (w : World) (steady : Steady long limits
       failed-ledger = same-ledger j (disk.failedOrder j out) (w .next) (w .logged) (w .done) (steady .ledger) refl refl
 
       order-ends : (x : StoredIn) → storedIn r ≡ x
-          → Ends long limits w c (didRun s (one.orderBy p (s .bytes) (s .records) (s .store) (s .groups) (s .links) (s .rows) (s .keys) (s .actors) x))
+          → Ends long limits w c (didRun s (one.orderBy p (s .bytes) (s .records) (s .store) (s .groups) (s .links)
+          (s .rows) (s .keys) (s .actors) x))
       unfolding one.storedOf one.failedOf disk.storedOrder disk.failedOrder
       order-ends stored.Stored is =
           pick-rule (λ r. Ends long limits w c (didRun s r)) (atRest (p .turn .at))
           (λ e. rest-ends long limits w c (withPool s (freed p)) (disk.storedOrder j out)
-          (none-fits long limits c w (withPool s (freed p)) (disk.storedOrder j out) replying refl freed-works) refl (from stored.Stored is) refl freed-works freed-ledger (steady .limits-are))
-          (λ e. run-ends long limits w c replying (withPool s (freed p)) (disk.storedOrder j out) refl refl (from stored.Stored is) refl freed-works freed-ledger (steady .limits-are))
+          (none-fits long limits c w (withPool s (freed p)) (disk.storedOrder j out) replying refl freed-works) refl
+          (from stored.Stored is) refl freed-works freed-ledger (steady .limits-are))
+          (λ e. run-ends long limits w c replying (withPool s (freed p)) (disk.storedOrder j out) refl refl
+          (from stored.Stored is) refl freed-works freed-ledger (steady .limits-are))
       order-ends stored.Failed is =
-          shown-rule (λ told. Ends long limits w c (didTell s told)) (withDisk p (p .turn .log) order.Failed) (s .links) (s .rows)
+          shown-rule (λ told. Ends long limits w c (didTell s told)) (withDisk p (p .turn .log) order.Failed)
+          (s .links) (s .rows)
           (λ a ok. took ok refl
-          (none-fits long limits c w (withPool s (withDisk p (p .turn .log) order.Failed)) (disk.failedOrder j out) replying refl failed-works)
-          (subst (λ k. Steady long limits (orderedIn c w (withPool s (withDisk p (p .turn .log) order.Failed)) k order.Failed)) (sym (from stored.Failed is))
-          (calm-steady long limits (withPool s (withDisk p (p .turn .log) order.Failed)) (disk.failedOrder j out) (w .next) (w .logged) (w .done) failed-works failed-ledger (steady .limits-are))))
+          (none-fits long limits c w (withPool s (withDisk p (p .turn .log) order.Failed)) (disk.failedOrder j out)
+          replying refl failed-works)
+          (subst (λ k. Steady long limits (orderedIn c w (withPool s (withDisk p (p .turn .log) order.Failed)) k
+          order.Failed)) (sym (from stored.Failed is))
+          (calm-steady long limits (withPool s (withDisk p (p .turn .log) order.Failed)) (disk.failedOrder j out)
+          (w .next) (w .logged) (w .done) failed-works failed-ledger (steady .limits-are))))
       order-ends stored.Other is = turned refusal.NoFit refl
 
     -- to the turn's question
@@ -379,24 +440,28 @@ module _ (long : ℕ) (limits : Limits) (w : World) (steady : Steady long limits
 
       -- a message that was sent
       sent-ends : (k : Check) → one.sentCheck (s .links) (length name) (length body) ≡ k
-          → Ends long limits w c (didReply s (one.repliedSent (s .bytes) (s .records) (s .keys) (s .actors) (one.sentBy p (s .store) (s .links) (s .rows) name body k)))
+          → Ends long limits w c (didReply s (one.repliedSent (s .bytes) (s .records) (s .keys) (s .actors)
+          (one.sentBy p (s .store) (s .links) (s .rows) name body k)))
       unfolding one.sentCheck
       sent-ends (check.Refuse x) is = turned x refl
       sent-ends check.Fine is =
           rest-ends long limits w c (withKept s kept) j
-          (none-fits long limits c w (withKept s kept) j replying refl (unlogged-works long j s kept works came)) refl still-from free (unlogged-works long j s kept works came) (steady .ledger) (steady .limits-are)
+          (none-fits long limits c w (withKept s kept) j replying refl (unlogged-works long j s kept works came)) refl
+          still-from free (unlogged-works long j s kept works came) (steady .ledger) (steady .limits-are)
         where
           kept : Kept
           kept = keepOf (s .store) (s .links) (s .rows) name body caller.Nobody id.Never PENDING
 
           came : Arrives (p .turn .at) (s .links) (s .rows) (p .turn .counts .queued) id.Never kept
           came =
-              kept-arrives (p .turn .at) (s .store) (s .links) (s .rows) (p .turn .counts .queued) (works .sound) (works .ok) name body caller.Nobody id.Never PENDING
+              kept-arrives (p .turn .at) (s .store) (s .links) (s .rows) (p .turn .counts .queued) (works .sound)
+              (works .ok) name body caller.Nobody id.Never PENDING
               desk-pending (omega arith) (sent-room (s .links) (lengthCheck (length name) (length body)) is)
 
       -- any other: the turn goes on
       abbrev gone : GoneActors
-      gone = resumeOf (p .turn .at) (p .turn .counts) (p .limits) (s .groups) (s .links) (s .rows) (s .keys) (s .actors) r
+      gone = resumeOf (p .turn .at) (p .turn .counts) (p .limits) (s .groups) (s .links) (s .rows) (s .keys)
+          (s .actors) r
 
       abbrev resumed : State
       resumed = record {
@@ -413,8 +478,10 @@ module _ (long : ℕ) (limits : Limits) (w : World) (steady : Steady long limits
 
       resumed-works : Working long j (workIn resumed)
       resumed-works =
-          let keeps : ResumeKeeps (s .links) (s .rows) gone = resume-keeps (p .turn .at) (p .turn .counts) (p .limits) (s .groups) (s .links) (s .rows) (s .keys) (s .actors) r (works .sound) (works .ok) in
-          let holds = resume-lives (p .turn .at) (p .turn .counts) (p .limits) (s .groups) (s .links) (s .rows) (s .keys) (s .actors) r (works .sound .good) (works .lives) (works .here) in
+          let keeps : ResumeKeeps (s .links) (s .rows) gone = resume-keeps (p .turn .at) (p .turn .counts) (p .limits)
+          (s .groups) (s .links) (s .rows) (s .keys) (s .actors) r (works .sound) (works .ok) in
+          let holds = resume-lives (p .turn .at) (p .turn .counts) (p .limits) (s .groups) (s .links) (s .rows)
+          (s .keys) (s .actors) r (works .sound .good) (works .lives) (works .here) in
           record {
             sound = keeps .keeps .sound;
             ids = λ x. keeps .keeps .same x ∙ works .ids x;
@@ -426,20 +493,26 @@ module _ (long : ℕ) (limits : Limits) (w : World) (steady : Steady long limits
             journal = works .journal;
           }
 
-      fit-ends : Ends long limits w c (didReply s (one.fitReply p (s .bytes) (s .records) (s .store) (s .groups) (s .links) (s .rows) (s .keys) (s .actors) r name body))
+      fit-ends : Ends long limits w c (didReply s (one.fitReply p (s .bytes) (s .records) (s .store) (s .groups)
+          (s .links) (s .rows) (s .keys) (s .actors) r name body))
       unfolding one.fitReply one.sentOf one.resumedOf
       fit-ends =
-          pick-rule (λ x. Ends long limits w c (didReply s x)) (one.isMessage r) (λ e. sent-ends (one.sentCheck (s .links) (length name) (length body)) refl)
-          (λ e. run-ends long limits w c replying resumed j refl refl still-from free resumed-works (steady .ledger) (steady .limits-are))
+          pick-rule (λ x. Ends long limits w c (didReply s x)) (one.isMessage r)
+          (λ e. sent-ends (one.sentCheck (s .links) (length name) (length body)) refl)
+          (λ e. run-ends long limits w c replying resumed j refl refl still-from free resumed-works (steady .ledger)
+          (steady .limits-are))
 
       asked-ends : (a : Asked)
-          → Ends long limits w c (didReply s (one.askedReply p (s .bytes) (s .records) (s .store) (s .groups) (s .links) (s .rows) (s .keys) (s .actors) r name body a))
+          → Ends long limits w c (didReply s (one.askedReply p (s .bytes) (s .records) (s .store) (s .groups)
+          (s .links) (s .rows) (s .keys) (s .actors) r name body a))
       unfolding one.openReply
-      asked-ends (asked.Open q) = pick-rule (λ x. Ends long limits w c (didReply s x)) (fitsOf q r) (λ e. fit-ends) (λ e. turned refusal.NoFit refl)
+      asked-ends (asked.Open q) = pick-rule (λ x. Ends long limits w c (didReply s x)) (fitsOf q r) (λ e. fit-ends)
+          (λ e. turned refusal.NoFit refl)
       asked-ends asked.Nothing = turned refusal.NoFit refl
 
     reply-in-ends : (q : Disk) → p .turn .disk ≡ q
-        → Ends long limits w c (didReply s (one.replyIn p (s .bytes) (s .records) (s .store) (s .groups) (s .links) (s .rows) (s .keys) (s .actors) r name body q))
+        → Ends long limits w c (didReply s (one.replyIn p (s .bytes) (s .records) (s .store) (s .groups) (s .links)
+        (s .rows) (s .keys) (s .actors) r name body q))
     unfolding one.turnReply one.orderReply
     reply-in-ends order.Free is = asked-ends is (asksIn (p .turn .disk) (p .turn .at) (s .links) (s .rows))
     reply-in-ends (order.Waits o for) is = order-ends o for is (storedIn r) refl

@@ -2,8 +2,9 @@
 -- moments; a list of calls; an accepted opening; what holds after every list; and what holds of every call of it.
 -- The world goes by the calls, their arguments and the answers that the host gets. Of the pool's insides it looks at
 -- the six places; what holds is said of these, of queued, and of the keys that are given out.
--- The calls are defined in crates/door/specs and crates/pool/specs, disk and moments in crates/log/specs/Recovery, the
--- places in crates/places/specs. The theorem is `whole-rail` (proofs/Rail.antt).
+-- The calls are defined in crates/door/specs and crates/pool/specs, disk and moments in crates/log/specs/Recovery
+-- (docs/RULES.md, 3), the places in crates/places/specs (docs/RULES.md, 7). The theorem is `whole-rail`, in
+-- proofs/Rail.antt; proofs/WrongPools.antt has pools that it rules out.
 use mathlib.Core.Path.{_≡_}
 use mathlib.Core.Bool.{Bool, true, false}
 use mathlib.Core.Logic.{_⊎_}
@@ -236,10 +237,10 @@ purposeOf sync = ofNeither
 purposeOf close = ofNeither
 
 -- What an order does to the messages logged and not done. A record adds its message, with the name and body given and
--- the next id. A mark takes off the message that left "over" with it. Within one call a message may come to "over" and
--- leave it, so that no list "over" before or after the call need have it; but a message not done stands in a place
--- before the call, and the one that left stands in none after it. So that is what is looked at: the six places, after
--- the call. (That it is exactly one message says `OrdersFit`, below.) Any other order changes nothing.
+-- the next id. A mark takes off the message that left the place "over" with it. That message may have come to "over"
+-- in this very call, so the list "over" from before does not tell; but it stood in some place before, as every message
+-- that is not done, and stands in none after. So a mark takes off what stands in none of the six places after the
+-- call: exactly one message (`OrdersFit`, below). Any other order changes nothing.
 abbrev pub effect : ℕ → State → Purpose → List Message → List Message
 effect next s (ofRecord name body) now = now ++ (record { id = next; name = name; body = body } ∷ [])
 effect next s ofMark now = inPlaces s now
@@ -487,8 +488,21 @@ abbrev pub CallKeepsTail : World → Call → Type 0
 CallKeepsTail w c =
     KeepsTail (callOf (w .state) c .state .pool .turn .log .size) (w .state .bytes) (callOf (w .state) c .state .bytes)
 
+-- how long a disk's file is
+abbrev pub lengthOn : disk.Disk → ℕ
+lengthOn d = length (d .sure) + length (d .since)
+
+-- the log's size is the length of the file once the order that waits is stored; what a failed one left nobody knows
+abbrev pub SizeIs : ℕ → disk.Disk → disk.Status → Type 0
+SizeIs size d disk.settled = size ≡ lengthOn d
+SizeIs size d (disk.waits s) = size ≡ lengthOn (disk.confirm s d)
+SizeIs size d (disk.lost s) = 0 ≤ 0
+
 -- in every call, rewriting or not, refused or not, and in the opening
 pub record TailsKept : Type 0 where
+  pub sizes : (l : Lent) → Accepts l → (calls : List Call)
+      → SizeIs (after l calls .state .pool .turn .log .size) (after l calls .journal .disk)
+      (after l calls .journal .disk .status)
   pub openings : (l : Lent) → Accepts l → KeepsTail (opens l .told .pool .turn .log .size) (l .bytes) (opens l .bytes)
   pub calls : EveryCall CallKeepsTail
 

@@ -11,12 +11,11 @@ use Rattle.reopening.specs.declared.Reopened.{Reopened}
 use Rattle.reopening.specs.declared.Reopened.the-variants.{Log, Refused}
 use Rattle.log.specs.declared.Answer.the-variants as answer
 
--- the length of the new log, or 01's number of the refusal; opening orders nothing but a replace
+-- the length of the new log, or the number of the refusal; opening orders nothing but a replace
 abbrev pub answerOf : Answer → Reopened
 answerOf (answer.Ordered (Append a b)) = Log 0
 answerOf (answer.Ordered (Replace n)) = Log n
 answerOf (answer.Ordered Flush) = Log 0
-answerOf answer.Nothing = Log 0
 answerOf (answer.Refused r) = Refused (numberOf r)
 
 pub record Reopening : Type 0 where

@@ -1,4 +1,5 @@
-// The log reader: opens a log of 65,536 bytes, with a store and tables of its own, and gives the new log or the number of the refusal.
+// The log reader: opens a log of 65,536 bytes, with a store and tables of its own, and gives the new log or the number
+// of the refusal.
 // `reopen` is that on a slice (specs/Reopened); `reopen_fd` reads the file from a descriptor and prints the outcome.
 ghost use mathlib.Core.Path.{_≡_};
 ghost use lib.ListN.{length};
@@ -23,7 +24,6 @@ fn answered(a: Answer) -> Reopened
             Order::Replace(n) => Reopened::Log(n),
             Order::Flush => Reopened::Log(0),
         },
-        Answer::Nothing => Reopened::Log(0),
         Answer::Refused(r) => Reopened::Refused(log::number(r)),
     }
 }
@@ -67,8 +67,8 @@ fn reopen_in(space: &mut [u8], fd: i32) -> Reopened
     r
 }
 
-// Reads a file of at most 65,536 bytes, prints the new log, or `refused=N`, and says which; a longer one is refused, since the log cannot hold it. C's `read` promises no
-// bytes, so all that can be said is that some bytes were reopened.
+// Reads a file of at most 65,536 bytes, prints the new log, or `refused=N`, and says which; a longer one is refused,
+// since the log cannot hold it. C's `read` promises no bytes, so all that can be said is that some were reopened.
 pub fn reopen_fd(fd: i32) -> Reopened
     ensures { λ r. ⌜ OfSomeFile r ⌝ }
 {

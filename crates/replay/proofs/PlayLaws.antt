@@ -1,4 +1,5 @@
--- Calls run one after the other: what is still to come, from here on, gives the whole. And what is written never falls back. Assumes nothing.
+-- Calls run one after the other: what is still to come, from here on, gives the whole. And what is written never falls
+-- back. Assumes nothing.
 use mathlib.Core.Path.{_≡_, refl, ap, sym, _∙_}
 use mathlib.Core.Bool.{Bool, true, false}
 use mathlib.Core.List.{List, [], _∷_}
@@ -21,9 +22,10 @@ use Rattle.wire.specs.declared.script.CallAt.{CallAt}
 use Rattle.wire.specs.declared.script.CallRead.the-variants as call
 use Rattle.door.specs.Open.{PoolOpened, openOf}
 use Rattle.rail.specs.Rail.{State, Did, callOf, openState, accepted}
-use Rattle.replay.specs.Said.{saidOf}
-use Rattle.replay.specs.Entry.{entryNumbers, nameIn, bodyIn, pourTexts, pourMessage, pourLog, pourTables, pourStore, pourEntry}
-use Rattle.replay.specs.Replay.{heard, Calls, ended, malformed, next, endOf, callsAt, Played, played, stopped, coded, play, blank, placed, didOpen, playOpened, playFrom, playHeaded, playScript, Replayed, replayed, counted, replayOf}
+use Rattle.replay.specs.Entry.{pourMessage, pourLog, pourTables, pourStore, pourEntry}
+use Rattle.replay.specs.Replay.{heard, Calls, ended, malformed, next, endOf, callsAt, Played, played, stopped}
+use Rattle.replay.specs.Replay.{coded, play, blank, placed, didOpen, playOpened, playFrom, playHeaded}
+use Rattle.replay.specs.Replay.{playScript, Replayed, replayed, counted, replayOf}
 
 -- ---- the calls from p on
 
@@ -32,11 +34,13 @@ unfolding callsAt
 calls-none zero s p h = refl
 calls-none (suc k) s p h = cc (le-ltb p (length s) h)
 
-pub calls-torn : (k : ℕ) (s : List ℕ) (p : ℕ) → p < length s → call.Malformed ≡ callAt s p → callsAt (suc k) s p ≡ malformed
+pub calls-torn : (k : ℕ) (s : List ℕ) (p : ℕ) → p < length s → call.Malformed ≡ callAt s p → callsAt (suc k) s p
+    ≡ malformed
 unfolding callsAt
 calls-torn k s p h e = cc (lt-ltb p (length s) h)
 
-pub calls-next : (k : ℕ) (s : List ℕ) (p : ℕ) (c : CallAt) → p < length s → call.Next c ≡ callAt s p → callsAt (suc k) s p ≡ next (heard s c) (callsAt k s (c .end))
+pub calls-next : (k : ℕ) (s : List ℕ) (p : ℕ) (c : CallAt) → p < length s → call.Next c ≡ callAt s p
+    → callsAt (suc k) s p ≡ next (heard s c) (callsAt k s (c .end))
 unfolding callsAt
 calls-next k s p c h e = simp (lt-ltb p (length s) h, sym e)
 
@@ -59,7 +63,8 @@ module _ (show : ℕ) (s : State) (d : Poured) where
     unfolding play coded
     play-torn = rw (eq-eqb (d .code) 0 h)
 
-    pub play-next : (c : _) (cs : Calls) → play show s d (next c cs) ≡ play show (callOf s c .state) (pourEntry show d (callOf s c)) cs
+    pub play-next : (c : _) (cs : Calls) → play show s d (next c cs) ≡ play show (callOf s c .state)
+        (pourEntry show d (callOf s c)) cs
     unfolding play
     play-next c cs = rw (eq-eqb (d .code) 0 h)
 
@@ -69,36 +74,43 @@ pub record Running (whole : Played) (show : ℕ) (s : List ℕ) (st : State) (d 
   pub enough : length s ≤ p + most
   pub same : play show st d (callsAt most s p) ≡ whole
 
-pub running-begins : (show : ℕ) (s : List ℕ) (st : State) (d : Poured) (p : ℕ) → Running (play show st d (callsAt (length s) s p)) show s st d p
+pub running-begins : (show : ℕ) (s : List ℕ) (st : State) (d : Poured) (p : ℕ)
+    → Running (play show st d (callsAt (length s) s p)) show s st d p
 running-begins show s st d p = record { most = length s; enough = omega arith; same = refl }
 
-module _ {whole : Played} {show : ℕ} {s : List ℕ} {st : State} {d : Poured} {p : ℕ} (r : Running whole show s st d p) where
-  pub running-stops : (d .code ≡ 0 → ⊥) → stopped st d ≡ whole
-  running-stops h = sym (play-stopped show st d (callsAt (r .most) s p) h) ∙ r .same
+module _ {whole : Played} {show : ℕ} {s : List ℕ} {st : State} {d : Poured} {p : ℕ} (r : Running whole show s st d p)
+  where
+    pub running-stops : (d .code ≡ 0 → ⊥) → stopped st d ≡ whole
+    running-stops h = sym (play-stopped show st d (callsAt (r .most) s p) h) ∙ r .same
 
-  pub running-ends : length s ≤ p → stopped st d ≡ whole
-  running-ends h = sym (ap (play show st d) (calls-none (r .most) s p h) ∙ play-ended show st d) ∙ r .same
+    pub running-ends : length s ≤ p → stopped st d ≡ whole
+    running-ends h = sym (ap (play show st d) (calls-none (r .most) s p h) ∙ play-ended show st d) ∙ r .same
 
-  module _ (code : d .code ≡ 0) (h : p < length s) where
-    more : r .most ≡ suc (r .most - 1)
-    more = omega (arith, r .enough)
+    module _ (code : d .code ≡ 0) (h : p < length s) where
+      more : r .most ≡ suc (r .most - 1)
+      more = omega (arith, r .enough)
 
-    pub running-torn : call.Malformed ≡ callAt s p → stopped st (poured (d .out) (d .at) 1) ≡ whole
-    running-torn e =
-        let torn : callsAt (r .most) s p ≡ malformed = ap (λ k. callsAt k s p) more ∙ calls-torn (r .most - 1) s p h e in
-        sym (ap (play show st d) torn ∙ play-torn show st d code) ∙ r .same
+      pub running-torn : call.Malformed ≡ callAt s p → stopped st (poured (d .out) (d .at) 1) ≡ whole
+      running-torn e =
+          let torn : callsAt (r .most) s p ≡ malformed = ap (λ k. callsAt k s p) more ∙ calls-torn (r .most - 1) s p h e
+          in
+          sym (ap (play show st d) torn ∙ play-torn show st d code) ∙ r .same
 
-    -- the next call is run, and its entry written
-    pub running-on : (c : CallAt) → call.Next c ≡ callAt s p → p < c .end → {did : Did} → did ≡ callOf st (heard s c) → {d' : Poured} → d' ≡ pourEntry show d did → Running whole show s (did .state) d' (c .end)
-    running-on c read l {did} made {d'} wrote = record {
-      most = r .most - 1;
-      enough = omega (arith, r .enough);
-      same =
-          let calls : callsAt (r .most) s p ≡ next (heard s c) (callsAt (r .most - 1) s (c .end)) = ap (λ k. callsAt k s p) more ∙ calls-next (r .most - 1) s p c h read in
-          let goes-on : play show st d (callsAt (r .most) s p) ≡ play show (did .state) (pourEntry show d did) (callsAt (r .most - 1) s (c .end)) =
-          ap (play show st d) calls ∙ (play-next show st d code (heard s c) (callsAt (r .most - 1) s (c .end)) ∙ ap (λ x. play show (x .state) (pourEntry show d x) (callsAt (r .most - 1) s (c .end))) (sym made)) in
-          ap (λ x. play show (did .state) x (callsAt (r .most - 1) s (c .end))) wrote ∙ (sym goes-on ∙ r .same);
-    }
+      -- the next call is run, and its entry written
+      pub running-on : (c : CallAt) → call.Next c ≡ callAt s p → p < c .end → {did : Did} → did ≡ callOf st (heard s c)
+          → {d' : Poured} → d' ≡ pourEntry show d did → Running whole show s (did .state) d' (c .end)
+      running-on c read l {did} made {d'} wrote = record {
+        most = r .most - 1;
+        enough = omega (arith, r .enough);
+        same =
+            let calls : callsAt (r .most) s p ≡ next (heard s c) (callsAt (r .most - 1) s (c .end)) =
+            ap (λ k. callsAt k s p) more ∙ calls-next (r .most - 1) s p c h read in
+            let goes-on : play show st d (callsAt (r .most) s p) ≡ play show (did .state) (pourEntry show d did)
+            (callsAt (r .most - 1) s (c .end)) =
+            ap (play show st d) calls ∙ (play-next show st d code (heard s c) (callsAt (r .most - 1) s (c .end))
+            ∙ ap (λ x. play show (x .state) (pourEntry show d x) (callsAt (r .most - 1) s (c .end))) (sym made)) in
+            ap (λ x. play show (did .state) x (callsAt (r .most - 1) s (c .end))) wrote ∙ (sym goes-on ∙ r .same);
+      }
 
 -- ---- what is written never falls back
 
@@ -126,7 +138,8 @@ module _ (a : ℕ) where
   keys-from d [] h = h
   keys-from d (row ∷ rows) h = keys-from (pour d row) rows (pour-from d row h)
 
-  pub message-from : (d : Poured) (m : Found) (rows : Table) (store : List ℕ) → From d → From (pourMessage d m rows store)
+  pub message-from : (d : Poured) (m : Found) (rows : Table) (store : List ℕ) → From d
+      → From (pourMessage d m rows store)
   unfolding pourMessage
   message-from d Nothing rows store h = pour-from d _ h
   message-from d (Entry e) rows store h = pour-from _ _ (pour-from _ _ (pour-from d _ h))
@@ -135,11 +148,13 @@ module _ (a : ℕ) where
   unfolding pourLog
   log-from show d bytes size h = pick-rule From (ltb show 1) h (pour-from d _ h)
 
-  pub tables-from : (show : ℕ) (d : Poured) (records groups links rows keys actors : Table) → From d → From (pourTables show d records groups links rows keys actors)
+  pub tables-from : (show : ℕ) (d : Poured) (records groups links rows keys actors : Table) → From d
+      → From (pourTables show d records groups links rows keys actors)
   unfolding pourTables
   tables-from show d records groups links rows keys actors h =
       pick-rule From (ltb show 2) h
-      (rows-from _ actors (keys-from _ keys (rows-from _ rows (rows-from _ links (rows-from _ groups (rows-from d records h))))))
+      (rows-from _ actors
+      (keys-from _ keys (rows-from _ rows (rows-from _ links (rows-from _ groups (rows-from d records h))))))
 
   pub store-from : (show : ℕ) (d : Poured) (store : List ℕ) → From d → From (pourStore show d store)
   unfolding pourStore
@@ -148,7 +163,8 @@ module _ (a : ℕ) where
   pub entry-from : (show : ℕ) (d : Poured) (did : Did) → From d → From (pourEntry show d did)
   unfolding pourEntry
   entry-from show d did h =
-      store-from show _ _ (tables-from show _ _ _ _ _ _ _ (log-from show _ _ _ (message-from _ _ _ _ (pour-from d _ h))))
+      store-from show _ _ (tables-from show _ _ _ _ _ _ _
+      (log-from show _ _ _ (message-from _ _ _ _ (pour-from d _ h))))
 
   pub coded-from : (d : Poured) (n : ℕ) → From d → From (coded d n)
   unfolding coded
@@ -162,18 +178,23 @@ module _ (a : ℕ) where
   play-from show s d ended h = h
   play-from show s d malformed h = coded-from d 1 h
   play-from show s d (next c cs) h =
-      pick-rule PlayedFrom (eqb (d .code) 0) (play-from show (callOf s c .state) (pourEntry show d (callOf s c)) cs (entry-from show d (callOf s c) h)) h
+      pick-rule PlayedFrom (eqb (d .code) 0) (play-from show (callOf s c .state) (pourEntry show d (callOf s c)) cs
+      (entry-from show d (callOf s c) h)) h
 
-  pub opened-from : (show : ℕ) (s : List ℕ) (start : ℕ) (did : Did) (d : Poured) → From d → PlayedFrom (playOpened show s start did d)
+  pub opened-from : (show : ℕ) (s : List ℕ) (start : ℕ) (did : Did) (d : Poured) → From d
+      → PlayedFrom (playOpened show s start did d)
   unfolding playOpened
   opened-from show s start did d h =
-      pick-rule PlayedFrom (accepted (did .answer)) (play-from show (did .state) (pourEntry show d did) (callsAt (length s) s start) (entry-from show d did h)) (entry-from show d did h)
+      pick-rule PlayedFrom (accepted (did .answer)) (play-from show (did .state) (pourEntry show d did)
+      (callsAt (length s) s start) (entry-from show d did h)) (entry-from show d did h)
 
-  headed-from : (s : List ℕ) (h : HeaderRead) (bytes store : List ℕ) (d : Poured) → From d → PlayedFrom (playHeaded s h bytes store d)
+  headed-from : (s : List ℕ) (h : HeaderRead) (bytes store : List ℕ) (d : Poured) → From d
+      → PlayedFrom (playHeaded s h bytes store d)
   headed-from s header.Malformed bytes store d l = coded-from d 1 l
   headed-from s (header.Fields h) bytes store d l =
       pick-rule PlayedFrom (eqb (length bytes) (h .long))
-      (pick-rule PlayedFrom (eqb (length store) (h .stored)) (opened-from (h .show) s (h .file + h .n) _ d l) (coded-from d 3 l))
+      (pick-rule PlayedFrom (eqb (length store) (h .stored)) (opened-from (h .show) s (h .file + h .n) _ d l)
+      (coded-from d 3 l))
       (coded-from d 3 l)
 
   pub script-from : (s bytes store : List ℕ) (d : Poured) → From d → PlayedFrom (playScript s bytes store d)
@@ -182,7 +203,8 @@ module _ (a : ℕ) where
 
 -- ---- the opening
 
-module _ (show : ℕ) (s : List ℕ) (start : ℕ) (d : Poured) {o x : PoolOpened} (opens : o ≡ x) {actors : Table} (lent : actors ≡ blank 128 12) {e : Poured}
+module _ (show : ℕ) (s : List ℕ) (start : ℕ) (d : Poured) {o x : PoolOpened} (opens : o ≡ x) {actors : Table}
+    (lent : actors ≡ blank 128 12) {e : Poured}
     (wrote : e ≡ pourEntry show d (record { state = openState o actors; answer = o .told .answer })) where
   abbrev did : Did
   did = record { state = openState o actors; answer = o .told .answer }
@@ -190,17 +212,21 @@ module _ (show : ℕ) (s : List ℕ) (start : ℕ) (d : Poured) {o x : PoolOpene
   did-is : did ≡ didOpen x
   did-is = ap (λ t. record { state = openState o t; answer = o .told .answer }) lent ∙ ap didOpen opens
 
-  pub opened-refused : accepted (o .told .answer) ≡ false → stopped (openState o actors) e ≡ playOpened show s start (didOpen x) d
+  pub opened-refused : accepted (o .told .answer) ≡ false → stopped (openState o actors) e
+      ≡ playOpened show s start (didOpen x) d
   unfolding playOpened
   opened-refused h =
       let no : playOpened show s start did d ≡ stopped (openState o actors) (pourEntry show d did) = rw h in
       ap (stopped (openState o actors)) wrote ∙ (sym no ∙ ap (λ y. playOpened show s start y d) did-is)
 
-  pub opened-on : accepted (o .told .answer) ≡ true → {p : Played} → p ≡ play show (openState o actors) e (callsAt (length s) s start) → p ≡ playOpened show s start (didOpen x) d
+  pub opened-on : accepted (o .told .answer) ≡ true → {p : Played} → p ≡ play show (openState o actors) e
+      (callsAt (length s) s start) → p ≡ playOpened show s start (didOpen x) d
   unfolding playOpened
   opened-on h q =
-      let yes : playOpened show s start did d ≡ play show (openState o actors) (pourEntry show d did) (callsAt (length s) s start) = rw h in
-      q ∙ (ap (λ y. play show (openState o actors) y (callsAt (length s) s start)) wrote ∙ (sym yes ∙ ap (λ y. playOpened show s start y d) did-is))
+      let yes : playOpened show s start did d ≡ play show (openState o actors) (pourEntry show d did)
+      (callsAt (length s) s start) = rw h in
+      q ∙ (ap (λ y. play show (openState o actors) y (callsAt (length s) s start)) wrote
+      ∙ (sym yes ∙ ap (λ y. playOpened show s start y d) did-is))
 
 -- ---- a script by its header
 
@@ -230,11 +256,15 @@ module _ (s bytes store out : List ℕ) where
       script-runs l = cc (eq-eqb (length bytes) (h .long) long, eq-eqb (length store) (h .stored) l) ∙ headed
 
       -- what is lent beside log and store is blank; the groups are read, and the file is in its place
-      pub script-opened : length store ≡ h .stored → {given given′ records groups links rows keys actors : Table} {log : List ℕ}
-          → given ≡ blank 16 37 → records ≡ blank 256 3 → groups ≡ blank 8 37 → links ≡ blank 262 4 → rows ≡ blank 256 7 → keys ≡ blank 34 65 → actors ≡ blank 128 12
+      pub script-opened : length store ≡ h .stored → {given given′ records groups links rows keys actors : Table}
+          {log : List ℕ}
+          → given ≡ blank 16 37 → records ≡ blank 256 3 → groups ≡ blank 8 37 → links ≡ blank 262 4 → rows
+          ≡ blank 256 7 → keys ≡ blank 34 65 → actors ≡ blank 128 12
           → given′ ≡ groupsInto (h .groups) s 88 given → log ≡ placed s (h .file) (h .n) bytes → {p : Played}
-          → p ≡ playOpened (h .show) s (h .file + h .n) (didOpen (openOf (h .settings) (take (h .groups) given′) log (h .n) store records groups links rows keys actors)) (poured out 8 0) → p ≡ whole
-      script-opened l a b c d e f g grouped filed q = q ∙ (rw (grouped, filed, a, b, c, d, e, f, g) refl ∙ script-runs l)
+          → p ≡ playOpened (h .show) s (h .file + h .n) (didOpen (openOf (h .settings) (take (h .groups) given′) log
+          (h .n) store records groups links rows keys actors)) (poured out 8 0) → p ≡ whole
+      script-opened l a b c d e f g grouped filed q = q ∙ (rw (grouped, filed, a, b, c, d, e, f, g) refl
+          ∙ script-runs l)
 
 -- so many groups fit
 pub given-room : (k n : ℕ) {given : Table} → given ≡ blank 16 37 → n ≡ length given → k ≤ 16 → k ≤ n
@@ -252,8 +282,10 @@ module _ (s bytes store out : List ℕ) where
     pub count-room : 8 ≤ p .poured .at
     count-room = omega (arith, script-from 8 s bytes store (poured out 8 0) (omega arith), ap (λ q. q .poured .at) e)
 
-    pub replay-whole : 8 ≤ length out → {d : Poured} → d ≡ pour (poured (p .poured .out) 0 0) (numbers ((p .poured .at - 8) ∷ []))
+    pub replay-whole : 8 ≤ length out → {d : Poured} → d ≡ pour (poured (p .poured .out) 0 0)
+        (numbers ((p .poured .at - 8) ∷ []))
         → replayed (p .bytes) (p .store) (d .out) (p .poured .code) ≡ replayOf s bytes store out
     unfolding replayOf
     replay-whole h w =
-        ap (λ x. replayed (p .bytes) (p .store) (x .out) (p .poured .code)) w ∙ (ap counted e ∙ cc (le-ltb (length out) 8 h))
+        ap (λ x. replayed (p .bytes) (p .store) (x .out) (p .poured .code)) w
+        ∙ (ap counted e ∙ cc (le-ltb (length out) 8 h))

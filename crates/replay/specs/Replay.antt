@@ -1,5 +1,6 @@
--- What `replay` makes of a script, the lent log and store, and the output: the script's calls decoded, the pool's own definitions run over them one after the other,
--- each with what the one before left (`callOf`, crates/rail/specs/Rail), and an entry written for each.
+-- What `replay` makes of a script, the lent log and store, and the output: the script's calls decoded, the pool's own
+-- definitions run over them one after the other, each with what the one before left (`callOf`,
+-- crates/rail/specs/Rail), and an entry written for each.
 use mathlib.Core.Bool.{Bool, true, false}
 use mathlib.Core.List.{List, [], _∷_}
 use Prim.Native.Nat.{ℕ, zero, suc, _+_, _-_}
@@ -76,7 +77,8 @@ coded d n = pick (eqb (d .code) 0) (poured (d .out) (d .at) n) d
 unfoldable pub play : ℕ → State → Poured → Calls → Played
 play show s d ended = stopped s d
 play show s d malformed = stopped s (coded d 1)
-play show s d (next c cs) = pick (eqb (d .code) 0) (play show (callOf s c .state) (pourEntry show d (callOf s c)) cs) (stopped s d)
+play show s d (next c cs) =
+    pick (eqb (d .code) 0) (play show (callOf s c .state) (pourEntry show d (callOf s c)) cs) (stopped s d)
 
 -- ---- a script
 
@@ -98,20 +100,25 @@ didOpen o = record { state = openState o (blank 128 12); answer = o .told .answe
 -- the opening's entry; then, if it was accepted, the calls
 unfoldable pub playOpened : ℕ → List ℕ → ℕ → Did → Poured → Played
 playOpened show s start did d =
-    pick (accepted (did .answer)) (play show (did .state) (pourEntry show d did) (callsAt (length s) s start)) (stopped (did .state) (pourEntry show d did))
+    pick (accepted (did .answer))
+    (play show (did .state) (pourEntry show d did) (callsAt (length s) s start))
+    (stopped (did .state) (pourEntry show d did))
 
 abbrev pub playFrom : List ℕ → Header → List ℕ → List ℕ → Poured → Played
 playFrom s h bytes store d =
     playOpened (h .show) s (h .file + h .n)
     (didOpen
-    (openOf (h .settings) (givenIn s (h .groups)) (placed s (h .file) (h .n) bytes) (h .n) store (blank 256 3) (blank 8 37) (blank 262 4) (blank 256 7) (blank 34 65) (blank 128 12)))
+    (openOf (h .settings) (givenIn s (h .groups)) (placed s (h .file) (h .n) bytes) (h .n) store (blank 256 3)
+    (blank 8 37) (blank 262 4) (blank 256 7) (blank 34 65) (blank 128 12)))
     d
 
 -- 1: the header is malformed; 3: the lent log or store has another length than the script says
 abbrev pub playHeaded : List ℕ → HeaderRead → List ℕ → List ℕ → Poured → Played
 playHeaded s header.Malformed bytes store d = played bytes store (coded d 1)
 playHeaded s (header.Fields h) bytes store d =
-    pick (eqb (length bytes) (h .long)) (pick (eqb (length store) (h .stored)) (playFrom s h bytes store d) (played bytes store (coded d 3))) (played bytes store (coded d 3))
+    pick (eqb (length bytes) (h .long))
+    (pick (eqb (length store) (h .stored)) (playFrom s h bytes store d) (played bytes store (coded d 3)))
+    (played bytes store (coded d 3))
 
 unfoldable pub playScript : List ℕ → List ℕ → List ℕ → Poured → Played
 playScript s bytes store d = playHeaded s (headerOf s) bytes store d
@@ -130,8 +137,12 @@ replayed bytes store out code = record { bytes = bytes; store = store; out = out
 
 -- the first 8 bytes count those behind them
 abbrev pub counted : Played → Replayed
-counted p = replayed (p .bytes) (p .store) (pour (poured (p .poured .out) 0 0) (numbers ((p .poured .at - 8) ∷ [])) .out) (p .poured .code)
+counted p =
+    replayed (p .bytes) (p .store)
+    (pour (poured (p .poured .out) 0 0) (numbers ((p .poured .at - 8) ∷ [])) .out)
+    (p .poured .code)
 
 -- 2, and nothing is touched, where not even the count has room
 unfoldable pub replayOf : List ℕ → List ℕ → List ℕ → List ℕ → Replayed
-replayOf s bytes store out = pick (ltb (length out) 8) (replayed bytes store out 2) (counted (playScript s bytes store (poured out 8 0)))
+replayOf s bytes store out =
+    pick (ltb (length out) 8) (replayed bytes store out 2) (counted (playScript s bytes store (poured out 8 0)))

@@ -1,44 +1,33 @@
-// An entry of the output: the answer and the counters; the message that the answer shows; and, as far as they are asked for, the log, the tables and the store.
+// An entry of the output: the answer and the counters; the message that the answer shows; and, as far as they are
+// asked for, the log, the tables and the store.
 ghost use mathlib.Core.Path.{_≡_};
-ghost use lib.ListN.{take, drop};
-ghost use Rattle.replay.specs.Entry.{entryNumbers, baseOf, pourTexts, pourMessage, pourLog, pourTables, pourStore, pourEntry};
+ghost use Rattle.replay.specs.Entry.{
+  entryNumbers,
+  pourTexts,
+  pourMessage,
+  pourLog,
+  pourTables,
+  pourStore,
+  pourEntry,
+};
 ghost use Rattle.wire.specs.Pour.{pour};
 ghost use Rattle.wire.specs.Number.{numbers};
-use crate::said;
-use crate::said::Said;
-use actor::message;
+use front::numbers;
+use front::numbers::AnswerNumbers;
 use front::state::Answer;
 use front::state::Pool;
 use lists::Found;
+use setup::part;
+use setup::part::Span;
 use wire::pour;
 use wire::pour::Done;
 
-// Where the store's entry begins.
-fn base_of(e: usize) -> usize
-    ensures { λ r. ⌜ r ≡ baseOf e ⌝ }
-{
-    if e < 256 {
-        return 160 * e;
-    }
-    40960
-}
-
-// The n bytes from a on, or as many as there are.
-fn range(s: &[u8], a: usize, n: usize) -> &[u8]
-    ensures { λ r. ⌜ now r ≡ take n (drop a (now (s .entry))) ⌝ }
-{
-    if s.len() <= a {
-        return &s[..0];
-    }
-    if n < s.len() - a {
-        let end = a + n;
-        return &s[a..end];
-    }
-    &s[a..]
-}
-
+// Two texts, with a 1 and their lengths before them.
 fn pour_texts(out: &mut [u8], d: Done, name: &[u8], body: &[u8]) -> Done
-    ensures { λ r. ⌜ record { out = now (out .exit); at = r .at; code = r .code } ≡ pourTexts (record { out = now (out .entry); at = d .at; code = d .code }) (now (name .entry)) (now (body .entry)) ⌝ }
+    ensures { λ r.
+        ⌜ record { out = now (out .exit); at = r .at; code = r .code }
+        ≡ pourTexts (record { out = now (out .entry); at = d .at; code = d .code })
+        (now (name .entry)) (now (body .entry)) ⌝ }
 {
     let lengths = [1, name.len() as u64, body.len() as u64];
     let a = pour::pour_numbers(out, d, &lengths);
@@ -46,35 +35,46 @@ fn pour_texts(out: &mut [u8], d: Done, name: &[u8], body: &[u8]) -> Done
     pour::pour_bytes(out, b, body)
 }
 
-// The message that an answer shows.
+// The message that an answer shows, from its part of the body store.
 fn pour_message(out: &mut [u8], d: Done, m: Found, rows: &[[u64; 7]], store: &[u8]) -> Done
-    ensures { λ r. ⌜ record { out = now (out .exit); at = r .at; code = r .code } ≡ pourMessage (record { out = now (out .entry); at = d .at; code = d .code }) m (now (rows .entry)) (now (store .entry)) ⌝ }
+    ensures { λ r.
+        ⌜ record { out = now (out .exit); at = r .at; code = r .code }
+        ≡ pourMessage (record { out = now (out .entry); at = d .at; code = d .code }) m
+        (now (rows .entry)) (now (store .entry)) ⌝ }
 {
     match m {
         Found::Nothing => {
             let none = [0];
             pour::pour_numbers(out, d, &none)
         }
-        Found::Entry(e) => {
-            let row = message::message_at(rows, e);
-            let base = base_of(e);
-            let name = range(store, base, row.name as usize);
-            let body = range(store, base + 32, row.body as usize);
-            pour_texts(out, d, name, body)
+        Found::Entry(_) => {
+            let shown = part::message_part(rows, m);
+            let name = shown.name;
+            let body = shown.body;
+            pour_texts(
+                out,
+                d,
+                part::bytes_in(store, name),
+                part::bytes_in(store, body),
+            )
         }
     }
 }
 
 // The file.
 fn pour_log(out: &mut [u8], d: Done, show: u64, log: &[u8], size: usize) -> Done
-    ensures { λ r. ⌜ record { out = now (out .exit); at = r .at; code = r .code } ≡ pourLog show (record { out = now (out .entry); at = d .at; code = d .code }) (now (log .entry)) size ⌝ }
+    ensures { λ r.
+        ⌜ record { out = now (out .exit); at = r .at; code = r .code }
+        ≡ pourLog show (record { out = now (out .entry); at = d .at; code = d .code }) (now (log .entry)) size ⌝ }
 {
     if show < 1 {
         return d;
     }
-    pour::pour_bytes(out, d, range(log, 0, size))
+    let file = part::bytes_in(log, Span { from: 0, to: size });
+    pour::pour_bytes(out, d, file)
 }
 
+// The tables.
 fn pour_tables(
     out: &mut [u8],
     d: Done,
@@ -86,7 +86,11 @@ fn pour_tables(
     lists: &[[u8; 65]],
     actors: &[[u64; 12]],
 ) -> Done
-    ensures { λ r. ⌜ record { out = now (out .exit); at = r .at; code = r .code } ≡ pourTables show (record { out = now (out .entry); at = d .at; code = d .code }) (now (records .entry)) (now (groups .entry)) (now (links .entry)) (now (rows .entry)) (now (lists .entry)) (now (actors .entry)) ⌝ }
+    ensures { λ r.
+        ⌜ record { out = now (out .exit); at = r .at; code = r .code }
+        ≡ pourTables show (record { out = now (out .entry); at = d .at; code = d .code })
+        (now (records .entry)) (now (groups .entry)) (now (links .entry)) (now (rows .entry)) (now (lists .entry))
+        (now (actors .entry)) ⌝ }
 {
     if show < 2 {
         return d;
@@ -99,8 +103,11 @@ fn pour_tables(
     pour::pour_actors(out, f, actors)
 }
 
+// The body store.
 fn pour_store(out: &mut [u8], d: Done, show: u64, store: &[u8]) -> Done
-    ensures { λ r. ⌜ record { out = now (out .exit); at = r .at; code = r .code } ≡ pourStore show (record { out = now (out .entry); at = d .at; code = d .code }) (now (store .entry)) ⌝ }
+    ensures { λ r.
+        ⌜ record { out = now (out .exit); at = r .at; code = r .code }
+        ≡ pourStore show (record { out = now (out .entry); at = d .at; code = d .code }) (now (store .entry)) ⌝ }
 {
     if show < 3 {
         return d;
@@ -109,14 +116,17 @@ fn pour_store(out: &mut [u8], d: Done, show: u64, store: &[u8]) -> Done
 }
 
 // The answer and the counters.
-fn pour_head(out: &mut [u8], d: Done, s: Said, pool: Pool) -> Done
-    ensures { λ r. ⌜ record { out = now (out .exit); at = r .at; code = r .code } ≡ pour (record { out = now (out .entry); at = d .at; code = d .code }) (numbers (entryNumbers s pool)) ⌝ }
+fn pour_head(out: &mut [u8], d: Done, s: AnswerNumbers, pool: Pool) -> Done
+    ensures { λ r.
+        ⌜ record { out = now (out .exit); at = r .at; code = r .code }
+        ≡ pour (record { out = now (out .entry); at = d .at; code = d .code })
+        (numbers (entryNumbers s pool)) ⌝ }
 {
     let turn = pool.turn;
     let counters = turn.log;
     let counts = turn.counts;
     let losses = counts.losses;
-    let numbers = [
+    let head = [
         s.kind,
         s.a,
         s.b,
@@ -124,15 +134,16 @@ fn pour_head(out: &mut [u8], d: Done, s: Said, pool: Pool) -> Done
         counters.next,
         counters.live as u64,
         counters.size as u64,
-        said::flag(counters.dirty),
+        numbers::flag(counters.dirty),
         counters.count as u64,
         counts.queued,
         losses.dead,
         losses.crashes,
     ];
-    pour::pour_numbers(out, d, &numbers)
+    pour::pour_numbers(out, d, &head)
 }
 
+// An entry.
 pub(crate) fn pour_entry(
     out: &mut [u8],
     d: Done,
@@ -148,9 +159,25 @@ pub(crate) fn pour_entry(
     lists: &[[u8; 65]],
     actors: &[[u64; 12]],
 ) -> Done
-    ensures { λ r. ⌜ record { out = now (out .exit); at = r .at; code = r .code } ≡ pourEntry show (record { out = now (out .entry); at = d .at; code = d .code }) (record { state = record { pool = pool; bytes = now (log .entry); records = now (records .entry); store = now (store .entry); groups = now (groups .entry); links = now (links .entry); rows = now (rows .entry); keys = now (lists .entry); actors = now (actors .entry) }; answer = answer }) ⌝ }
+    ensures { λ r.
+        ⌜ record { out = now (out .exit); at = r .at; code = r .code }
+        ≡ pourEntry show (record { out = now (out .entry); at = d .at; code = d .code })
+        (record {
+          state = record {
+            pool = pool;
+            bytes = now (log .entry);
+            records = now (records .entry);
+            store = now (store .entry);
+            groups = now (groups .entry);
+            links = now (links .entry);
+            rows = now (rows .entry);
+            keys = now (lists .entry);
+            actors = now (actors .entry);
+          };
+          answer = answer;
+        }) ⌝ }
 {
-    let s = said::said_of(answer);
+    let s = numbers::numbers_of(answer);
     let message = s.message;
     let turn = pool.turn;
     let size = turn.log.size;

@@ -37,7 +37,34 @@ fn step(
     actors: &mut [[u64; 12]],
 ) -> Told
     requires { ⌜ (call .name ≤ call .body) × (call .body ≤ call .end) × (call .end ≤ length (now script)) ⌝ }
-    ensures { λ r. ⌜ record { state = record { pool = r .pool; bytes = now (log .exit); records = now (records .exit); store = now (store .exit); groups = now (groups .entry); links = now (links .exit); rows = now (rows .exit); keys = now (lists .exit); actors = now (actors .exit) }; answer = r .answer } ≡ callOf (record { pool = pool; bytes = now (log .entry); records = now (records .entry); store = now (store .entry); groups = now (groups .entry); links = now (links .entry); rows = now (rows .entry); keys = now (lists .entry); actors = now (actors .entry) }) (heard (now (script .entry)) call) ⌝ }
+    ensures { λ r.
+        ⌜ record {
+          state = record {
+            pool = r .pool;
+            bytes = now (log .exit);
+            records = now (records .exit);
+            store = now (store .exit);
+            groups = now (groups .entry);
+            links = now (links .exit);
+            rows = now (rows .exit);
+            keys = now (lists .exit);
+            actors = now (actors .exit);
+          };
+          answer = r .answer;
+        }
+        ≡ callOf
+        (record {
+          pool = pool;
+          bytes = now (log .entry);
+          records = now (records .entry);
+          store = now (store .entry);
+          groups = now (groups .entry);
+          links = now (links .entry);
+          rows = now (rows .entry);
+          keys = now (lists .entry);
+          actors = now (actors .entry);
+        })
+        (heard (now (script .entry)) call) ⌝ }
 {
     let kind = call.kind;
     let from = call.name;
@@ -102,7 +129,26 @@ fn run_calls(
     out: &mut [u8],
     d: Done,
 ) -> Done
-    ensures { λ r. ⌜ record { bytes = now (log .exit); store = now (store .exit); poured = record { out = now (out .exit); at = r .at; code = r .code } } ≡ play show (record { pool = first; bytes = now (log .entry); records = now (records .entry); store = now (store .entry); groups = now (groups .entry); links = now (links .entry); rows = now (rows .entry); keys = now (lists .entry); actors = now (actors .entry) }) (record { out = now (out .entry); at = d .at; code = d .code }) (callsAt (length (now (script .entry))) (now (script .entry)) start) ⌝ }
+    ensures { λ r.
+        ⌜ record {
+          bytes = now (log .exit);
+          store = now (store .exit);
+          poured = record { out = now (out .exit); at = r .at; code = r .code };
+        }
+        ≡ play show
+        (record {
+          pool = first;
+          bytes = now (log .entry);
+          records = now (records .entry);
+          store = now (store .entry);
+          groups = now (groups .entry);
+          links = now (links .entry);
+          rows = now (rows .entry);
+          keys = now (lists .entry);
+          actors = now (actors .entry);
+        })
+        (record { out = now (out .entry); at = d .at; code = d .code })
+        (callsAt (length (now (script .entry))) (now (script .entry)) start) ⌝ }
 {
     let mut pool = first;
     let mut p = start;
@@ -157,6 +203,7 @@ fn run_calls(
     e
 }
 
+// Whether an opening was accepted.
 fn is_accepted(a: Answer) -> bool
     ensures { λ r. ⌜ r ≡ accepted a ⌝ }
 {
@@ -187,7 +234,17 @@ fn run_opened(
     d: Done,
 ) -> Done
     requires { ⌜ now actors ≡ blank 128 12 ⌝ }
-    ensures { λ r. ⌜ record { bytes = now (log .exit); store = now (store .exit); poured = record { out = now (out .exit); at = r .at; code = r .code } } ≡ playOpened show (now (script .entry)) start (didOpen (openOf settings (now (given .entry)) (now (log .entry)) n (now (store .entry)) (now (records .entry)) (now (groups .entry)) (now (links .entry)) (now (rows .entry)) (now (lists .entry)) (now (actors .entry)))) (record { out = now (out .entry); at = d .at; code = d .code }) ⌝ }
+    ensures { λ r.
+        ⌜ record {
+          bytes = now (log .exit);
+          store = now (store .exit);
+          poured = record { out = now (out .exit); at = r .at; code = r .code };
+        }
+        ≡ playOpened show (now (script .entry)) start
+        (didOpen
+        (openOf settings (now (given .entry)) (now (log .entry)) n (now (store .entry)) (now (records .entry))
+        (now (groups .entry)) (now (links .entry)) (now (rows .entry)) (now (lists .entry)) (now (actors .entry))))
+        (record { out = now (out .entry); at = d .at; code = d .code }) ⌝ }
 {
     let told = open::open(
         settings,
@@ -264,8 +321,17 @@ pub(crate) fn play(
     lists: &mut [[u8; 65]],
     actors: &mut [[u64; 12]],
 ) -> Done
-    requires { ⌜ (now given ≡ blank 16 37) × (now records ≡ blank 256 3) × (now groups ≡ blank 8 37) × (now links ≡ blank 262 4) × (now rows ≡ blank 256 7) × (now lists ≡ blank 34 65) × (now actors ≡ blank 128 12) ⌝ }
-    ensures { λ r. ⌜ record { bytes = now (log .exit); store = now (store .exit); poured = record { out = now (out .exit); at = r .at; code = r .code } } ≡ playScript (now (script .entry)) (now (log .entry)) (now (store .entry)) (record { out = now (out .entry); at = 8; code = 0 }) ⌝ }
+    requires { ⌜ (now given ≡ blank 16 37) × (now records ≡ blank 256 3) × (now groups ≡ blank 8 37)
+        × (now links ≡ blank 262 4)
+        × (now rows ≡ blank 256 7) × (now lists ≡ blank 34 65) × (now actors ≡ blank 128 12) ⌝ }
+    ensures { λ r.
+        ⌜ record {
+          bytes = now (log .exit);
+          store = now (store .exit);
+          poured = record { out = now (out .exit); at = r .at; code = r .code };
+        }
+        ≡ playScript (now (script .entry)) (now (log .entry)) (now (store .entry))
+        (record { out = now (out .entry); at = 8; code = 0 }) ⌝ }
 {
     let read = script::read_header(script);
     match read {

@@ -23,7 +23,8 @@ abbrev pub batchSize : ℕ → ℕ
 batchSize n = pick (ltb n 256) n 256
 
 unfoldable pub batchOf : Table → Linked
-batchOf t = record { links = moveAll t PENDING BATCH; at = at.Route (batchSize (lenOf (moveAll t PENDING BATCH) BATCH)) }
+batchOf t =
+    record { links = moveAll t PENDING BATCH; at = at.Route (batchSize (lenOf (moveAll t PENDING BATCH) BATCH)) }
 
 -- one message more, while there is one and room for it; `left` counts what may still be taken in
 unfoldable pub intakeOf : Table → ℕ → ℕ → ℕ → Linked

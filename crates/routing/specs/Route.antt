@@ -1,5 +1,5 @@
--- The batch's messages go to actors of their groups. Pick: an idle one, else a spawn under the ceiling, else the least loaded, first of the equals.
--- A message whose group does not exist, or for which there is no actor, is over.
+-- The batch's messages go to actors of their groups. Pick: an idle one, else a spawn under the ceiling, else the
+-- least loaded, first of the equals. A message whose group does not exist, or for which there is no actor, is over.
 use mathlib.Core.Bool.{Bool, true, false}
 use mathlib.Core.List.{List}
 use Prim.Native.Nat.{ℕ, _+_, _-_}
@@ -44,7 +44,8 @@ unfoldable pub undeliverable : Table → Table → ℕ → Linked
 undeliverable t rows left = record { links = overFirst t rows BATCH; at = at.Route (left - 1) }
 
 abbrev pub lostTo : Linked → Table → Table → ℕ → Sent
-lostTo l keys actors queued = record { links = l .links; keys = keys; actors = actors; routed = routedTo (l .at) queued }
+lostTo l keys actors queued =
+    record { links = l .links; keys = keys; actors = actors; routed = routedTo (l .at) queued }
 
 -- ---- delivery
 
@@ -57,11 +58,18 @@ unfoldable pub deliverTo : Table → ℕ → ℕ → Mailed
 deliverTo t slot queued =
     record {
       links = moveFirst t BATCH (mailboxOf slot);
-      queued = capped (queued + lenOf (moveFirst t BATCH (mailboxOf slot)) (mailboxOf slot)) - lenOf t (mailboxOf slot);
+      queued =
+          capped (queued + lenOf (moveFirst t BATCH (mailboxOf slot)) (mailboxOf slot)) - lenOf t (mailboxOf slot);
     }
 
 abbrev pub deliveredBy : Mailed → Keyed → ℕ → Sent
-deliveredBy m k left = record { links = m .links; keys = k .keys; actors = k .actors; routed = routedTo (at.Route (left - 1)) (m .queued) }
+deliveredBy m k left =
+    record {
+      links = m .links;
+      keys = k .keys;
+      actors = k .actors;
+      routed = routedTo (at.Route (left - 1)) (m .queued);
+    }
 
 unfoldable pub deliver : Table → Table → Table → ℕ → ℕ → ℕ → ℕ → Sent
 deliver t keys actors g k queued left = deliveredBy (deliverTo t (slotAt g k) queued) (wakeAt keys actors g k) left
@@ -72,14 +80,19 @@ deliverKey t rows keys actors g key.Nothing queued left = lostTo (undeliverable 
 
 -- ---- pick
 
-abbrev pub spawnedSent : Table → Table → ℕ → ℕ → ℕ → Spawned → Sent
-spawnedSent t rows g queued left s = deliverKey t rows (s .keys) (s .actors) g (s .key) queued left
-
-unfoldable pub routeSpawned : Table → Table → Table → Table → ℕ → Bool → ℕ → ℕ → Sent
-routeSpawned t rows keys actors g eval queued left = spawnedSent t rows g queued left (spawnOf keys actors g eval)
-
 unfoldable pub routeLeast : Table → Table → Table → Table → ℕ → ℕ → ℕ → Sent
 routeLeast t rows keys actors g queued left = deliverKey t rows keys actors g (leastOf keys t g) queued left
+
+-- to the actor that was spawned; where none was, to the least loaded
+abbrev pub spawnedSent : Table → Table → ℕ → ℕ → ℕ → Table → Table → Key → Sent
+spawnedSent t rows g queued left keys actors (key.At k) = deliver t keys actors g k queued left
+spawnedSent t rows g queued left keys actors key.Nothing = routeLeast t rows keys actors g queued left
+
+abbrev pub spawnSent : Table → Table → ℕ → ℕ → ℕ → Spawned → Sent
+spawnSent t rows g queued left s = spawnedSent t rows g queued left (s .keys) (s .actors) (s .key)
+
+unfoldable pub routeSpawned : Table → Table → Table → Table → ℕ → Bool → ℕ → ℕ → Sent
+routeSpawned t rows keys actors g eval queued left = spawnSent t rows g queued left (spawnOf keys actors g eval)
 
 -- a spawn under the ceiling, for which a fixed group is asked Boot, else the least loaded
 unfoldable pub routeNew : Table → Table → Table → Table → Table → ℕ → ℕ → ℕ → Sent
@@ -98,7 +111,8 @@ abbrev pub routePopped : Table → Table → Table → Table → ℕ → ℕ →
 routePopped groups t rows actors g queued left p = routeIdle groups t rows actors g queued left (p .keys) (p .key)
 
 unfoldable pub routeTo : Table → Table → Table → Table → Table → ℕ → ℕ → ℕ → Sent
-routeTo groups t rows keys actors g queued left = routePopped groups t rows actors g queued left (popIdleOf keys actors g)
+routeTo groups t rows keys actors g queued left =
+    routePopped groups t rows actors g queued left (popIdleOf keys actors g)
 
 abbrev pub routeNamed : Table → Table → Table → Table → Table → ℕ → ℕ → Named → Sent
 routeNamed groups t rows keys actors queued left (named.Group g) = routeTo groups t rows keys actors g queued left
@@ -111,15 +125,18 @@ routeOne groups count store t rows keys actors entry queued left =
 -- ---- the batch's first message, or the tick where none is left
 
 abbrev pub clockNext : Table → Table → Table → ℕ → Sent
-clockNext t keys actors queued = record { links = t; keys = keys; actors = actors; routed = routedTo at.TickClock queued }
+clockNext t keys actors queued =
+    record { links = t; keys = keys; actors = actors; routed = routedTo at.TickClock queued }
 
 abbrev pub routeFirst : Table → ℕ → List ℕ → Table → Table → Table → Table → ℕ → ℕ → Found → Sent
-routeFirst groups count store t rows keys actors queued left (found.Entry e) = routeOne groups count store t rows keys actors e queued left
+routeFirst groups count store t rows keys actors queued left (found.Entry e) =
+    routeOne groups count store t rows keys actors e queued left
 routeFirst groups count store t rows keys actors queued left found.Nothing = clockNext t keys actors queued
 
 unfoldable pub routeOf : Table → ℕ → List ℕ → Table → Table → Table → Table → ℕ → ℕ → Sent
 routeOf groups count store t rows keys actors queued left =
-    pick (eqb left 0) (clockNext t keys actors queued) (routeFirst groups count store t rows keys actors queued left (firstOf t BATCH))
+    pick (eqb left 0) (clockNext t keys actors queued)
+    (routeFirst groups count store t rows keys actors queued left (firstOf t BATCH))
 
 -- Boot yes: spawn, and deliver to it; no: the least loaded
 unfoldable pub routeBooted : Table → Table → Table → Table → ℕ → ℕ → ℕ → Bool → Sent
@@ -129,7 +146,8 @@ routeBooted t rows keys actors g queued left false = routeLeast t rows keys acto
 abbrev pub routeBy : Table → Table → Table → Table → ℕ → ℕ → ℕ → YesIn → Sent
 routeBy t rows keys actors g queued left yes.Yes = routeBooted t rows keys actors g queued left true
 routeBy t rows keys actors g queued left yes.No = routeBooted t rows keys actors g queued left false
-routeBy t rows keys actors g queued left yes.Other = record { links = t; keys = keys; actors = actors; routed = routedTo (at.RouteBoot g left) queued }
+routeBy t rows keys actors g queued left yes.Other =
+    record { links = t; keys = keys; actors = actors; routed = routedTo (at.RouteBoot g left) queued }
 
 unfoldable pub routeReply : Table → Table → Table → Table → ℕ → ℕ → ℕ → Reply → Sent
 routeReply t rows keys actors g queued left r = routeBy t rows keys actors g queued left (yesIn r)

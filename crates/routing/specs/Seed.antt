@@ -1,4 +1,5 @@
--- The first turn spawns one actor for each group whose ceiling is above 0. Spawn of a fixed actor asks Boot; eval does not.
+-- The first turn spawns one actor for each group whose ceiling is above 0. Spawn of a fixed actor asks Boot; eval
+-- does not.
 use mathlib.Core.Bool.{Bool, true, false}
 use Prim.Native.Nat.{ℕ}
 use lib.Dec.{eqb, leb}

@@ -1,4 +1,5 @@
-// Inbox to pending while pending and queued are below the backlog, one message a step; then all of pending is the batch.
+// Inbox to pending while pending and queued are below the backlog, one message a step; then all of pending is the
+// batch.
 ghost use mathlib.Core.Path.{_≡_};
 ghost use Rattle.routing.specs.Intake.{batchSize, batchOf, intakeOf};
 use group::at::At;
@@ -22,7 +23,9 @@ fn batch(links: &mut [[u64; 4]]) -> At
 
 // One message more of the inbox is taken in, or the batch begins.
 pub fn intake(links: &mut [[u64; 4]], queued: u64, backlog: u64, left: u64) -> At
-    ensures { λ r. ⌜ record { links = now (links .exit); at = r } ≡ intakeOf (now (links .entry)) queued backlog left ⌝ }
+    ensures { λ r.
+        ⌜ record { links = now (links .exit); at = r }
+        ≡ intakeOf (now (links .entry)) queued backlog left ⌝ }
 {
     if left == 0 {
         return batch(links);

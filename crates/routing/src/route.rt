@@ -1,7 +1,21 @@
-// `route_pending` of the Rust: the batch's messages go to actors of their groups. An actor is picked: an idle one, else a spawn under the ceiling,
-// else the least loaded. A message that nobody can get is over.
+// `route_pending` of the Rust: the batch's messages go to actors of their groups. An actor is picked: an idle one,
+// else a spawn under the ceiling, else the least loaded. A message that nobody can get is over.
 ghost use mathlib.Core.Path.{_≡_};
-ghost use Rattle.routing.specs.Route.{wakeAt, undeliverable, deliverTo, deliver, deliverKey, routeSpawned, routeLeast, routeNew, routeTo, routeOne, routeOf, routeBooted, routeReply};
+ghost use Rattle.routing.specs.Route.{
+  wakeAt,
+  undeliverable,
+  deliverTo,
+  deliver,
+  deliverKey,
+  routeSpawned,
+  routeLeast,
+  routeNew,
+  routeTo,
+  routeOne,
+  routeOf,
+  routeBooted,
+  routeReply,
+};
 use actor::message;
 use actor::question;
 use actor::question::Reply;
@@ -15,7 +29,7 @@ use lists::Found;
 use lists::keys::Key;
 use steps::step;
 
-// Where the turn stands then, and how many messages are in mailboxes.
+// The next point, and the new queued.
 pub struct Routed {
     pub at: At,
     pub queued: u64,
@@ -23,7 +37,9 @@ pub struct Routed {
 
 // The batch's first message is over.
 fn undeliverable_first(links: &mut [[u64; 4]], rows: &[[u64; 7]], left: u64) -> At
-    ensures { λ r. ⌜ record { links = now (links .exit); at = r } ≡ undeliverable (now (links .entry)) (now (rows .entry)) left ⌝ }
+    ensures { λ r.
+        ⌜ record { links = now (links .exit); at = r }
+        ≡ undeliverable (now (links .entry)) (now (rows .entry)) left ⌝ }
 {
     step::over_first(links, rows, lists::BATCH);
     let fewer = lists::less(left, 1);
@@ -32,7 +48,9 @@ fn undeliverable_first(links: &mut [[u64; 4]], rows: &[[u64; 7]], left: u64) -> 
 
 // A message came to an actor's mailbox: it is idle no more, and queued to run.
 fn wake_at(lists: &mut [[u8; 65]], actors: &mut [[u64; 12]], g: usize, key: u8)
-    ensures { λ r. ⌜ record { keys = now (lists .exit); actors = now (actors .exit) } ≡ wakeAt (now (lists .entry)) (now (actors .entry)) g key ⌝ }
+    ensures { λ r.
+        ⌜ record { keys = now (lists .exit); actors = now (actors .exit) }
+        ≡ wakeAt (now (lists .entry)) (now (actors .entry)) g key ⌝ }
 {
     let slot = roster::slot_at(g, key);
     let a = state::actor_at(actors, slot);
@@ -63,7 +81,9 @@ fn deliver_first(
     queued: u64,
     left: u64,
 ) -> Routed
-    ensures { λ r. ⌜ record { links = now (links .exit); keys = now (lists .exit); actors = now (actors .exit); routed = r } ≡ deliver (now (links .entry)) (now (lists .entry)) (now (actors .entry)) g key queued left ⌝ }
+    ensures { λ r.
+        ⌜ record { links = now (links .exit); keys = now (lists .exit); actors = now (actors .exit); routed = r }
+        ≡ deliver (now (links .entry)) (now (lists .entry)) (now (actors .entry)) g key queued left ⌝ }
 {
     let slot = roster::slot_at(g, key);
     let more = deliver_to(links, slot, queued);
@@ -86,7 +106,10 @@ fn deliver_key(
     queued: u64,
     left: u64,
 ) -> Routed
-    ensures { λ r. ⌜ record { links = now (links .exit); keys = now (lists .exit); actors = now (actors .exit); routed = r } ≡ deliverKey (now (links .entry)) (now (rows .entry)) (now (lists .entry)) (now (actors .entry)) g key queued left ⌝ }
+    ensures { λ r.
+        ⌜ record { links = now (links .exit); keys = now (lists .exit); actors = now (actors .exit); routed = r }
+        ≡ deliverKey (now (links .entry)) (now (rows .entry)) (now (lists .entry)) (now (actors .entry)) g key
+        queued left ⌝ }
 {
     match key {
         Key::At(k) => deliver_first(links, lists, actors, g, k, queued, left),
@@ -95,23 +118,6 @@ fn deliver_key(
             Routed { at, queued }
         }
     }
-}
-
-// A spawn, and the batch's first message to it.
-fn route_spawned(
-    links: &mut [[u64; 4]],
-    rows: &[[u64; 7]],
-    lists: &mut [[u8; 65]],
-    actors: &mut [[u64; 12]],
-    g: usize,
-    eval: bool,
-    queued: u64,
-    left: u64,
-) -> Routed
-    ensures { λ r. ⌜ record { links = now (links .exit); keys = now (lists .exit); actors = now (actors .exit); routed = r } ≡ routeSpawned (now (links .entry)) (now (rows .entry)) (now (lists .entry)) (now (actors .entry)) g eval queued left ⌝ }
-{
-    let key = roster::spawn(lists, actors, g, eval);
-    deliver_key(links, rows, lists, actors, g, key, queued, left)
 }
 
 // The batch's first message to the least loaded actor.
@@ -124,10 +130,35 @@ fn route_least(
     queued: u64,
     left: u64,
 ) -> Routed
-    ensures { λ r. ⌜ record { links = now (links .exit); keys = now (lists .exit); actors = now (actors .exit); routed = r } ≡ routeLeast (now (links .entry)) (now (rows .entry)) (now (lists .entry)) (now (actors .entry)) g queued left ⌝ }
+    ensures { λ r.
+        ⌜ record { links = now (links .exit); keys = now (lists .exit); actors = now (actors .exit); routed = r }
+        ≡ routeLeast (now (links .entry)) (now (rows .entry)) (now (lists .entry)) (now (actors .entry)) g
+        queued left ⌝ }
 {
     let key = roster::least_loaded(lists, links, g);
     deliver_key(links, rows, lists, actors, g, key, queued, left)
+}
+
+// A spawn, and the batch's first message to it; where no actor could be spawned, to the least loaded.
+fn route_spawned(
+    links: &mut [[u64; 4]],
+    rows: &[[u64; 7]],
+    lists: &mut [[u8; 65]],
+    actors: &mut [[u64; 12]],
+    g: usize,
+    eval: bool,
+    queued: u64,
+    left: u64,
+) -> Routed
+    ensures { λ r.
+        ⌜ record { links = now (links .exit); keys = now (lists .exit); actors = now (actors .exit); routed = r }
+        ≡ routeSpawned (now (links .entry)) (now (rows .entry)) (now (lists .entry)) (now (actors .entry)) g
+        eval queued left ⌝ }
+{
+    match roster::spawn(lists, actors, g, eval) {
+        Key::At(k) => deliver_first(links, lists, actors, g, k, queued, left),
+        Key::Nothing => route_least(links, rows, lists, actors, g, queued, left),
+    }
 }
 
 // No actor is idle: a spawn under the ceiling, else the least loaded.
@@ -141,7 +172,10 @@ fn route_new(
     queued: u64,
     left: u64,
 ) -> Routed
-    ensures { λ r. ⌜ record { links = now (links .exit); keys = now (lists .exit); actors = now (actors .exit); routed = r } ≡ routeNew (now (groups .entry)) (now (links .entry)) (now (rows .entry)) (now (lists .entry)) (now (actors .entry)) g queued left ⌝ }
+    ensures { λ r.
+        ⌜ record { links = now (links .exit); keys = now (lists .exit); actors = now (actors .exit); routed = r }
+        ≡ routeNew (now (groups .entry)) (now (links .entry)) (now (rows .entry)) (now (lists .entry))
+        (now (actors .entry)) g queued left ⌝ }
 {
     let s = settings::group_at(groups, g);
     let ceiling = s.ceiling;
@@ -170,7 +204,10 @@ fn route_to(
     queued: u64,
     left: u64,
 ) -> Routed
-    ensures { λ r. ⌜ record { links = now (links .exit); keys = now (lists .exit); actors = now (actors .exit); routed = r } ≡ routeTo (now (groups .entry)) (now (links .entry)) (now (rows .entry)) (now (lists .entry)) (now (actors .entry)) g queued left ⌝ }
+    ensures { λ r.
+        ⌜ record { links = now (links .exit); keys = now (lists .exit); actors = now (actors .exit); routed = r }
+        ≡ routeTo (now (groups .entry)) (now (links .entry)) (now (rows .entry)) (now (lists .entry))
+        (now (actors .entry)) g queued left ⌝ }
 {
     match roster::pop_idle(lists, actors, g) {
         Key::At(k) => deliver_first(links, lists, actors, g, k, queued, left),
@@ -191,7 +228,10 @@ fn route_one(
     queued: u64,
     left: u64,
 ) -> Routed
-    ensures { λ r. ⌜ record { links = now (links .exit); keys = now (lists .exit); actors = now (actors .exit); routed = r } ≡ routeOne (now (groups .entry)) count (now (store .entry)) (now (links .entry)) (now (rows .entry)) (now (lists .entry)) (now (actors .entry)) entry queued left ⌝ }
+    ensures { λ r.
+        ⌜ record { links = now (links .exit); keys = now (lists .exit); actors = now (actors .exit); routed = r }
+        ≡ routeOne (now (groups .entry)) count (now (store .entry)) (now (links .entry)) (now (rows .entry))
+        (now (lists .entry)) (now (actors .entry)) entry queued left ⌝ }
 {
     let m = message::message_at(rows, entry);
     let long = m.name;
@@ -216,7 +256,10 @@ pub fn route(
     queued: u64,
     left: u64,
 ) -> Routed
-    ensures { λ r. ⌜ record { links = now (links .exit); keys = now (lists .exit); actors = now (actors .exit); routed = r } ≡ routeOf (now (groups .entry)) count (now (store .entry)) (now (links .entry)) (now (rows .entry)) (now (lists .entry)) (now (actors .entry)) queued left ⌝ }
+    ensures { λ r.
+        ⌜ record { links = now (links .exit); keys = now (lists .exit); actors = now (actors .exit); routed = r }
+        ≡ routeOf (now (groups .entry)) count (now (store .entry)) (now (links .entry)) (now (rows .entry))
+        (now (lists .entry)) (now (actors .entry)) queued left ⌝ }
 {
     if left == 0 {
         return Routed {
@@ -255,7 +298,10 @@ fn route_booted(
     left: u64,
     booted: bool,
 ) -> Routed
-    ensures { λ r. ⌜ record { links = now (links .exit); keys = now (lists .exit); actors = now (actors .exit); routed = r } ≡ routeBooted (now (links .entry)) (now (rows .entry)) (now (lists .entry)) (now (actors .entry)) g queued left booted ⌝ }
+    ensures { λ r.
+        ⌜ record { links = now (links .exit); keys = now (lists .exit); actors = now (actors .exit); routed = r }
+        ≡ routeBooted (now (links .entry)) (now (rows .entry)) (now (lists .entry)) (now (actors .entry)) g
+        queued left booted ⌝ }
 {
     if booted {
         return route_spawned(links, rows, lists, actors, g, false, queued, left);
@@ -274,7 +320,10 @@ pub fn route_reply(
     left: u64,
     reply: Reply,
 ) -> Routed
-    ensures { λ r. ⌜ record { links = now (links .exit); keys = now (lists .exit); actors = now (actors .exit); routed = r } ≡ routeReply (now (links .entry)) (now (rows .entry)) (now (lists .entry)) (now (actors .entry)) g queued left reply ⌝ }
+    ensures { λ r.
+        ⌜ record { links = now (links .exit); keys = now (lists .exit); actors = now (actors .exit); routed = r }
+        ≡ routeReply (now (links .entry)) (now (rows .entry)) (now (lists .entry)) (now (actors .entry)) g
+        queued left reply ⌝ }
 {
     let came = question::yes_in(reply);
     match came {

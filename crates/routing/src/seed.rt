@@ -1,4 +1,5 @@
-// The first turn spawns one actor for each group whose ceiling is above 0. Spawn of a fixed actor asks Boot; eval does not.
+// The first turn spawns one actor for each group whose ceiling is above 0. Spawn of a fixed actor asks Boot; eval
+// does not.
 ghost use mathlib.Core.Path.{_≡_};
 ghost use Rattle.routing.specs.Seed.{seedOf, seedBooted, seedReply};
 use actor::question;
@@ -20,7 +21,9 @@ pub fn seed(
     actors: &mut [[u64; 12]],
     g: usize,
 ) -> At
-    ensures { λ r. ⌜ record { keys = now (lists .exit); actors = now (actors .exit); at = r } ≡ seedOf (now (groups .entry)) count (now (lists .entry)) (now (actors .entry)) g ⌝ }
+    ensures { λ r.
+        ⌜ record { keys = now (lists .exit); actors = now (actors .exit); at = r }
+        ≡ seedOf (now (groups .entry)) count (now (lists .entry)) (now (actors .entry)) g ⌝ }
 {
     if count <= g {
         return At::Intake(MESSAGES);
@@ -44,7 +47,9 @@ pub fn seed(
 
 // Boot was answered: yes spawns the actor.
 fn seed_booted(lists: &mut [[u8; 65]], actors: &mut [[u64; 12]], g: usize, booted: bool) -> At
-    ensures { λ r. ⌜ record { keys = now (lists .exit); actors = now (actors .exit); at = r } ≡ seedBooted (now (lists .entry)) (now (actors .entry)) g booted ⌝ }
+    ensures { λ r.
+        ⌜ record { keys = now (lists .exit); actors = now (actors .exit); at = r }
+        ≡ seedBooted (now (lists .entry)) (now (actors .entry)) g booted ⌝ }
 {
     let next = at::next_group(g);
     if booted {
@@ -56,7 +61,9 @@ fn seed_booted(lists: &mut [[u8; 65]], actors: &mut [[u64; 12]], g: usize, boote
 
 // The reply to Boot; one that does not fit changes nothing.
 pub fn seed_reply(lists: &mut [[u8; 65]], actors: &mut [[u64; 12]], g: usize, reply: Reply) -> At
-    ensures { λ r. ⌜ record { keys = now (lists .exit); actors = now (actors .exit); at = r } ≡ seedReply (now (lists .entry)) (now (actors .entry)) g reply ⌝ }
+    ensures { λ r.
+        ⌜ record { keys = now (lists .exit); actors = now (actors .exit); at = r }
+        ≡ seedReply (now (lists .entry)) (now (actors .entry)) g reply ⌝ }
 {
     let came = question::yes_in(reply);
     match came {

@@ -1,5 +1,6 @@
-// Replays recorded answers of the Rust: a list of scripts of the pool, the row ends 8 to 11 first, each with the output that the Rust's answers make, on standard input (its
-// form is said in the list). Prints each titled script with whether the port's output is the same byte for byte, in just the room that it needs, and how many are.
+// Replays recorded answers of the Rust: a list of scripts of the pool, the row ends 8 to 11 first, each with the
+// output that the Rust's answers make, on standard input (its form is said in the list). Prints each titled script
+// with whether the port's output is the same byte for byte, in just the room that it needs, and how many are.
 ghost use Prim.Native.Nat.{_≤_};
 ghost use lib.ListN.{length};
 use libc::STDIN_FILENO;

@@ -1,2 +1,3 @@
 -- Laws of the setup.
 pub mod Loops
+pub mod Parts

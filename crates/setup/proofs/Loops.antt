@@ -6,7 +6,8 @@ use Prim.Native.Nat.{ℕ, suc, _+_, _-_, _≤_, _<_}
 use native.Mathlib.Numerals.{add-one}
 use native.Mathlib.Omega.{arith}
 use lib.Dec.{ltb}
-use lib.ListN.{length, getD, take, drop, set, replicate, take-append-drop, drop-of-length-le, replicate-append-replicate}
+use lib.ListN.{length, getD, take, drop, set, replicate, take-append-drop, drop-of-length-le}
+use lib.ListN.{replicate-append-replicate}
 use lib.Seq.{drop-cons, take-suc-set, drop-set-lt, take-all}
 use Rattle.text.specs.Bytes.{write}
 use Rattle.text.proofs.WriteLaws.{write-none, write-cons}
@@ -21,7 +22,9 @@ more l i d inside = rw add-one (drop-cons l i d inside)
 
 -- ---- bytes written over a store
 
-pub bytes-more : (store bytes : List ℕ) (at i : ℕ) → i < length bytes → at + length bytes ≤ length store → write (set store (at + i) (getD bytes i 0)) (at + (i + 1)) (drop (i + 1) bytes) ≡ write store (at + i) (drop i bytes)
+pub bytes-more : (store bytes : List ℕ) (at i : ℕ) → i < length bytes → at + length bytes ≤ length store
+    → write (set store (at + i) (getD bytes i 0)) (at + (i + 1)) (drop (i + 1) bytes)
+    ≡ write store (at + i) (drop i bytes)
 bytes-more store bytes at i inside room =
     let next : at + (i + 1) ≡ at + i + 1 = omega arith in
     rw (next, more bytes i 0 inside) (write-cons store (at + i) (getD bytes i 0) (drop (i + 1) bytes) (omega arith))
@@ -31,7 +34,8 @@ bytes-end store bytes at i out = rw (drop-of-length-le bytes out) (write-none st
 
 -- ---- the bytes of a name, cell by cell
 
-pub cells-more : (row : List ℕ) (i : ℕ) → i < length row → allBytes (drop i row) ≡ pick (ltb 255 (getD row i 0)) false (allBytes (drop (i + 1) row))
+pub cells-more : (row : List ℕ) (i : ℕ) → i < length row → allBytes (drop i row) ≡ pick (ltb 255 (getD row i 0)) false
+    (allBytes (drop (i + 1) row))
 unfolding allBytes
 cells-more row i inside = ap allBytes (more row i 0 inside)
 
@@ -41,7 +45,8 @@ cells-end row i out = rw (drop-of-length-le row out)
 
 -- ---- the groups' settings, row by row
 
-pub rows-more : (given : Table) (g : ℕ) → g < length given → rowsFit (drop g given) ≡ pick (rowFits (getD given g [])) (rowsFit (drop (g + 1) given)) false
+pub rows-more : (given : Table) (g : ℕ) → g < length given → rowsFit (drop g given) ≡ pick (rowFits (getD given g []))
+    (rowsFit (drop (g + 1) given)) false
 unfolding rowsFit
 rows-more given g inside = ap rowsFit (more given g [] inside)
 
@@ -60,12 +65,15 @@ none-given most [] = refl
 none-given most (old ∷ olds) = refl
 
 module _ (most : ℕ) (groups given : Table) (g : ℕ) where
-  pub groups-more : g < length groups → g < length given → written most (set groups g (poolRow most (getD given g []))) given (g + 1) ≡ written most groups given g
+  pub groups-more : g < length groups → g < length given → written most (set groups g (poolRow most (getD given g [])))
+      given (g + 1) ≡ written most groups given g
   unfolding groupsFrom
   groups-more in-table in-given =
       let new = poolRow most (getD given g []) in
-      let below : take (g + 1) (set groups g new) ≡ take g groups ++ (new ∷ []) = rw add-one (take-suc-set groups g new in-table) in
-      let above : drop (g + 1) (set groups g new) ≡ drop (g + 1) groups = drop-set-lt (g + 1) groups g new (omega arith) in
+      let below : take (g + 1) (set groups g new) ≡ take g groups ++ (new ∷ []) =
+      rw add-one (take-suc-set groups g new in-table) in
+      let above : drop (g + 1) (set groups g new) ≡ drop (g + 1) groups = drop-set-lt (g + 1) groups g new
+      (omega arith) in
       rw (below, above, append-assoc, more groups g [] in-table, more given g [] in-given)
 
   pub groups-full : length groups ≤ g → written most groups given g ≡ groups
@@ -79,10 +87,13 @@ module _ (most : ℕ) (groups given : Table) (g : ℕ) where
 
 -- ---- lists of keys made empty: those below i are
 
-pub blank-more : (t : Table) (row : List ℕ) (i : ℕ) → i < length t → take i t ≡ replicate i row → take (i + 1) (set t i row) ≡ replicate (i + 1) row
-blank-more t row i inside below = rw (add-one, take-suc-set t i row inside, below) (replicate-append-replicate i 1 row ∙ ap (λ n. replicate n row) (add-one i))
+pub blank-more : (t : Table) (row : List ℕ) (i : ℕ) → i < length t → take i t ≡ replicate i row
+    → take (i + 1) (set t i row) ≡ replicate (i + 1) row
+blank-more t row i inside below = rw (add-one, take-suc-set t i row inside, below) (replicate-append-replicate i 1 row
+    ∙ ap (λ n. replicate n row) (add-one i))
 
-pub blank-end : (t : Table) (row : List ℕ) (n i : ℕ) → length t ≡ n → n ≤ i → i ≤ n → take i t ≡ replicate i row → t ≡ replicate n row
+pub blank-end : (t : Table) (row : List ℕ) (n i : ℕ) → length t ≡ n → n ≤ i → i ≤ n → take i t ≡ replicate i row → t
+    ≡ replicate n row
 blank-end t row n i long out within below =
     let all : i ≡ n = omega arith in
     sym (take-all i t (omega arith)) ∙ (below ∙ ap (λ k. replicate k row) all)
@@ -90,7 +101,8 @@ blank-end t row n i long out within below =
 -- ---- the messages left, in order
 
 module _ (t rows left : Table) (i n : ℕ) where
-  pub left-more : i < n → putLeft t rows left i (n - i) ≡ putLeft (moveFirst t FREE PENDING) (putMessage rows i (leftMessage (leftRow left i))) left (i + 1) (n - (i + 1))
+  pub left-more : i < n → putLeft t rows left i (n - i) ≡ putLeft (moveFirst t FREE PENDING)
+      (putMessage rows i (leftMessage (leftRow left i))) left (i + 1) (n - (i + 1))
   unfolding putLeft
   left-more inside = let some : n - i ≡ suc (n - (i + 1)) = omega arith in rw (some, add-one)
 

@@ -1,5 +1,5 @@
--- A message put into a free entry of the body store: 160 bytes each, the name in the first 32, the body in the 128 after it. The other entries' bytes,
--- and its own past the given name and body, do not change.
+-- A message put into a free entry of the body store: 160 bytes each, the name in the first 32, the body in the 128
+-- after it. The other entries' bytes, and its own past the given name and body, do not change.
 use mathlib.Core.List.{List}
 use Prim.Native.Nat.{ℕ, _+_, _*_}
 use lib.Dec.{ltb, leb}
@@ -31,7 +31,12 @@ newRow name body caller id = record { attempts = 0; name = name; body = body; ca
 
 unfoldable pub keepAt : List ℕ → Table → Table → ℕ → List ℕ → List ℕ → Caller → Logged → ℕ → Kept
 keepAt store t rows e name body caller id to =
-    record { store = storeEntry store e name body; links = moveFirst t FREE to; rows = putMessage rows e (newRow (length name) (length body) caller id) }
+    record {
+      store = storeEntry store e name body;
+      links = moveFirst t FREE to;
+      rows =
+          putMessage rows e (newRow (length name) (length body) caller id);
+    }
 
 abbrev pub keepFound : List ℕ → Table → Table → List ℕ → List ℕ → Caller → Logged → ℕ → Found → Kept
 keepFound store t rows name body caller id to (found.Entry e) = keepAt store t rows e name body caller id to

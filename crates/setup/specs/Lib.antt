@@ -1,4 +1,5 @@
 -- Definitions and statements.
 pub mod Entry
+pub mod Part
 pub mod Settings
 pub mod Tables

@@ -31,13 +31,15 @@ unfoldable pub numbersFit : Settings → Bool
 numbersFit s =
     pick (within 0 (s .«max_actors») 16)
     (pick (within 1 (s .inbox) 64)
-    (pick (within 1 (s .backlog) 256) (pick (within 1 (s .«compact_at») 65536) (within 1 (s .tick) 1000000000) false) false)
+    (pick (within 1 (s .backlog) 256) (pick (within 1 (s .«compact_at») 65536) (within 1 (s .tick) 1000000000) false)
+    false)
     false)
     false
 
 -- groups 1 to 8, and everything in its range
 unfoldable pub settingsFit : Settings → Table → Bool
-settingsFit s given = pick (eqb (length given) 0) false (pick (ltb 8 (length given)) false (pick (numbersFit s) (rowsFit given) false))
+settingsFit s given = pick (eqb (length given) 0) false (pick (ltb 8 (length given)) false
+    (pick (numbersFit s) (rowsFit given) false))
 
 -- Ceiling = min(replicas, max_actors).
 unfoldable pub poolRow : ℕ → List ℕ → List ℕ

@@ -22,9 +22,17 @@ leftRow left i = getD left i (0 ∷ 0 ∷ 0 ∷ [])
 
 -- attempts 0, nobody waits for it
 abbrev pub leftMessage : List ℕ → Message
-leftMessage row = record { attempts = 0; name = getD row 1 0; body = getD row 2 0; caller = caller.Nobody; id = logged.As (record { 0 = getD row 0 0 }) }
+leftMessage row = record {
+  attempts = 0;
+  name = getD row 1 0;
+  body = getD row 2 0;
+  caller = caller.Nobody;
+  id =
+      logged.As (record { 0 = getD row 0 0 });
+}
 
 -- n of them, from the i-th on
 unfoldable pub putLeft : Table → Table → Table → ℕ → ℕ → Placed
 putLeft t rows left i zero = record { links = t; rows = rows }
-putLeft t rows left i (suc n) = putLeft (moveFirst t FREE PENDING) (putMessage rows i (leftMessage (leftRow left i))) left (suc i) n
+putLeft t rows left i (suc n) = putLeft (moveFirst t FREE PENDING) (putMessage rows i (leftMessage (leftRow left i)))
+    left (suc i) n

@@ -1,4 +1,5 @@
-// A message put into a free entry of the body store: 160 bytes each, the name in the first 32, the body in the 128 after it.
+// A message put into a free entry of the body store: 160 bytes each, the name in the first 32, the body in the 128
+// after it.
 ghost use mathlib.Core.Path.{_≡_};
 ghost use Rattle.setup.specs.Entry.{putBytes, storeEntry, newRow, keepAt, keepOf};
 use actor::message;
@@ -26,7 +27,8 @@ fn put_bytes(store: &mut [u8], at: usize, bytes: &[u8])
 
 // The name and body of an entry.
 fn store_entry(store: &mut [u8], entry: usize, name: &[u8], body: &[u8])
-    ensures { λ r. ⌜ now (store .exit) ≡ storeEntry (now (store .entry)) entry (now (name .entry)) (now (body .entry)) ⌝ }
+    ensures { λ r. ⌜ now (store .exit) ≡ storeEntry (now (store .entry)) entry (now (name .entry))
+        (now (body .entry)) ⌝ }
 {
     if entry < 256 {
         put_bytes(store, 160 * entry, name);
@@ -59,7 +61,9 @@ fn keep_at(
     id: Logged,
     to: usize,
 )
-    ensures { λ r. ⌜ record { store = now (store .exit); links = now (links .exit); rows = now (rows .exit) } ≡ keepAt (now (store .entry)) (now (links .entry)) (now (rows .entry)) entry (now (name .entry)) (now (body .entry)) caller id to ⌝ }
+    ensures { λ r. ⌜ record { store = now (store .exit); links = now (links .exit); rows = now (rows .exit) }
+        ≡ keepAt (now (store .entry)) (now (links .entry)) (now (rows .entry)) entry (now (name .entry))
+        (now (body .entry)) caller id to ⌝ }
 {
     store_entry(store, entry, name, body);
     let m = new_row(name.len() as u64, body.len() as u64, caller, id);
@@ -78,7 +82,9 @@ pub fn keep(
     id: Logged,
     to: usize,
 )
-    ensures { λ r. ⌜ record { store = now (store .exit); links = now (links .exit); rows = now (rows .exit) } ≡ keepOf (now (store .entry)) (now (links .entry)) (now (rows .entry)) (now (name .entry)) (now (body .entry)) caller id to ⌝ }
+    ensures { λ r. ⌜ record { store = now (store .exit); links = now (links .exit); rows = now (rows .exit) }
+        ≡ keepOf (now (store .entry)) (now (links .entry)) (now (rows .entry)) (now (name .entry)) (now (body .entry))
+        caller id to ⌝ }
 {
     match lists::first(links, lists::FREE) {
         Found::Entry(e) => keep_at(store, links, rows, e, name, body, caller, id, to),

@@ -3,7 +3,8 @@ ghost use mathlib.Core.Path.{_≡_};
 ghost use mathlib.Core.List.{[]};
 ghost use Prim.Native.Nat.{_-_};
 ghost use lib.ListN.{length, getD, drop};
-ghost use Rattle.setup.specs.Settings.{within, allBytes, rowFits, rowsFit, numbersFit, settingsFit, poolRow, groupsFrom};
+ghost use Rattle.setup.specs.Settings.{within, allBytes, rowFits, rowsFit, numbersFit, settingsFit, poolRow};
+ghost use Rattle.setup.specs.Settings.{groupsFrom};
 
 // What is set besides the groups.
 pub struct Settings {
@@ -39,7 +40,8 @@ fn all_bytes(row: [u64; 37]) -> bool
     true
 }
 
-// Whether a group's settings are in their ranges: replicas, fixed or eval, timeout, retry, the name's length, its bytes.
+// Whether a group's settings are in their ranges: replicas, fixed or eval, timeout, retry, the name's length, its
+// bytes.
 fn row_fits(row: [u64; 37]) -> bool
     ensures { λ r. ⌜ r ≡ rowFits row ⌝ }
 {

@@ -46,7 +46,8 @@ fn left_message(row: [u64; 3]) -> Message
 
 // The first n messages left get their rows, and go from the free entries to pending, in order.
 pub fn put_left(links: &mut [[u64; 4]], rows: &mut [[u64; 7]], left: &[[u64; 3]], n: usize)
-    ensures { λ r. ⌜ record { links = now (links .exit); rows = now (rows .exit) } ≡ putLeft (now (links .entry)) (now (rows .entry)) (now (left .entry)) 0 n ⌝ }
+    ensures { λ r. ⌜ record { links = now (links .exit); rows = now (rows .exit) } ≡ putLeft (now (links .entry))
+        (now (rows .entry)) (now (left .entry)) 0 n ⌝ }
 {
     let mut i: usize = 0;
     while i < n {

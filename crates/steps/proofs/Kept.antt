@@ -1,5 +1,5 @@
--- A step keeps every message in exactly one place: the family of lists stays well formed, lists of other actors do not change,
--- and `queued` changes as the mailbox's length does. Assumes nothing.
+-- A step keeps every message in exactly one place: the family of lists stays well formed, lists of other actors do not
+-- change, and `queued` changes as the mailbox's length does. Assumes nothing.
 use mathlib.Core.Path.{_≡_, refl, sym, ap, _∙_}
 use mathlib.Core.Bool.{Bool, true, false}
 use mathlib.Core.Logic.{_≢_}
@@ -13,7 +13,8 @@ use lib.ListN.{length, take, drop, length-append, length-drop}
 use lib.Seq.{length-take-le}
 use Rattle.lists.specs.declared.Found.{Found}
 use Rattle.lists.specs.declared.Found.the-variants.{Entry, Nothing}
-use Rattle.lists.specs.Links.{pick, LISTS, Table, lenOf, capped, firstOf, moveFirst, moveFirstToFront, mailboxOf, handOf}
+use Rattle.lists.specs.Links.{pick, LISTS, Table, lenOf, capped, firstOf, moveFirst, moveFirstToFront, mailboxOf}
+use Rattle.lists.specs.Links.{handOf}
 use Rattle.lists.specs.Family.{view, Good, Pair, Moved, MovedToFront}
 use Rattle.lists.proofs.Family.{length-view}
 use Rattle.lists.proofs.Moves.{move-first, move-first-to-front}
@@ -34,15 +35,18 @@ use Rattle.actor.specs.declared.question.CountIn.{CountIn}
 use Rattle.actor.specs.declared.question.CountIn.the-variants as count
 use Rattle.actor.specs.declared.question.RanIn.{RanIn}
 use Rattle.actor.specs.declared.question.RanIn.the-variants as ran
-use Rattle.steps.specs.declared.fixed.FixedAt.{FixedAt}
-use Rattle.steps.specs.declared.fixed.FixedAt.the-variants as fixed
-use Rattle.steps.specs.declared.eval.EvalAt.{EvalAt}
-use Rattle.steps.specs.declared.eval.EvalAt.the-variants as eval
+use Rattle.steps.specs.declared.fixed.FixedAsk.{FixedAsk}
+use Rattle.steps.specs.declared.fixed.FixedAsk.the-variants as fixed
+use Rattle.steps.specs.declared.fixed.FixedNext.{FixedNext}
+use Rattle.steps.specs.declared.fixed.FixedNext.the-variants as next
+use Rattle.steps.specs.declared.eval.EvalAsk.{EvalAsk}
+use Rattle.steps.specs.declared.eval.EvalAsk.the-variants as eval
 use Rattle.steps.specs.declared.eval.Limit.{Limit}
 use Rattle.actor.specs.Questions.{yesIn, clockIn, countIn, ranIn, isTold}
 use Rattle.actor.specs.Messages.{messageAt}
 use Rattle.actor.specs.Actors.{actorAt, putActor, runningTo, hasRun, deadlineOf}
-use Rattle.steps.specs.Steps.{FREE, OVER, HAND, placeLogged, placeOver, callerFirst, overFirst, idledAt, MailTaken, takeMail}
+use Rattle.steps.specs.Steps.{FREE, OVER, HAND, placeLogged, placeOver, callerFirst, overFirst, idledAt}
+use Rattle.steps.specs.Steps.{MailTaken, takeMail}
 use Rattle.steps.specs.StepFixed as one
 use Rattle.steps.specs.StepEval as two
 use Rattle.steps.proofs.Times.{capped-fits}
@@ -84,7 +88,12 @@ module _ (slot : ℕ) (slot-is : slot < 128) where
   -- one after the other
   then-kept : {t r s : Table} {q p o : ℕ} → Kept t r q p → Kept r s p o → Kept t s q o
   then-kept {t} {r} {s} {q} {p} {o} first second =
-      record { good = second .good; mail = omega (arith, first .mail, second .mail); others = λ k out. second .others k out ∙ first .others k out }
+      record {
+        good = second .good;
+        mail = omega (arith, first .mail, second .mail);
+        others = λ k out. second .others k
+            out ∙ first .others k out;
+      }
 
   len-same : (t r : Table) (k : ℕ) → view r k ≡ view t k → lenOf r k ≡ lenOf t k
   len-same t r k same = sym (length-view r k) ∙ (ap length same ∙ length-view t k)
@@ -105,15 +114,30 @@ module _ (slot : ℕ) (slot-is : slot < 128) where
   own-hand = record { is = omega arith; inside = λ j out. out .not-hand; no-mail = λ e. omega (arith, mailbox-is) }
 
   own-held : Own (handOf slot)
-  own-held = record { is = omega (arith, hand-is); inside = λ j out. out .not-held; no-mail = λ e. omega (arith, mailbox-is, hand-is) }
+  own-held = record {
+    is = omega (arith, hand-is);
+    inside = λ j out. out .not-held;
+    no-mail =
+        λ e. omega (arith, mailbox-is, hand-is);
+  }
 
   -- a message goes from one such place to another
   move-kept : (t : Table) (q from to : ℕ) → Good t → Own from → Own to → from ≢ to → Kept t (moveFirst t from to) q q
   move-kept t q from to good f g apart =
-      let moved : Moved t from to 1 (moveFirst t from to) = move-first (record { good = good; from-is = f .is; to-is = g .is; apart = apart }) in
+      let moved : Moved t from to 1 (moveFirst t from to) = move-first (record {
+        good = good;
+        from-is = f .is;
+        to-is =
+            g .is;
+        apart = apart;
+      }) in
       record {
         good = moved .good;
-        mail = omega (arith, len-same t (moveFirst t from to) (mailboxOf slot) (moved .others (mailboxOf slot) (f .no-mail) (g .no-mail)));
+        mail = omega (
+          arith,
+          len-same t (moveFirst t from to) (mailboxOf slot) (moved .others (mailboxOf slot)
+              (f .no-mail) (g .no-mail)),
+        );
         others = λ k out. moved .others k (f .inside k out) (g .inside k out);
       }
 
@@ -127,10 +151,12 @@ module _ (slot : ℕ) (slot-is : slot < 128) where
       go logged.Never = f
   place-rule P o f rows Nothing = f
 
-  over-kept : (t rows : Table) (q from : ℕ) → Good t → Own from → from ≢ OVER → from ≢ FREE → Kept t (overFirst t rows from) q q
+  over-kept : (t rows : Table) (q from : ℕ) → Good t → Own from → from ≢ OVER → from ≢ FREE
+      → Kept t (overFirst t rows from) q q
   unfolding overFirst
   over-kept t rows q from good own a b =
-      place-rule (λ (to : ℕ). Kept t (moveFirst t from to) q q) (move-kept t q from OVER good own own-over a) (move-kept t q from FREE good own own-free b) rows (firstOf t from)
+      place-rule (λ (to : ℕ). Kept t (moveFirst t from to) q q) (move-kept t q from OVER good own own-over a)
+      (move-kept t q from FREE good own own-free b) rows (firstOf t from)
 
   held-not-hand : handOf slot ≢ HAND
   held-not-hand e = omega (arith, hand-is)
@@ -138,7 +164,13 @@ module _ (slot : ℕ) (slot-is : slot < 128) where
   -- mail is taken, or there is none; after it there is a message in the step's hand
   module _ (t l : Table) (q : ℕ) (good : Good t) (enough : lenOf t (mailboxOf slot) ≤ q) where
     mail-pair : Pair t (mailboxOf slot) HAND
-    mail-pair = record { good = good; from-is = omega (arith, mailbox-is); to-is = omega arith; apart = λ e. omega (arith, mailbox-is) }
+    mail-pair = record {
+      good = good;
+      from-is = omega (arith, mailbox-is);
+      to-is = omega arith;
+      apart =
+          λ e. omega (arith, mailbox-is);
+    }
 
     took : Moved t (mailboxOf slot) HAND 1 (moveFirst t (mailboxOf slot) HAND)
     took = move-first mail-pair
@@ -149,7 +181,13 @@ module _ (slot : ℕ) (slot-is : slot < 128) where
 
       mail-less : lenOf r (mailboxOf slot) + 1 ≡ lenOf t (mailboxOf slot)
       mail-less =
-          omega (arith, length-view r (mailboxOf slot), length-view t (mailboxOf slot), ap length (took .left), length-drop 1 (view t (mailboxOf slot)))
+          omega (
+            arith,
+            length-view r (mailboxOf slot),
+            length-view t (mailboxOf slot),
+            ap length (took .left),
+            length-drop 1 (view t (mailboxOf slot)),
+          )
 
       hand-more : 0 < lenOf r HAND
       hand-more =
@@ -163,11 +201,22 @@ module _ (slot : ℕ) (slot-is : slot < 128) where
 
       took-kept : Kept t r q (q - 1)
       took-kept =
-          record { good = took .good; mail = omega (arith, mail-less, enough); others = λ k out. took .others k (out .not-mail) (out .not-hand) }
+          record {
+            good = took .good;
+            mail = omega (arith, mail-less, enough);
+            others = λ k out. took .others k
+                (out .not-mail) (out .not-hand);
+          }
 
     -- what holds of the two cases holds of the mail that is taken
-    mail-rule : (P : MailTaken → Type 0) → P (record { links = t; actors = idledAt l slot; mail = record { taken = false; queued = q } })
-        → (0 < lenOf t (mailboxOf slot) → P (record { links = moveFirst t (mailboxOf slot) HAND; actors = l; mail = record { taken = true; queued = q - 1 } })) → P (takeMail t l slot q)
+    mail-rule : (P : MailTaken → Type 0)
+        → P (record { links = t; actors = idledAt l slot; mail = record { taken = false; queued = q } })
+        → (0 < lenOf t (mailboxOf slot) → P (record {
+          links = moveFirst t (mailboxOf slot) HAND;
+          actors = l;
+          mail =
+              record { taken = true; queued = q - 1 };
+        })) → P (takeMail t l slot q)
     unfolding takeMail
     mail-rule P none some = go (ℕ-discrete (lenOf t (mailboxOf slot)) 0)
       where
@@ -178,26 +227,34 @@ module _ (slot : ℕ) (slot-is : slot < 128) where
   -- ---- step_fixed
 
   -- while Push is open its message is in the step's hand
-  abbrev Holds : FixedAt → Table → Type 0
+  abbrev Holds : FixedAsk → Table → Type 0
   Holds (fixed.Run start) t = 0 ≤ 0
   Holds fixed.Drain t = 0 ≤ 0
   Holds fixed.Push t = 0 < lenOf t HAND
   Holds fixed.Dispatch t = 0 ≤ 0
-  Holds (fixed.End e) t = 0 ≤ 0
+
+  abbrev NextHolds : FixedNext → Table → Type 0
+  NextHolds (next.Asks a) t = Holds a t
+  NextHolds (next.Ended e) t = 0 ≤ 0
 
   -- what a transition of a fixed actor keeps, from q queued
   pub record FixedKept (t : Table) (q : ℕ) (s : one.FixedBoth) : Type 0 where
     pub kept : Kept t (s .links) q (s .step .queued)
-    pub holds : Holds (s .step .at) (s .links)
+    pub holds : NextHolds (s .step .next) (s .links)
 
   failed-kept : (t l : Table) (q : ℕ) → Good t → FixedKept t q (one.keptFixed l q (one.fixedFailed t slot))
   unfolding one.fixedFailed
-  failed-kept t l q good = record { kept = move-kept t q (handOf slot) HAND good own-held own-hand held-not-hand; holds = omega arith }
+  failed-kept t l q good = record {
+    kept = move-kept t q (handOf slot) HAND good own-held own-hand held-not-hand;
+    holds = omega arith;
+  }
 
   held-over-kept : (t rows : Table) (q : ℕ) → Good t → Kept t (overFirst t rows (handOf slot)) q q
-  held-over-kept t rows q good = over-kept t rows q (handOf slot) good own-held (λ e. omega (arith, hand-is)) (λ e. omega (arith, hand-is))
+  held-over-kept t rows q good = over-kept t rows q (handOf slot) good own-held (λ e. omega (arith, hand-is))
+      (λ e. omega (arith, hand-is))
 
-  ran-kept : (t rows l : Table) (q : ℕ) → Good t → (s : Status) → FixedKept t q (one.keptFixed l q (one.fixedRan t rows slot s))
+  ran-kept : (t rows l : Table) (q : ℕ) → Good t → (s : Status)
+      → FixedKept t q (one.keptFixed l q (one.fixedRan t rows slot s))
   unfolding one.fixedRan
   ran-kept t rows l q good status.Done = record { kept = held-over-kept t rows q good; holds = omega arith }
   ran-kept t rows l q good status.Exit = record { kept = held-over-kept t rows q good; holds = omega arith }
@@ -207,17 +264,25 @@ module _ (slot : ℕ) (slot-is : slot < 128) where
   ran-kept t rows l q good status.Error = failed-kept t l q good
   ran-kept t rows l q good status.Broke = failed-kept t l q good
 
-  drained-kept : (t l : Table) (q n : ℕ) → Good t → lenOf t (mailboxOf slot) ≤ q → FixedKept t q (one.fixedDrained t l slot q n)
+  drained-kept : (t l : Table) (q n : ℕ) → Good t → lenOf t (mailboxOf slot) ≤ q
+      → FixedKept t q (one.fixedDrained t l slot q n)
   unfolding one.fixedDrained
   drained-kept t l q n good enough =
       pick-rule (FixedKept t q) (ltb 0 n) (λ e. record { kept = same-kept t q good; holds = omega arith })
-      (λ e. mail-rule t l q good enough (λ (m : MailTaken). FixedKept t q (one.fixedMail m)) (record { kept = same-kept t q good; holds = omega arith })
+      (λ e. mail-rule t l q good enough (λ (m : MailTaken). FixedKept t q (one.fixedMail m))
+      (record { kept = same-kept t q good; holds = omega arith })
       (λ some. record { kept = took-kept t l q good enough some; holds = hand-more t l q good enough some }))
 
   -- Push no: the message of the step's hand is the first of the mailbox again
   module _ (t : Table) (q : ℕ) (good : Good t) (some : 0 < lenOf t HAND) (few : q ≤ 256) where
     back : MovedToFront t HAND (mailboxOf slot) 1 (moveFirstToFront t HAND (mailboxOf slot))
-    back = move-first-to-front (record { good = good; from-is = omega arith; to-is = omega (arith, mailbox-is); apart = λ e. omega (arith, mailbox-is) })
+    back = move-first-to-front (record {
+      good = good;
+      from-is = omega arith;
+      to-is = omega (arith, mailbox-is);
+      apart =
+          λ e. omega (arith, mailbox-is);
+    })
 
     mail-more : lenOf (moveFirstToFront t HAND (mailboxOf slot)) (mailboxOf slot) ≡ lenOf t (mailboxOf slot) + 1
     mail-more =
@@ -238,17 +303,24 @@ module _ (slot : ℕ) (slot-is : slot < 128) where
           others = λ k out. back .others k (out .not-hand) (out .not-mail);
         }
 
-  pushed-kept : (t l : Table) (q : ℕ) → Good t → 0 < lenOf t HAND → q ≤ 256 → (b : Bool) → FixedKept t q (one.fixedPushed t l slot q b)
+  pushed-kept : (t l : Table) (q : ℕ) → Good t → 0 < lenOf t HAND → q ≤ 256 → (b : Bool)
+      → FixedKept t q (one.fixedPushed t l slot q b)
   unfolding one.fixedPushed
-  pushed-kept t l q good some few true = record { kept = move-kept t q HAND (handOf slot) good own-hand own-held (λ e. held-not-hand (sym e)); holds = omega arith }
+  pushed-kept t l q good some few true = record {
+    kept = move-kept t q HAND (handOf slot) good own-hand own-held
+        (λ e. held-not-hand (sym e));
+    holds = omega arith;
+  }
   pushed-kept t l q good some few false = record { kept = back-kept t q good some few; holds = omega arith }
 
   dispatched-kept : (t l : Table) (q n : ℕ) → Good t → FixedKept t q (one.keptFixed l q (one.fixedDispatched t slot n))
   unfolding one.fixedDispatched
   dispatched-kept t l q n good =
-      pick-rule (λ (f : one.FixedLinks). FixedKept t q (one.keptFixed l q f)) (ltb 0 n) (λ e. record { kept = same-kept t q good; holds = omega arith }) (λ e. failed-kept t l q good)
+      pick-rule (λ (f : one.FixedLinks). FixedKept t q (one.keptFixed l q f)) (ltb 0 n)
+      (λ e. record { kept = same-kept t q good; holds = omega arith }) (λ e. failed-kept t l q good)
 
-  -- every transition of a fixed actor: no message is lost or doubled, other actors' lists are as they were, and queued changes as the mailbox does
+  -- every transition of a fixed actor: no message is lost or doubled, other actors' lists are as they were, and queued
+  -- changes as the mailbox does
   module _ (t rows l : Table) (q : ℕ) (good : Good t) (enough : lenOf t (mailboxOf slot) ≤ q) (few : q ≤ 256) where
     by-run : (start : Bool) (r : RanIn) → FixedKept t q (one.keptFixed l q (one.runBy t rows slot start r))
     by-run start (ran.Of s) = ran-kept t rows l q good s
@@ -267,21 +339,23 @@ module _ (slot : ℕ) (slot-is : slot < 128) where
     by-dispatch (count.Of n) = dispatched-kept t l q n good
     by-dispatch count.Other = record { kept = same-kept t q good; holds = omega arith }
 
-    pub step-fixed-kept : (a : FixedAt) → Holds a t → (r : Reply) → FixedKept t q (one.stepFixed t rows l slot q a r)
+    pub step-fixed-kept : (a : FixedAsk) → Holds a t → (r : Reply) → FixedKept t q (one.stepFixed t rows l slot q a r)
     unfolding one.stepFixed one.runReply one.drainReply one.pushReply one.dispatchReply
     step-fixed-kept (fixed.Run start) holds r = by-run start (ranIn r)
     step-fixed-kept fixed.Drain holds r = by-drain (countIn r)
     step-fixed-kept fixed.Push holds r = by-push holds (yesIn r)
     step-fixed-kept fixed.Dispatch holds r = by-dispatch (countIn r)
-    step-fixed-kept (fixed.End e) holds r = record { kept = same-kept t q good; holds = omega arith }
 
   -- ---- step_eval: queued changes only where mail is taken, as a step begins
 
-  pub eval-start-kept : (t l : Table) (q : ℕ) → Good t → lenOf t (mailboxOf slot) ≤ q → Kept t (two.evalStart t l slot q .links) q (two.evalStart t l slot q .step .queued)
+  pub eval-start-kept : (t l : Table) (q : ℕ) → Good t → lenOf t (mailboxOf slot) ≤ q
+      → Kept t (two.evalStart t l slot q .links) q (two.evalStart t l slot q .step .queued)
   unfolding two.evalStart
   eval-start-kept t l q good enough =
-      pick-rule (λ (s : two.EvalStarted). Kept t (s .links) q (s .step .queued)) (hasRun (actorAt l slot .run)) (λ e. same-kept t q good)
-      (λ e. mail-rule t l q good enough (λ (m : MailTaken). Kept t (m .links) q (m .mail .queued)) (same-kept t q good) (λ some. took-kept t l q good enough some))
+      pick-rule (λ (s : two.EvalStarted). Kept t (s .links) q (s .step .queued)) (hasRun (actorAt l slot .run))
+      (λ e. same-kept t q good)
+      (λ e. mail-rule t l q good enough (λ (m : MailTaken). Kept t (m .links) q (m .mail .queued)) (same-kept t q good)
+      (λ some. took-kept t l q good enough some))
 
   -- what a transition of an eval actor keeps
   abbrev EvalKept : Table → ℕ → two.EvalBoth → Type 0
@@ -310,16 +384,19 @@ module _ (slot : ℕ) (slot-is : slot < 128) where
   clocked-kept : (t rows l : Table) (q c : ℕ) → Good t → EvalKept t q (two.evalClocked t rows l slot c)
   unfolding two.evalClocked
   clocked-kept t rows l q c good =
-      pick-rule (EvalKept t q) (leb (deadlineOf (actorAt l slot .run)) c) (λ e. finish-kept t rows l q good outcome.Late) (λ e. same-kept t q good)
+      pick-rule (EvalKept t q) (leb (deadlineOf (actorAt l slot .run)) c) (λ e. finish-kept t rows l q good
+      outcome.Late) (λ e. same-kept t q good)
 
   booted-kept : (t rows l : Table) (q : ℕ) → Good t → (b : Bool) → EvalKept t q (two.evalBooted t rows l slot b)
   unfolding two.evalBooted
   booted-kept t rows l q good true = same-kept t q good
   booted-kept t rows l q good false = tell-kept t rows l q good outcome.Unbooted
 
-  started-kept : (t l : Table) (q : ℕ) → Good t → (limit : Limit) (c : ℕ) → EvalKept t q (two.evalStarted t l slot limit c)
+  started-kept : (t l : Table) (q : ℕ) → Good t → (limit : Limit) (c : ℕ)
+      → EvalKept t q (two.evalStarted t l slot limit c)
   unfolding two.evalStarted
-  started-kept t l q good limit c = move-kept t q HAND (handOf slot) good own-hand own-held (λ e. held-not-hand (sym e))
+  started-kept t l q good limit c = move-kept t q HAND (handOf slot) good own-hand own-held
+      (λ e. held-not-hand (sym e))
 
   ran-eval-kept : (t rows l : Table) (q : ℕ) → Good t → (s : Status) → EvalKept t q (two.evalRan t rows l slot s)
   unfolding two.evalRan
@@ -334,7 +411,8 @@ module _ (slot : ℕ) (slot-is : slot < 128) where
   dispatched-eval-kept : (t rows l : Table) (q n : ℕ) → Good t → EvalKept t q (two.evalDispatched t rows l slot n)
   unfolding two.evalDispatched
   dispatched-eval-kept t rows l q n good =
-      pick-rule (EvalKept t q) (ltb 0 n) (λ e. same-kept t q good) (λ e. finish-kept t rows l q good outcome.StuckHostCall)
+      pick-rule (EvalKept t q) (ltb 0 n) (λ e. same-kept t q good) (λ e. finish-kept t rows l q good
+      outcome.StuckHostCall)
 
   module _ (t rows l : Table) (q : ℕ) (good : Good t) (limit : Limit) where
     by-clock : (r : ClockIn) → EvalKept t q (two.clockBy t rows l slot r)
@@ -359,12 +437,12 @@ module _ (slot : ℕ) (slot-is : slot < 128) where
     by-dispatch-eval count.Other = same-kept t q good
 
     -- every transition of an eval actor
-    pub step-eval-kept : (a : EvalAt) (r : Reply) → EvalKept t q (two.stepEval t rows l slot limit a r)
+    pub step-eval-kept : (a : EvalAsk) (r : Reply) → EvalKept t q (two.stepEval t rows l slot limit a r)
     unfolding two.stepEval two.clockReply two.bootReply two.startReply two.runReply two.dispatchReply two.tellReply
     step-eval-kept eval.Clock r = by-clock (clockIn r)
     step-eval-kept eval.Boot r = by-boot (yesIn r)
     step-eval-kept eval.StartClock r = by-start (clockIn r)
     step-eval-kept (eval.Run start) r = by-run-eval start (ranIn r)
     step-eval-kept eval.Dispatch r = by-dispatch-eval (countIn r)
-    step-eval-kept (eval.Tell o) r = pick-rule (EvalKept t q) (isTold r) (λ e. over-eval-kept t rows l q good) (λ e. same-kept t q good)
-    step-eval-kept (eval.End e) r = same-kept t q good
+    step-eval-kept (eval.Tell o) r = pick-rule (EvalKept t q) (isTold r) (λ e. over-eval-kept t rows l q good)
+        (λ e. same-kept t q good)

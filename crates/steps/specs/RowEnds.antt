@@ -1,5 +1,6 @@
--- The starred row ends, as one list. 01's row end 8: tick_ns 300,000,000, timeout 1, clock 100: the deadline is 900,000,100; at it the run ends,
--- one earlier it is resumed. Each test is a truth value that the definitions compute; proofs/Times.antt has the list's one truth.
+-- The starred row ends (docs/RULES.md, Row ends), as one list. Row end 8: tick_ns 300,000,000, timeout 1, clock 100:
+-- the deadline is 900,000,100; at it the run ends, one earlier it is resumed. Each test is a truth value that the
+-- definitions compute; proofs/Times.antt proves all of them as one conjunction.
 use mathlib.Core.Bool.{Bool, true, false}
 use mathlib.Core.List.{List, [], _∷_, _++_}
 use Prim.Native.Nat.{ℕ}
@@ -12,8 +13,10 @@ use Rattle.actor.specs.declared.question.Outcome.{Outcome}
 use Rattle.actor.specs.declared.question.Outcome.the-variants as outcome
 use Rattle.actor.specs.declared.question.Reply.the-variants as reply
 use Rattle.actor.specs.declared.state.Mode.the-variants as mode
-use Rattle.steps.specs.declared.eval.EvalAt.{EvalAt}
-use Rattle.steps.specs.declared.eval.EvalAt.the-variants as at
+use Rattle.steps.specs.declared.eval.EvalAsk.{EvalAsk}
+use Rattle.steps.specs.declared.eval.EvalAsk.the-variants as ask
+use Rattle.steps.specs.declared.eval.EvalNext.{EvalNext}
+use Rattle.steps.specs.declared.eval.EvalNext.the-variants as next
 use Rattle.steps.specs.declared.eval.Limit.{Limit}
 use Rattle.actor.specs.Messages.{messageCells}
 use Rattle.actor.specs.Actors.{actorCells, actorAt, newActor, deadlineOf}
@@ -30,24 +33,30 @@ isLate outcome.Late = true
 isLate outcome.StuckHostCall = false
 isLate outcome.StuckReceive = false
 
-abbrev pub tellsLate : EvalAt → Bool
-tellsLate at.Clock = false
-tellsLate at.Boot = false
-tellsLate at.StartClock = false
-tellsLate (at.Run start) = false
-tellsLate at.Dispatch = false
-tellsLate (at.Tell o) = isLate o
-tellsLate (at.End e) = false
+abbrev pub asksLate : EvalAsk → Bool
+asksLate ask.Clock = false
+asksLate ask.Boot = false
+asksLate ask.StartClock = false
+asksLate (ask.Run start) = false
+asksLate ask.Dispatch = false
+asksLate (ask.Tell o) = isLate o
+
+abbrev pub tellsLate : EvalNext → Bool
+tellsLate (next.Asks a) = asksLate a
+tellsLate (next.Ended p) = false
 
 -- the run is resumed
-abbrev pub resumes : EvalAt → Bool
-resumes at.Clock = false
-resumes at.Boot = false
-resumes at.StartClock = false
-resumes (at.Run start) = pick start false true
-resumes at.Dispatch = false
-resumes (at.Tell o) = false
-resumes (at.End e) = false
+abbrev pub asksResume : EvalAsk → Bool
+asksResume ask.Clock = false
+asksResume ask.Boot = false
+asksResume ask.StartClock = false
+asksResume (ask.Run start) = pick start false true
+asksResume ask.Dispatch = false
+asksResume (ask.Tell o) = false
+
+abbrev pub resumes : EvalNext → Bool
+resumes (next.Asks a) = asksResume a
+resumes (next.Ended p) = false
 
 abbrev limit : Limit
 limit = record { timeout = 1; tick = 300000000 }
@@ -57,20 +66,27 @@ abbrev links : Table
 links = moveFirst (startFrom 0 LISTS) FREE HAND
 
 abbrev rows : Table
-rows = messageCells (record { attempts = 0; name = 0; body = 0; caller = caller.From (record { 0 = 7 }); id = logged.Never }) ∷ []
+rows =
+    messageCells
+    (record { attempts = 0; name = 0; body = 0; caller = caller.From (record { 0 = 7 }); id = logged.Never })
+    ∷ []
 
 abbrev actors : Table
 actors = actorCells (newActor mode.Eval) ∷ []
 
 -- its run is started at clock 100, and later the clock is asked again
 unfoldable pub begun : EvalBoth
-begun = stepEval links rows actors 0 limit at.StartClock (reply.Clock 100)
+begun = stepEval links rows actors 0 limit ask.StartClock (reply.Clock 100)
 
-unfoldable pub asked : ℕ → EvalAt
-asked c = stepEval (begun .links) rows (begun .actors) 0 limit at.Clock (reply.Clock c) .at
+unfoldable pub asked : ℕ → EvalNext
+asked c = stepEval (begun .links) rows (begun .actors) 0 limit ask.Clock (reply.Clock c) .next
 
 unfoldable pub deadlines : List Bool
-deadlines = eqb (deadlineOf (actorAt (begun .actors) 0 .run)) 900000100 ∷ tellsLate (asked 900000100) ∷ resumes (asked 900000099) ∷ []
+deadlines =
+    eqb (deadlineOf (actorAt (begun .actors) 0 .run)) 900000100
+    ∷ tellsLate (asked 900000100)
+    ∷ resumes (asked 900000099)
+    ∷ []
 
 -- all starred row ends: the log's, 1 to 7, and this one
 unfoldable pub starred : List Bool

@@ -7,7 +7,7 @@ use Rattle.lists.specs.Links.{pick, Table, capped, firstOf, moveFirst, moveFirs
 use Rattle.actor.specs.declared.question.Status.{Status}
 use Rattle.actor.specs.declared.question.Status.the-variants as status
 use Rattle.actor.specs.declared.question.Who.{Who}
-use Rattle.actor.specs.declared.question.Question.the-variants as ask
+use Rattle.actor.specs.declared.question.Question.the-variants as question
 use Rattle.actor.specs.declared.question.Asked.{Asked}
 use Rattle.actor.specs.declared.question.Asked.the-variants as asked
 use Rattle.actor.specs.declared.question.Reply.{Reply}
@@ -18,10 +18,12 @@ use Rattle.actor.specs.declared.question.CountIn.the-variants as count
 use Rattle.actor.specs.declared.question.RanIn.{RanIn}
 use Rattle.actor.specs.declared.question.RanIn.the-variants as ran
 use Rattle.actor.specs.declared.state.Wake.the-variants as wake
-use Rattle.steps.specs.declared.step.Step.{Step}
+use Rattle.steps.specs.declared.step.Parked.the-variants as parked
 use Rattle.steps.specs.declared.step.Step.the-variants as end
-use Rattle.steps.specs.declared.fixed.FixedAt.{FixedAt}
-use Rattle.steps.specs.declared.fixed.FixedAt.the-variants as at
+use Rattle.steps.specs.declared.fixed.FixedAsk.{FixedAsk}
+use Rattle.steps.specs.declared.fixed.FixedAsk.the-variants as ask
+use Rattle.steps.specs.declared.fixed.FixedNext.{FixedNext}
+use Rattle.steps.specs.declared.fixed.FixedNext.the-variants as next
 use Rattle.steps.specs.declared.fixed.FixedStep.{FixedStep}
 use Rattle.actor.specs.Questions.{yesIn, countIn, ranIn}
 use Rattle.actor.specs.Actors.{actorAt, putActor, startedAs, consumedAs}
@@ -30,11 +32,11 @@ use Rattle.steps.specs.Steps.{HAND, overFirst, idledAt, MailTaken, takeM
 -- what a transition changes
 pub record FixedActors : Type 0 where
   pub actors : Table
-  pub at : FixedAt
+  pub ask : FixedAsk
 
 pub record FixedLinks : Type 0 where
   pub links : Table
-  pub at : FixedAt
+  pub next : FixedNext
 
 pub record FixedBoth : Type 0 where
   pub links : Table
@@ -44,64 +46,92 @@ pub record FixedBoth : Type 0 where
 -- a step begins: the program is started the first time, and else resumed
 unfoldable pub fixedStart : Table → ℕ → FixedActors
 fixedStart l slot =
-    record { actors = putActor l slot (startedAs (actorAt l slot)); at = pick (actorAt l slot .started) (at.Run false) (at.Run true) }
+    record {
+      actors = putActor l slot (startedAs (actorAt l slot));
+      ask = pick (actorAt l slot .started) (ask.Run false) (ask.Run true);
+    }
 
 -- it raised, or its interpreter broke: the message that it was at goes to the step's hand
 unfoldable pub fixedFailed : Table → ℕ → FixedLinks
-fixedFailed t slot = record { links = moveFirst t (handOf slot) HAND; at = at.End end.Failed }
+fixedFailed t slot = record { links = moveFirst t (handOf slot) HAND; next = next.Ended end.Failed }
 
 -- its message is over: at its end, and back in receive()
-abbrev pub fixedOver : Table → Table → ℕ → FixedAt → FixedLinks
-fixedOver t rows slot a = record { links = overFirst t rows (handOf slot); at = a }
+abbrev pub fixedOver : Table → Table → ℕ → FixedNext → FixedLinks
+fixedOver t rows slot n = record { links = overFirst t rows (handOf slot); next = n }
 
 -- Run
 unfoldable pub fixedRan : Table → Table → ℕ → Status → FixedLinks
-fixedRan t rows slot status.Done = fixedOver t rows slot (at.End end.Done)
-fixedRan t rows slot status.Exit = fixedOver t rows slot (at.End end.Done)
-fixedRan t rows slot status.Preempted = record { links = t; at = at.End end.Yield }
-fixedRan t rows slot status.Event = fixedOver t rows slot at.Drain
-fixedRan t rows slot status.HostCall = record { links = t; at = at.Dispatch }
+fixedRan t rows slot status.Done = fixedOver t rows slot (next.Ended end.Done)
+fixedRan t rows slot status.Exit = fixedOver t rows slot (next.Ended end.Done)
+fixedRan t rows slot status.Preempted = record { links = t; next = next.Ended (end.Parked parked.Yield) }
+fixedRan t rows slot status.Event = fixedOver t rows slot (next.Asks ask.Drain)
+fixedRan t rows slot status.HostCall = record { links = t; next = next.Asks ask.Dispatch }
 fixedRan t rows slot status.Error = fixedFailed t slot
 fixedRan t rows slot status.Broke = fixedFailed t slot
 
 -- with mail Push is asked, else the actor waits
 abbrev pub fixedMail : MailTaken → FixedBoth
-fixedMail m = record { links = m .links; actors = m .actors; step = record { at = pick (m .mail .taken) at.Push (at.End end.Waiting); queued = m .mail .queued } }
+fixedMail m =
+    record {
+      links = m .links;
+      actors = m .actors;
+      step =
+          record {
+            next = pick (m .mail .taken) (next.Asks ask.Push) (next.Ended (end.Parked parked.Waiting));
+            queued = m .mail .queued;
+          };
+    }
 
 -- Drain: an event that came mid-step goes before the mailbox
 unfoldable pub fixedDrained : Table → Table → ℕ → ℕ → ℕ → FixedBoth
 fixedDrained t l slot queued n =
-    pick (ltb 0 n) (record { links = t; actors = l; step = record { at = at.Run false; queued = queued } }) (fixedMail (takeMail t l slot queued))
+    pick (ltb 0 n)
+    (record { links = t; actors = l; step = record { next = next.Asks (ask.Run false); queued = queued } })
+    (fixedMail (takeMail t l slot queued))
 
--- Push yes: the message is in the actor's hands, which is marked to have taken one; no: it is back at the mailbox's front, and the actor waits
+-- Push yes: the message is in the actor's hands, which is marked to have taken one; no: it is back at the mailbox's
+-- front, and the actor waits
 unfoldable pub fixedPushed : Table → Table → ℕ → ℕ → Bool → FixedBoth
 fixedPushed t l slot queued true =
-    record { links = moveFirst t HAND (handOf slot); actors = putActor l slot (consumedAs (actorAt l slot)); step = record { at = at.Run false; queued = queued } }
+    record {
+      links = moveFirst t HAND (handOf slot);
+      actors = putActor l slot (consumedAs (actorAt l slot));
+      step = record { next = next.Asks (ask.Run false); queued = queued };
+    }
 fixedPushed t l slot queued false =
-    record { links = moveFirstToFront t HAND (mailboxOf slot); actors = idledAt l slot; step = record { at = at.End end.Waiting; queued = capped (queued + 1) } }
+    record {
+      links = moveFirstToFront t HAND (mailboxOf slot);
+      actors = idledAt l slot;
+      step = record { next = next.Ended (end.Parked parked.Waiting); queued = capped (queued + 1) };
+    }
 
 -- Dispatch: it waits for its host calls, with no deadline; with none in flight it is stuck
 unfoldable pub fixedDispatched : Table → ℕ → ℕ → FixedLinks
-fixedDispatched t slot n = pick (ltb 0 n) (record { links = t; at = at.End (end.Blocked wake.Never) }) (fixedFailed t slot)
+fixedDispatched t slot n =
+    pick (ltb 0 n)
+    (record { links = t; next = next.Ended (end.Parked (parked.Blocked wake.Never)) })
+    (fixedFailed t slot)
 
 -- ---- from a question and its reply to the next; a reply that does not fit changes nothing
 
 abbrev pub runBy : Table → Table → ℕ → Bool → RanIn → FixedLinks
 runBy t rows slot start (ran.Of s) = fixedRan t rows slot s
-runBy t rows slot start ran.Other = record { links = t; at = at.Run start }
+runBy t rows slot start ran.Other = record { links = t; next = next.Asks (ask.Run start) }
 
 abbrev pub drainBy : Table → Table → ℕ → ℕ → CountIn → FixedBoth
 drainBy t l slot queued (count.Of n) = fixedDrained t l slot queued n
-drainBy t l slot queued count.Other = record { links = t; actors = l; step = record { at = at.Drain; queued = queued } }
+drainBy t l slot queued count.Other =
+    record { links = t; actors = l; step = record { next = next.Asks ask.Drain; queued = queued } }
 
 abbrev pub pushBy : Table → Table → ℕ → ℕ → YesIn → FixedBoth
 pushBy t l slot queued yes.Yes = fixedPushed t l slot queued true
 pushBy t l slot queued yes.No = fixedPushed t l slot queued false
-pushBy t l slot queued yes.Other = record { links = t; actors = l; step = record { at = at.Push; queued = queued } }
+pushBy t l slot queued yes.Other =
+    record { links = t; actors = l; step = record { next = next.Asks ask.Push; queued = queued } }
 
 abbrev pub dispatchBy : Table → ℕ → CountIn → FixedLinks
 dispatchBy t slot (count.Of n) = fixedDispatched t slot n
-dispatchBy t slot count.Other = record { links = t; at = at.Dispatch }
+dispatchBy t slot count.Other = record { links = t; next = next.Asks ask.Dispatch }
 
 unfoldable pub runReply : Table → Table → ℕ → Bool → Reply → FixedLinks
 runReply t rows slot start r = runBy t rows slot start (ranIn r)
@@ -117,20 +147,18 @@ dispatchReply t slot r = dispatchBy t slot (countIn r)
 
 -- where the actors and queued are as they were
 abbrev pub keptFixed : Table → ℕ → FixedLinks → FixedBoth
-keptFixed l queued f = record { links = f .links; actors = l; step = record { at = f .at; queued = queued } }
+keptFixed l queued f = record { links = f .links; actors = l; step = record { next = f .next; queued = queued } }
 
-unfoldable pub stepFixed : Table → Table → Table → ℕ → ℕ → FixedAt → Reply → FixedBoth
-stepFixed t rows l slot queued (at.Run start) r = keptFixed l queued (runReply t rows slot start r)
-stepFixed t rows l slot queued at.Drain r = drainReply t l slot queued r
-stepFixed t rows l slot queued at.Push r = pushReply t l slot queued r
-stepFixed t rows l slot queued at.Dispatch r = keptFixed l queued (dispatchReply t slot r)
-stepFixed t rows l slot queued (at.End e) r = record { links = t; actors = l; step = record { at = at.End e; queued = queued } }
+unfoldable pub stepFixed : Table → Table → Table → ℕ → ℕ → FixedAsk → Reply → FixedBoth
+stepFixed t rows l slot queued (ask.Run start) r = keptFixed l queued (runReply t rows slot start r)
+stepFixed t rows l slot queued ask.Drain r = drainReply t l slot queued r
+stepFixed t rows l slot queued ask.Push r = pushReply t l slot queued r
+stepFixed t rows l slot queued ask.Dispatch r = keptFixed l queued (dispatchReply t slot r)
 
 -- ---- the question that is open, as it is shown; Run of a fixed actor shows no message
 
-unfoldable pub fixedAsks : Table → Who → FixedAt → Asked
-fixedAsks t who (at.Run start) = asked.Open (ask.Run who start found.Nothing)
-fixedAsks t who at.Drain = asked.Open (ask.Drain who)
-fixedAsks t who at.Push = asked.Open (ask.Push who (firstOf t HAND))
-fixedAsks t who at.Dispatch = asked.Open (ask.Dispatch who)
-fixedAsks t who (at.End e) = asked.Nothing
+unfoldable pub fixedAsks : Table → Who → FixedAsk → Asked
+fixedAsks t who (ask.Run start) = asked.Open (question.Run who start found.Nothing)
+fixedAsks t who ask.Drain = asked.Open (question.Drain who)
+fixedAsks t who ask.Push = asked.Open (question.Push who (firstOf t HAND))
+fixedAsks t who ask.Dispatch = asked.Open (question.Dispatch who)

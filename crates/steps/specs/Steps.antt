@@ -49,9 +49,14 @@ pub record MailTaken : Type 0 where
   pub actors : Table
   pub mail : Mail
 
--- the first message of the mailbox goes to the step's hand, and queued is one less; where there is none the actor is idle
+-- the first message of the mailbox goes to the step's hand, and queued is one less; where there is none the actor is
+-- idle
 unfoldable pub takeMail : Table → Table → ℕ → ℕ → MailTaken
 takeMail t actors slot queued =
     pick (eqb (lenOf t (mailboxOf slot)) 0)
     (record { links = t; actors = idledAt actors slot; mail = record { taken = false; queued = queued } })
-    (record { links = moveFirst t (mailboxOf slot) HAND; actors = actors; mail = record { taken = true; queued = queued - 1 } })
+    (record {
+      links = moveFirst t (mailboxOf slot) HAND;
+      actors = actors;
+      mail = record { taken = true; queued = queued - 1 };
+    })

@@ -1,8 +1,30 @@
-// `step_eval` of the Rust, cut at its questions: Clock for a run that waits, else Boot and Clock for the next message; then Run, Dispatch, Tell.
+// `step_eval` of the Rust, cut at its questions: Clock for a run that waits, else Boot and Clock for the next
+// message; then Run, Dispatch, Tell.
 ghost use mathlib.Core.Path.{_≡_};
-ghost use Rattle.steps.specs.StepEval.{deadlineFrom, evalStart, evalOver, evalTell, evalFinish, evalClocked, evalBooted, evalStarted, evalRan, evalDispatched, clockReply, bootReply, startReply, runReply, dispatchReply, tellReply, stepEval, evalShown, askTell, evalAsks};
+ghost use Rattle.steps.specs.StepEval.{
+  deadlineFrom,
+  evalStart,
+  evalOver,
+  evalTell,
+  evalFinish,
+  evalClocked,
+  evalBooted,
+  evalStarted,
+  evalRan,
+  evalDispatched,
+  clockReply,
+  bootReply,
+  startReply,
+  runReply,
+  dispatchReply,
+  tellReply,
+  stepEval,
+  evalShown,
+  askTell,
+  evalAsks,
+};
 use crate::step;
-use crate::step::Step;
+use crate::step::Parked;
 use actor::message::Caller;
 use actor::question;
 use actor::question::Asked;
@@ -20,8 +42,8 @@ use actor::state::EvalRun;
 use actor::state::Wake;
 use lists::Found;
 
-// The question that is open, or how the step ended.
-pub enum EvalAt {
+// The question that is open.
+pub enum EvalAsk {
     // of a run that waited
     Clock,
     // the next message is in the step's hand
@@ -33,12 +55,17 @@ pub enum EvalAt {
     Dispatch,
     // the message is in the step's hand, and the run is gone
     Tell(Outcome),
-    End(Step),
 }
 
-// With how many messages are in mailboxes.
+// What a reply leads to: the next question, or the step's end.
+pub enum EvalNext {
+    Asks(EvalAsk),
+    Ended(Parked),
+}
+
+// What comes next, and the new queued.
 pub struct EvalStep {
-    pub at: EvalAt,
+    pub next: EvalNext,
     pub queued: u64,
 }
 
@@ -48,7 +75,8 @@ pub struct Limit {
     pub tick: u64,
 }
 
-// The clock, and the timeout in whole ticks. Nothing wraps: a timeout past a day gives no time, and the sum is held at the largest number.
+// The clock, and the timeout in whole ticks. Nothing wraps: a timeout past a day gives no time, and the sum is held
+// at the largest number.
 pub fn deadline(clock: u64, limit: Limit) -> u64
     ensures { λ r. ⌜ r ≡ deadlineFrom clock limit ⌝ }
 {
@@ -72,24 +100,34 @@ pub fn eval_start(
     slot: usize,
     queued: u64,
 ) -> EvalStep
-    ensures { λ r. ⌜ record { links = now (links .exit); actors = now (actors .exit); step = r } ≡ evalStart (now (links .entry)) (now (actors .entry)) slot queued ⌝ }
+    ensures { λ r.
+        ⌜ record { links = now (links .exit); actors = now (actors .exit); step = r }
+        ≡ evalStart (now (links .entry)) (now (actors .entry)) slot queued ⌝ }
 {
     let a = state::actor_at(actors, slot);
     let waits = state::has_run(a);
     if waits {
-        let at = EvalAt::Clock;
-        return EvalStep { at, queued };
+        let ask = EvalAsk::Clock;
+        let next = EvalNext::Asks(ask);
+        return EvalStep { next, queued };
     }
     let mail = step::take_mail(links, actors, slot, queued);
     let fewer = mail.queued;
     let taken = mail.taken;
     if taken {
-        let at = EvalAt::Boot;
-        EvalStep { at, queued: fewer }
+        let ask = EvalAsk::Boot;
+        let next = EvalNext::Asks(ask);
+        EvalStep {
+            next,
+            queued: fewer,
+        }
     } else {
-        let end = Step::Waiting;
-        let at = EvalAt::End(end);
-        EvalStep { at, queued: fewer }
+        let end = Parked::Waiting;
+        let next = EvalNext::Ended(end);
+        EvalStep {
+            next,
+            queued: fewer,
+        }
     }
 }
 
@@ -99,19 +137,21 @@ fn eval_over(
     rows: &[[u64; 7]],
     actors: &mut [[u64; 12]],
     slot: usize,
-) -> EvalAt
-    ensures { λ r. ⌜ record { links = now (links .exit); actors = now (actors .exit); at = r } ≡ evalOver (now (links .entry)) (now (rows .entry)) (now (actors .entry)) slot ⌝ }
+) -> EvalNext
+    ensures { λ r.
+        ⌜ record { links = now (links .exit); actors = now (actors .exit); next = r }
+        ≡ evalOver (now (links .entry)) (now (rows .entry)) (now (actors .entry)) slot ⌝ }
 {
     step::over_first(links, rows, lists::HAND);
     let mailbox = lists::mailbox(slot);
     let waiting = lists::length_of(links, mailbox);
     if waiting == 0 {
         step::idle_at(actors, slot);
-        let end = Step::Waiting;
-        EvalAt::End(end)
+        let end = Parked::Waiting;
+        EvalNext::Ended(end)
     } else {
-        let end = Step::Yield;
-        EvalAt::End(end)
+        let end = Parked::Yield;
+        EvalNext::Ended(end)
     }
 }
 
@@ -122,13 +162,18 @@ fn eval_tell(
     actors: &mut [[u64; 12]],
     slot: usize,
     outcome: Outcome,
-) -> EvalAt
-    ensures { λ r. ⌜ record { links = now (links .exit); actors = now (actors .exit); at = r } ≡ evalTell (now (links .entry)) (now (rows .entry)) (now (actors .entry)) slot outcome ⌝ }
+) -> EvalNext
+    ensures { λ r.
+        ⌜ record { links = now (links .exit); actors = now (actors .exit); next = r }
+        ≡ evalTell (now (links .entry)) (now (rows .entry)) (now (actors .entry)) slot outcome ⌝ }
 {
     let found = lists::first(links, lists::HAND);
     let caller = step::caller_first(rows, found);
     match caller {
-        Caller::From(_) => EvalAt::Tell(outcome),
+        Caller::From(_) => {
+            let ask = EvalAsk::Tell(outcome);
+            EvalNext::Asks(ask)
+        }
         Caller::Nobody => eval_over(links, rows, actors, slot),
     }
 }
@@ -140,8 +185,10 @@ fn eval_finish(
     actors: &mut [[u64; 12]],
     slot: usize,
     outcome: Outcome,
-) -> EvalAt
-    ensures { λ r. ⌜ record { links = now (links .exit); actors = now (actors .exit); at = r } ≡ evalFinish (now (links .entry)) (now (rows .entry)) (now (actors .entry)) slot outcome ⌝ }
+) -> EvalNext
+    ensures { λ r.
+        ⌜ record { links = now (links .exit); actors = now (actors .exit); next = r }
+        ≡ evalFinish (now (links .entry)) (now (rows .entry)) (now (actors .entry)) slot outcome ⌝ }
 {
     let a = state::actor_at(actors, slot);
     let none = EvalRun::Nothing;
@@ -159,8 +206,10 @@ pub fn eval_clocked(
     actors: &mut [[u64; 12]],
     slot: usize,
     clock: u64,
-) -> EvalAt
-    ensures { λ r. ⌜ record { links = now (links .exit); actors = now (actors .exit); at = r } ≡ evalClocked (now (links .entry)) (now (rows .entry)) (now (actors .entry)) slot clock ⌝ }
+) -> EvalNext
+    ensures { λ r.
+        ⌜ record { links = now (links .exit); actors = now (actors .exit); next = r }
+        ≡ evalClocked (now (links .entry)) (now (rows .entry)) (now (actors .entry)) slot clock ⌝ }
 {
     let a = state::actor_at(actors, slot);
     let until = state::deadline_of(a);
@@ -168,7 +217,8 @@ pub fn eval_clocked(
         let outcome = Outcome::Late;
         eval_finish(links, rows, actors, slot, outcome)
     } else {
-        EvalAt::Run(false)
+        let ask = EvalAsk::Run(false);
+        EvalNext::Asks(ask)
     }
 }
 
@@ -179,11 +229,14 @@ pub fn eval_booted(
     actors: &mut [[u64; 12]],
     slot: usize,
     booted: bool,
-) -> EvalAt
-    ensures { λ r. ⌜ record { links = now (links .exit); actors = now (actors .exit); at = r } ≡ evalBooted (now (links .entry)) (now (rows .entry)) (now (actors .entry)) slot booted ⌝ }
+) -> EvalNext
+    ensures { λ r.
+        ⌜ record { links = now (links .exit); actors = now (actors .exit); next = r }
+        ≡ evalBooted (now (links .entry)) (now (rows .entry)) (now (actors .entry)) slot booted ⌝ }
 {
     if booted {
-        EvalAt::StartClock
+        let ask = EvalAsk::StartClock;
+        EvalNext::Asks(ask)
     } else {
         let outcome = Outcome::Unbooted;
         eval_tell(links, rows, actors, slot, outcome)
@@ -197,8 +250,10 @@ pub fn eval_started(
     slot: usize,
     limit: Limit,
     clock: u64,
-) -> EvalAt
-    ensures { λ r. ⌜ record { links = now (links .exit); actors = now (actors .exit); at = r } ≡ evalStarted (now (links .entry)) (now (actors .entry)) slot limit clock ⌝ }
+) -> EvalNext
+    ensures { λ r.
+        ⌜ record { links = now (links .exit); actors = now (actors .exit); next = r }
+        ≡ evalStarted (now (links .entry)) (now (actors .entry)) slot limit clock ⌝ }
 {
     let until = deadline(clock, limit);
     let run = EvalRun::Until(until);
@@ -207,7 +262,8 @@ pub fn eval_started(
     state::put_actor(actors, slot, b);
     let hand = lists::hand(slot);
     lists::move_first(links, lists::HAND, hand);
-    EvalAt::Run(true)
+    let ask = EvalAsk::Run(true);
+    EvalNext::Asks(ask)
 }
 
 // Run came back.
@@ -217,8 +273,10 @@ pub fn eval_ran(
     actors: &mut [[u64; 12]],
     slot: usize,
     status: Status,
-) -> EvalAt
-    ensures { λ r. ⌜ record { links = now (links .exit); actors = now (actors .exit); at = r } ≡ evalRan (now (links .entry)) (now (rows .entry)) (now (actors .entry)) slot status ⌝ }
+) -> EvalNext
+    ensures { λ r.
+        ⌜ record { links = now (links .exit); actors = now (actors .exit); next = r }
+        ≡ evalRan (now (links .entry)) (now (rows .entry)) (now (actors .entry)) slot status ⌝ }
 {
     match status {
         Status::Done => {
@@ -230,14 +288,17 @@ pub fn eval_ran(
             eval_finish(links, rows, actors, slot, outcome)
         }
         Status::Preempted => {
-            let end = Step::Yield;
-            EvalAt::End(end)
+            let end = Parked::Yield;
+            EvalNext::Ended(end)
         }
         Status::Event => {
             let outcome = Outcome::StuckReceive;
             eval_finish(links, rows, actors, slot, outcome)
         }
-        Status::HostCall => EvalAt::Dispatch,
+        Status::HostCall => {
+            let ask = EvalAsk::Dispatch;
+            EvalNext::Asks(ask)
+        }
         Status::Error => {
             let outcome = Outcome::Raised;
             eval_finish(links, rows, actors, slot, outcome)
@@ -249,22 +310,25 @@ pub fn eval_ran(
     }
 }
 
-// Dispatch told how many host calls are in flight: the run waits for them until its deadline, and with none it is stuck.
+// Dispatch told how many host calls are in flight: the run waits for them until its deadline, and with none it is
+// stuck.
 pub fn eval_dispatched(
     links: &mut [[u64; 4]],
     rows: &[[u64; 7]],
     actors: &mut [[u64; 12]],
     slot: usize,
     count: u64,
-) -> EvalAt
-    ensures { λ r. ⌜ record { links = now (links .exit); actors = now (actors .exit); at = r } ≡ evalDispatched (now (links .entry)) (now (rows .entry)) (now (actors .entry)) slot count ⌝ }
+) -> EvalNext
+    ensures { λ r.
+        ⌜ record { links = now (links .exit); actors = now (actors .exit); next = r }
+        ≡ evalDispatched (now (links .entry)) (now (rows .entry)) (now (actors .entry)) slot count ⌝ }
 {
     if 0 < count {
         let a = state::actor_at(actors, slot);
         let ns = state::deadline_of(a);
         let until = Wake::At(ns);
-        let end = Step::Blocked(until);
-        return EvalAt::End(end);
+        let end = Parked::Blocked(until);
+        return EvalNext::Ended(end);
     }
     let outcome = Outcome::StuckHostCall;
     eval_finish(links, rows, actors, slot, outcome)
@@ -277,13 +341,18 @@ fn clock_reply(
     actors: &mut [[u64; 12]],
     slot: usize,
     reply: Reply,
-) -> EvalAt
-    ensures { λ r. ⌜ record { links = now (links .exit); actors = now (actors .exit); at = r } ≡ clockReply (now (links .entry)) (now (rows .entry)) (now (actors .entry)) slot reply ⌝ }
+) -> EvalNext
+    ensures { λ r.
+        ⌜ record { links = now (links .exit); actors = now (actors .exit); next = r }
+        ≡ clockReply (now (links .entry)) (now (rows .entry)) (now (actors .entry)) slot reply ⌝ }
 {
     let came = question::clock_in(reply);
     match came {
         ClockIn::Of(ns) => eval_clocked(links, rows, actors, slot, ns),
-        ClockIn::Other => EvalAt::Clock,
+        ClockIn::Other => {
+            let ask = EvalAsk::Clock;
+            EvalNext::Asks(ask)
+        }
     }
 }
 
@@ -294,14 +363,19 @@ fn boot_reply(
     actors: &mut [[u64; 12]],
     slot: usize,
     reply: Reply,
-) -> EvalAt
-    ensures { λ r. ⌜ record { links = now (links .exit); actors = now (actors .exit); at = r } ≡ bootReply (now (links .entry)) (now (rows .entry)) (now (actors .entry)) slot reply ⌝ }
+) -> EvalNext
+    ensures { λ r.
+        ⌜ record { links = now (links .exit); actors = now (actors .exit); next = r }
+        ≡ bootReply (now (links .entry)) (now (rows .entry)) (now (actors .entry)) slot reply ⌝ }
 {
     let came = question::yes_in(reply);
     match came {
         YesIn::Yes => eval_booted(links, rows, actors, slot, true),
         YesIn::No => eval_booted(links, rows, actors, slot, false),
-        YesIn::Other => EvalAt::Boot,
+        YesIn::Other => {
+            let ask = EvalAsk::Boot;
+            EvalNext::Asks(ask)
+        }
     }
 }
 
@@ -312,13 +386,18 @@ fn start_reply(
     slot: usize,
     limit: Limit,
     reply: Reply,
-) -> EvalAt
-    ensures { λ r. ⌜ record { links = now (links .exit); actors = now (actors .exit); at = r } ≡ startReply (now (links .entry)) (now (actors .entry)) slot limit reply ⌝ }
+) -> EvalNext
+    ensures { λ r.
+        ⌜ record { links = now (links .exit); actors = now (actors .exit); next = r }
+        ≡ startReply (now (links .entry)) (now (actors .entry)) slot limit reply ⌝ }
 {
     let came = question::clock_in(reply);
     match came {
         ClockIn::Of(ns) => eval_started(links, actors, slot, limit, ns),
-        ClockIn::Other => EvalAt::StartClock,
+        ClockIn::Other => {
+            let ask = EvalAsk::StartClock;
+            EvalNext::Asks(ask)
+        }
     }
 }
 
@@ -330,13 +409,18 @@ fn run_reply(
     slot: usize,
     start: bool,
     reply: Reply,
-) -> EvalAt
-    ensures { λ r. ⌜ record { links = now (links .exit); actors = now (actors .exit); at = r } ≡ runReply (now (links .entry)) (now (rows .entry)) (now (actors .entry)) slot start reply ⌝ }
+) -> EvalNext
+    ensures { λ r.
+        ⌜ record { links = now (links .exit); actors = now (actors .exit); next = r }
+        ≡ runReply (now (links .entry)) (now (rows .entry)) (now (actors .entry)) slot start reply ⌝ }
 {
     let came = question::ran_in(reply);
     match came {
         RanIn::Of(status) => eval_ran(links, rows, actors, slot, status),
-        RanIn::Other => EvalAt::Run(start),
+        RanIn::Other => {
+            let ask = EvalAsk::Run(start);
+            EvalNext::Asks(ask)
+        }
     }
 }
 
@@ -347,13 +431,18 @@ fn dispatch_reply(
     actors: &mut [[u64; 12]],
     slot: usize,
     reply: Reply,
-) -> EvalAt
-    ensures { λ r. ⌜ record { links = now (links .exit); actors = now (actors .exit); at = r } ≡ dispatchReply (now (links .entry)) (now (rows .entry)) (now (actors .entry)) slot reply ⌝ }
+) -> EvalNext
+    ensures { λ r.
+        ⌜ record { links = now (links .exit); actors = now (actors .exit); next = r }
+        ≡ dispatchReply (now (links .entry)) (now (rows .entry)) (now (actors .entry)) slot reply ⌝ }
 {
     let came = question::count_in(reply);
     match came {
         CountIn::Of(n) => eval_dispatched(links, rows, actors, slot, n),
-        CountIn::Other => EvalAt::Dispatch,
+        CountIn::Other => {
+            let ask = EvalAsk::Dispatch;
+            EvalNext::Asks(ask)
+        }
     }
 }
 
@@ -365,37 +454,41 @@ fn tell_reply(
     slot: usize,
     outcome: Outcome,
     reply: Reply,
-) -> EvalAt
-    ensures { λ r. ⌜ record { links = now (links .exit); actors = now (actors .exit); at = r } ≡ tellReply (now (links .entry)) (now (rows .entry)) (now (actors .entry)) slot outcome reply ⌝ }
+) -> EvalNext
+    ensures { λ r.
+        ⌜ record { links = now (links .exit); actors = now (actors .exit); next = r }
+        ≡ tellReply (now (links .entry)) (now (rows .entry)) (now (actors .entry)) slot outcome reply ⌝ }
 {
     let told = question::is_told(reply);
     if told {
         eval_over(links, rows, actors, slot)
     } else {
-        EvalAt::Tell(outcome)
+        let ask = EvalAsk::Tell(outcome);
+        EvalNext::Asks(ask)
     }
 }
 
-// From the open question and its reply to the next question, or the step's end. A step that ended stays so.
+// From the open question and its reply to the next question, or the step's end.
 pub fn step_eval(
     links: &mut [[u64; 4]],
     rows: &[[u64; 7]],
     actors: &mut [[u64; 12]],
     slot: usize,
     limit: Limit,
-    at: EvalAt,
+    ask: EvalAsk,
     reply: Reply,
-) -> EvalAt
-    ensures { λ r. ⌜ record { links = now (links .exit); actors = now (actors .exit); at = r } ≡ stepEval (now (links .entry)) (now (rows .entry)) (now (actors .entry)) slot limit at reply ⌝ }
+) -> EvalNext
+    ensures { λ r.
+        ⌜ record { links = now (links .exit); actors = now (actors .exit); next = r }
+        ≡ stepEval (now (links .entry)) (now (rows .entry)) (now (actors .entry)) slot limit ask reply ⌝ }
 {
-    match at {
-        EvalAt::Clock => clock_reply(links, rows, actors, slot, reply),
-        EvalAt::Boot => boot_reply(links, rows, actors, slot, reply),
-        EvalAt::StartClock => start_reply(links, actors, slot, limit, reply),
-        EvalAt::Run(start) => run_reply(links, rows, actors, slot, start, reply),
-        EvalAt::Dispatch => dispatch_reply(links, rows, actors, slot, reply),
-        EvalAt::Tell(outcome) => tell_reply(links, rows, actors, slot, outcome, reply),
-        EvalAt::End(end) => EvalAt::End(end),
+    match ask {
+        EvalAsk::Clock => clock_reply(links, rows, actors, slot, reply),
+        EvalAsk::Boot => boot_reply(links, rows, actors, slot, reply),
+        EvalAsk::StartClock => start_reply(links, actors, slot, limit, reply),
+        EvalAsk::Run(start) => run_reply(links, rows, actors, slot, start, reply),
+        EvalAsk::Dispatch => dispatch_reply(links, rows, actors, slot, reply),
+        EvalAsk::Tell(outcome) => tell_reply(links, rows, actors, slot, outcome, reply),
     }
 }
 
@@ -426,23 +519,23 @@ fn ask_tell(caller: Caller, outcome: Outcome) -> Asked
 }
 
 // The question that is open, as it is shown.
-pub fn eval_asks(links: &[[u64; 4]], rows: &[[u64; 7]], who: Who, at: EvalAt) -> Asked
-    ensures { λ r. ⌜ r ≡ evalAsks (now (links .entry)) (now (rows .entry)) who at ⌝ }
+pub fn eval_asks(links: &[[u64; 4]], rows: &[[u64; 7]], who: Who, ask: EvalAsk) -> Asked
+    ensures { λ r. ⌜ r ≡ evalAsks (now (links .entry)) (now (rows .entry)) who ask ⌝ }
 {
-    match at {
-        EvalAt::Clock => {
+    match ask {
+        EvalAsk::Clock => {
             let q = Question::Clock;
             Asked::Open(q)
         }
-        EvalAt::Boot => {
+        EvalAsk::Boot => {
             let q = Question::Boot(who.group);
             Asked::Open(q)
         }
-        EvalAt::StartClock => {
+        EvalAsk::StartClock => {
             let q = Question::Clock;
             Asked::Open(q)
         }
-        EvalAt::Run(start) => {
+        EvalAsk::Run(start) => {
             let message = eval_shown(links, who, start);
             let q = Question::Run {
                 who,
@@ -451,15 +544,14 @@ pub fn eval_asks(links: &[[u64; 4]], rows: &[[u64; 7]], who: Who, at: EvalAt) ->
             };
             Asked::Open(q)
         }
-        EvalAt::Dispatch => {
+        EvalAsk::Dispatch => {
             let q = Question::Dispatch(who);
             Asked::Open(q)
         }
-        EvalAt::Tell(outcome) => {
+        EvalAsk::Tell(outcome) => {
             let found = lists::first(links, lists::HAND);
             let caller = step::caller_first(rows, found);
             ask_tell(caller, outcome)
         }
-        EvalAt::End(_) => Asked::Nothing,
     }
 }

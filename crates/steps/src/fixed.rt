@@ -1,7 +1,21 @@
 // `step_fixed` of the Rust, cut at its questions: Run, and after it Drain, Push or Dispatch, until the step ends.
 ghost use mathlib.Core.Path.{_≡_};
-ghost use Rattle.steps.specs.StepFixed.{fixedStart, fixedFailed, fixedRan, fixedDrained, fixedPushed, fixedDispatched, runReply, drainReply, pushReply, dispatchReply, stepFixed, fixedAsks};
+ghost use Rattle.steps.specs.StepFixed.{
+  fixedStart,
+  fixedFailed,
+  fixedRan,
+  fixedDrained,
+  fixedPushed,
+  fixedDispatched,
+  runReply,
+  drainReply,
+  pushReply,
+  dispatchReply,
+  stepFixed,
+  fixedAsks,
+};
 use crate::step;
+use crate::step::Parked;
 use crate::step::Step;
 use actor::question;
 use actor::question::Asked;
@@ -16,73 +30,90 @@ use actor::state;
 use actor::state::Wake;
 use lists::Found;
 
-// The question that is open, or how the step ended.
-pub enum FixedAt {
+// The question that is open.
+pub enum FixedAsk {
     // start, or resume
     Run(bool),
     Drain,
     // the message is in the step's hand
     Push,
     Dispatch,
-    End(Step),
 }
 
-// With how many messages are in mailboxes.
+// What a reply leads to: the next question, or the step's end.
+pub enum FixedNext {
+    Asks(FixedAsk),
+    Ended(Step),
+}
+
+// What comes next, and the new queued.
 pub struct FixedStep {
-    pub at: FixedAt,
+    pub next: FixedNext,
     pub queued: u64,
 }
 
 // A step begins: the program is started the first time, and else resumed.
-pub fn fixed_start(actors: &mut [[u64; 12]], slot: usize) -> FixedAt
-    ensures { λ r. ⌜ record { actors = now (actors .exit); at = r } ≡ fixedStart (now (actors .entry)) slot ⌝ }
+pub fn fixed_start(actors: &mut [[u64; 12]], slot: usize) -> FixedAsk
+    ensures { λ r. ⌜ record { actors = now (actors .exit); ask = r } ≡ fixedStart (now (actors .entry)) slot ⌝ }
 {
     let a = state::actor_at(actors, slot);
     let before = a.started;
     let b = state::started(a);
     state::put_actor(actors, slot, b);
     if before {
-        FixedAt::Run(false)
+        FixedAsk::Run(false)
     } else {
-        FixedAt::Run(true)
+        FixedAsk::Run(true)
     }
 }
 
 // It raised: the message that it was at goes to the step's hand.
-fn fixed_failed(links: &mut [[u64; 4]], slot: usize) -> FixedAt
-    ensures { λ r. ⌜ record { links = now (links .exit); at = r } ≡ fixedFailed (now (links .entry)) slot ⌝ }
+fn fixed_failed(links: &mut [[u64; 4]], slot: usize) -> FixedNext
+    ensures { λ r. ⌜ record { links = now (links .exit); next = r } ≡ fixedFailed (now (links .entry)) slot ⌝ }
 {
     let hand = lists::hand(slot);
     lists::move_first(links, hand, lists::HAND);
     let end = Step::Failed;
-    FixedAt::End(end)
+    FixedNext::Ended(end)
 }
 
 // Run came back. Back in receive() or at its end, the message that it had is over.
-pub fn fixed_ran(links: &mut [[u64; 4]], rows: &[[u64; 7]], slot: usize, status: Status) -> FixedAt
-    ensures { λ r. ⌜ record { links = now (links .exit); at = r } ≡ fixedRan (now (links .entry)) (now (rows .entry)) slot status ⌝ }
+pub fn fixed_ran(
+    links: &mut [[u64; 4]],
+    rows: &[[u64; 7]],
+    slot: usize,
+    status: Status,
+) -> FixedNext
+    ensures { λ r.
+        ⌜ record { links = now (links .exit); next = r }
+        ≡ fixedRan (now (links .entry)) (now (rows .entry)) slot status ⌝ }
 {
     let hand = lists::hand(slot);
     match status {
         Status::Done => {
             step::over_first(links, rows, hand);
             let end = Step::Done;
-            FixedAt::End(end)
+            FixedNext::Ended(end)
         }
         Status::Exit => {
             step::over_first(links, rows, hand);
             let end = Step::Done;
-            FixedAt::End(end)
+            FixedNext::Ended(end)
         }
         Status::Preempted => {
-            let end = Step::Yield;
-            FixedAt::End(end)
+            let parked = Parked::Yield;
+            let end = Step::Parked(parked);
+            FixedNext::Ended(end)
         }
         Status::Event => {
             step::over_first(links, rows, hand);
-            FixedAt::Drain
+            let ask = FixedAsk::Drain;
+            FixedNext::Asks(ask)
         }
-        Status::HostCall => FixedAt::Dispatch,
+        Status::HostCall => {
+            let ask = FixedAsk::Dispatch;
+            FixedNext::Asks(ask)
+        }
         Status::Error => fixed_failed(links, slot),
         Status::Broke => fixed_failed(links, slot),
     }
@@ -96,22 +127,33 @@ pub fn fixed_drained(
     queued: u64,
     count: u64,
 ) -> FixedStep
-    ensures { λ r. ⌜ record { links = now (links .exit); actors = now (actors .exit); step = r } ≡ fixedDrained (now (links .entry)) (now (actors .entry)) slot queued count ⌝ }
+    ensures { λ r.
+        ⌜ record { links = now (links .exit); actors = now (actors .exit); step = r }
+        ≡ fixedDrained (now (links .entry)) (now (actors .entry)) slot queued count ⌝ }
 {
     if 0 < count {
-        let at = FixedAt::Run(false);
-        return FixedStep { at, queued };
+        let ask = FixedAsk::Run(false);
+        let next = FixedNext::Asks(ask);
+        return FixedStep { next, queued };
     }
     let mail = step::take_mail(links, actors, slot, queued);
     let fewer = mail.queued;
     let taken = mail.taken;
     if taken {
-        let at = FixedAt::Push;
-        FixedStep { at, queued: fewer }
+        let ask = FixedAsk::Push;
+        let next = FixedNext::Asks(ask);
+        FixedStep {
+            next,
+            queued: fewer,
+        }
     } else {
-        let end = Step::Waiting;
-        let at = FixedAt::End(end);
-        FixedStep { at, queued: fewer }
+        let parked = Parked::Waiting;
+        let end = Step::Parked(parked);
+        let next = FixedNext::Ended(end);
+        FixedStep {
+            next,
+            queued: fewer,
+        }
     }
 }
 
@@ -123,7 +165,9 @@ pub fn fixed_pushed(
     queued: u64,
     taken: bool,
 ) -> FixedStep
-    ensures { λ r. ⌜ record { links = now (links .exit); actors = now (actors .exit); step = r } ≡ fixedPushed (now (links .entry)) (now (actors .entry)) slot queued taken ⌝ }
+    ensures { λ r.
+        ⌜ record { links = now (links .exit); actors = now (actors .exit); step = r }
+        ≡ fixedPushed (now (links .entry)) (now (actors .entry)) slot queued taken ⌝ }
 {
     if taken {
         let a = state::actor_at(actors, slot);
@@ -131,27 +175,32 @@ pub fn fixed_pushed(
         state::put_actor(actors, slot, b);
         let hand = lists::hand(slot);
         lists::move_first(links, lists::HAND, hand);
-        let at = FixedAt::Run(false);
-        FixedStep { at, queued }
+        let ask = FixedAsk::Run(false);
+        let next = FixedNext::Asks(ask);
+        FixedStep { next, queued }
     } else {
         let mailbox = lists::mailbox(slot);
         lists::move_first_to_front(links, lists::HAND, mailbox);
         step::idle_at(actors, slot);
         let more = lists::sum(queued, 1);
-        let end = Step::Waiting;
-        let at = FixedAt::End(end);
-        FixedStep { at, queued: more }
+        let parked = Parked::Waiting;
+        let end = Step::Parked(parked);
+        let next = FixedNext::Ended(end);
+        FixedStep { next, queued: more }
     }
 }
 
 // Dispatch told how many host calls are in flight: it waits for them, and with none it is stuck.
-pub fn fixed_dispatched(links: &mut [[u64; 4]], slot: usize, count: u64) -> FixedAt
-    ensures { λ r. ⌜ record { links = now (links .exit); at = r } ≡ fixedDispatched (now (links .entry)) slot count ⌝ }
+pub fn fixed_dispatched(links: &mut [[u64; 4]], slot: usize, count: u64) -> FixedNext
+    ensures { λ r.
+        ⌜ record { links = now (links .exit); next = r }
+        ≡ fixedDispatched (now (links .entry)) slot count ⌝ }
 {
     if 0 < count {
         let until = Wake::Never;
-        let end = Step::Blocked(until);
-        return FixedAt::End(end);
+        let parked = Parked::Blocked(until);
+        let end = Step::Parked(parked);
+        return FixedNext::Ended(end);
     }
     fixed_failed(links, slot)
 }
@@ -163,13 +212,18 @@ fn run_reply(
     slot: usize,
     start: bool,
     reply: Reply,
-) -> FixedAt
-    ensures { λ r. ⌜ record { links = now (links .exit); at = r } ≡ runReply (now (links .entry)) (now (rows .entry)) slot start reply ⌝ }
+) -> FixedNext
+    ensures { λ r.
+        ⌜ record { links = now (links .exit); next = r }
+        ≡ runReply (now (links .entry)) (now (rows .entry)) slot start reply ⌝ }
 {
     let came = question::ran_in(reply);
     match came {
         RanIn::Of(status) => fixed_ran(links, rows, slot, status),
-        RanIn::Other => FixedAt::Run(start),
+        RanIn::Other => {
+            let ask = FixedAsk::Run(start);
+            FixedNext::Asks(ask)
+        }
     }
 }
 
@@ -181,14 +235,17 @@ fn drain_reply(
     queued: u64,
     reply: Reply,
 ) -> FixedStep
-    ensures { λ r. ⌜ record { links = now (links .exit); actors = now (actors .exit); step = r } ≡ drainReply (now (links .entry)) (now (actors .entry)) slot queued reply ⌝ }
+    ensures { λ r.
+        ⌜ record { links = now (links .exit); actors = now (actors .exit); step = r }
+        ≡ drainReply (now (links .entry)) (now (actors .entry)) slot queued reply ⌝ }
 {
     let came = question::count_in(reply);
     match came {
         CountIn::Of(n) => fixed_drained(links, actors, slot, queued, n),
         CountIn::Other => {
-            let at = FixedAt::Drain;
-            FixedStep { at, queued }
+            let ask = FixedAsk::Drain;
+            let next = FixedNext::Asks(ask);
+            FixedStep { next, queued }
         }
     }
 }
@@ -201,66 +258,70 @@ fn push_reply(
     queued: u64,
     reply: Reply,
 ) -> FixedStep
-    ensures { λ r. ⌜ record { links = now (links .exit); actors = now (actors .exit); step = r } ≡ pushReply (now (links .entry)) (now (actors .entry)) slot queued reply ⌝ }
+    ensures { λ r.
+        ⌜ record { links = now (links .exit); actors = now (actors .exit); step = r }
+        ≡ pushReply (now (links .entry)) (now (actors .entry)) slot queued reply ⌝ }
 {
     let came = question::yes_in(reply);
     match came {
         YesIn::Yes => fixed_pushed(links, actors, slot, queued, true),
         YesIn::No => fixed_pushed(links, actors, slot, queued, false),
         YesIn::Other => {
-            let at = FixedAt::Push;
-            FixedStep { at, queued }
+            let ask = FixedAsk::Push;
+            let next = FixedNext::Asks(ask);
+            FixedStep { next, queued }
         }
     }
 }
 
 // The reply to Dispatch; one that does not fit changes nothing.
-fn dispatch_reply(links: &mut [[u64; 4]], slot: usize, reply: Reply) -> FixedAt
-    ensures { λ r. ⌜ record { links = now (links .exit); at = r } ≡ dispatchReply (now (links .entry)) slot reply ⌝ }
+fn dispatch_reply(links: &mut [[u64; 4]], slot: usize, reply: Reply) -> FixedNext
+    ensures { λ r. ⌜ record { links = now (links .exit); next = r } ≡ dispatchReply (now (links .entry)) slot reply ⌝ }
 {
     let came = question::count_in(reply);
     match came {
         CountIn::Of(n) => fixed_dispatched(links, slot, n),
-        CountIn::Other => FixedAt::Dispatch,
+        CountIn::Other => {
+            let ask = FixedAsk::Dispatch;
+            FixedNext::Asks(ask)
+        }
     }
 }
 
-// From the open question and its reply to the next question, or the step's end. A step that ended stays so.
+// From the open question and its reply to the next question, or the step's end.
 pub fn step_fixed(
     links: &mut [[u64; 4]],
     rows: &[[u64; 7]],
     actors: &mut [[u64; 12]],
     slot: usize,
     queued: u64,
-    at: FixedAt,
+    ask: FixedAsk,
     reply: Reply,
 ) -> FixedStep
-    ensures { λ r. ⌜ record { links = now (links .exit); actors = now (actors .exit); step = r } ≡ stepFixed (now (links .entry)) (now (rows .entry)) (now (actors .entry)) slot queued at reply ⌝ }
+    ensures { λ r.
+        ⌜ record { links = now (links .exit); actors = now (actors .exit); step = r }
+        ≡ stepFixed (now (links .entry)) (now (rows .entry)) (now (actors .entry)) slot queued ask reply ⌝ }
 {
-    match at {
-        FixedAt::Run(start) => {
+    match ask {
+        FixedAsk::Run(start) => {
             let next = run_reply(links, rows, slot, start, reply);
-            FixedStep { at: next, queued }
+            FixedStep { next, queued }
         }
-        FixedAt::Drain => drain_reply(links, actors, slot, queued, reply),
-        FixedAt::Push => push_reply(links, actors, slot, queued, reply),
-        FixedAt::Dispatch => {
+        FixedAsk::Drain => drain_reply(links, actors, slot, queued, reply),
+        FixedAsk::Push => push_reply(links, actors, slot, queued, reply),
+        FixedAsk::Dispatch => {
             let next = dispatch_reply(links, slot, reply);
-            FixedStep { at: next, queued }
-        }
-        FixedAt::End(end) => {
-            let next = FixedAt::End(end);
-            FixedStep { at: next, queued }
+            FixedStep { next, queued }
         }
     }
 }
 
 // The question that is open, as it is shown.
-pub fn fixed_asks(links: &[[u64; 4]], who: Who, at: FixedAt) -> Asked
-    ensures { λ r. ⌜ r ≡ fixedAsks (now (links .entry)) who at ⌝ }
+pub fn fixed_asks(links: &[[u64; 4]], who: Who, ask: FixedAsk) -> Asked
+    ensures { λ r. ⌜ r ≡ fixedAsks (now (links .entry)) who ask ⌝ }
 {
-    match at {
-        FixedAt::Run(start) => {
+    match ask {
+        FixedAsk::Run(start) => {
             let message = Found::Nothing;
             let q = Question::Run {
                 who,
@@ -269,19 +330,18 @@ pub fn fixed_asks(links: &[[u64; 4]], who: Who, at: FixedAt) -> Asked
             };
             Asked::Open(q)
         }
-        FixedAt::Drain => {
+        FixedAsk::Drain => {
             let q = Question::Drain(who);
             Asked::Open(q)
         }
-        FixedAt::Push => {
+        FixedAsk::Push => {
             let message = lists::first(links, lists::HAND);
             let q = Question::Push { who, message };
             Asked::Open(q)
         }
-        FixedAt::Dispatch => {
+        FixedAsk::Dispatch => {
             let q = Question::Dispatch(who);
             Asked::Open(q)
         }
-        FixedAt::End(_) => Asked::Nothing,
     }
 }

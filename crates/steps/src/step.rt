@@ -8,21 +8,32 @@ use actor::state;
 use actor::state::Wake;
 use lists::Found;
 
-// How a step left its actor.
-pub enum Step {
-    // it ran to its end
-    Done,
+// How a step left an actor that goes on. A step of an eval actor always ends so.
+pub enum Parked {
     // parked in receive()
     Waiting,
     // parked on a host call, woken at the latest then
     Blocked(Wake),
     // it handed the thread on
     Yield,
+}
+
+// How a step of a fixed actor ended.
+pub enum Step {
+    // it ran to its end
+    Done,
+    Parked(Parked),
     // it raised; the message that it was at is in the step's hand
     Failed,
 }
 
-// Whether there was mail, and how many messages are in mailboxes now.
+// How a step ended, of an actor of either mode.
+pub enum End {
+    Fixed(Step),
+    Eval(Parked),
+}
+
+// Whether there was mail, and the new queued.
 pub struct Mail {
     pub taken: bool,
     pub queued: u64,
@@ -84,7 +95,9 @@ pub fn idle_at(actors: &mut [[u64; 12]], slot: usize)
 
 // The first message of the mailbox goes to the step's hand; where there is none the actor is idle.
 pub fn take_mail(links: &mut [[u64; 4]], actors: &mut [[u64; 12]], slot: usize, queued: u64) -> Mail
-    ensures { λ r. ⌜ record { links = now (links .exit); actors = now (actors .exit); mail = r } ≡ takeMail (now (links .entry)) (now (actors .entry)) slot queued ⌝ }
+    ensures { λ r.
+        ⌜ record { links = now (links .exit); actors = now (actors .exit); mail = r }
+        ≡ takeMail (now (links .entry)) (now (actors .entry)) slot queued ⌝ }
 {
     let mailbox = lists::mailbox(slot);
     let waiting = lists::length_of(links, mailbox);

@@ -44,14 +44,16 @@ told-over n most e = at (leb n most) refl
     at true p = let z : _≡_ {A = ℕ} 0 1 = cc in absurd (omega arith)
     at false p = leb-false n most p
 
-pub filled-len : (old text new : List ℕ) (n : ℕ) → length text ≤ length old → Wrote old 0 text new n → _≡_ {A = Filled} (record { bytes = new; answer = Len n }) (filled old text)
+pub filled-len : (old text new : List ℕ) (n : ℕ) → length text ≤ length old → Wrote old 0 text new n
+    → _≡_ {A = Filled} (record { bytes = new; answer = Len n }) (filled old text)
 unfolding filled
 filled-len old text new n h w =
     let a : n ≡ length text = omega (arith, w .past) in
     let b : new ≡ write old 0 text = w .bytes in
     cc (le-leb (length text) (length old) h)
 
-pub filled-over : (old text : List ℕ) → length old < length text → _≡_ {A = Filled} (record { bytes = old; answer = Over }) (filled old text)
+pub filled-over : (old text : List ℕ) → length old < length text
+    → _≡_ {A = Filled} (record { bytes = old; answer = Over }) (filled old text)
 unfolding filled
 filled-over old text h = cc (lt-leb (length text) (length old) h)
 
@@ -63,7 +65,8 @@ mutual
   unescape-long [] = omega arith
   unescape-long (b ∷ s) = at (eqb b BACKSLASH) refl (unescape-long s) (next-long s)
     where
-      at : (t : Bool) → eqb b BACKSLASH ≡ t → length s ≤ 2 * length (unescape s) + 1 → length s ≤ 2 * length (unescape-next s) → length (b ∷ s) ≤ 2 * length (unescape (b ∷ s)) + 1
+      at : (t : Bool) → eqb b BACKSLASH ≡ t → length s ≤ 2 * length (unescape s) + 1
+          → length s ≤ 2 * length (unescape-next s) → length (b ∷ s) ≤ 2 * length (unescape (b ∷ s)) + 1
       at true e p q = rw (e, unescape) (omega arith)
       at false e p q = rw (e, unescape) (omega arith)
 
@@ -72,19 +75,26 @@ mutual
   next-long (b ∷ s) = omega (arith, unescape-long s)
 
 -- a text that fits was put at the front
-filled-fits : (old text : List ℕ) → length text ≤ length old → filled old text ≡ record { bytes = write old 0 text; answer = Len (length text) }
+filled-fits : (old text : List ℕ) → length text ≤ length old → filled old text ≡ record {
+  bytes = write old 0 text;
+  answer = Len (length text);
+}
 unfolding filled
 filled-fits old text h = cc (le-leb (length text) (length old) h)
 
-pub filled-bytes : (old text new : List ℕ) (a : Measure) → length text ≤ length old → _≡_ {A = Filled} (record { bytes = new; answer = a }) (filled old text) → new ≡ write old 0 text
+pub filled-bytes : (old text new : List ℕ) (a : Measure) → length text ≤ length old
+    → _≡_ {A = Filled} (record { bytes = new; answer = a }) (filled old text) → new ≡ write old 0 text
 filled-bytes old text new a h e = ap (λ f. f .bytes) (e ∙ filled-fits old text h)
 
-pub filled-answer : (old text new : List ℕ) (a : Measure) → length text ≤ length old → _≡_ {A = Filled} (record { bytes = new; answer = a }) (filled old text) → a ≡ Len (length text)
+pub filled-answer : (old text new : List ℕ) (a : Measure) → length text ≤ length old
+    → _≡_ {A = Filled} (record { bytes = new; answer = a }) (filled old text) → a ≡ Len (length text)
 filled-answer old text new a h e = ap (λ f. f .answer) (e ∙ filled-fits old text h)
 
 -- the same, put into a part of a slice that begins at a, said of the whole
-pub filled-part : (d : List ℕ) (a : ℕ) (text last : List ℕ) (r : Measure) → a + length text ≤ length d → _≡_ {A = Filled} (record { bytes = last; answer = r }) (filled (take (length d - a) (drop a d)) text)
+pub filled-part : (d : List ℕ) (a : ℕ) (text last : List ℕ) (r : Measure) → a + length text ≤ length d
+    → _≡_ {A = Filled} (record { bytes = last; answer = r }) (filled (take (length d - a) (drop a d)) text)
     → putMid a (length d - a) d last ≡ write d a text
 filled-part d a text last r h e =
     let room : length text ≤ length (take (length d - a) (drop a d)) = simp (length-take, length-drop) (omega arith) in
-    ap (putMid a (length d - a) d) (filled-bytes (take (length d - a) (drop a d)) text last r room e) ∙ part-back d a text h
+    ap (putMid a (length d - a) d) (filled-bytes (take (length d - a) (drop a d)) text last r room e)
+    ∙ part-back d a text h

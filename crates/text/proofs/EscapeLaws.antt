@@ -9,7 +9,8 @@ use borrow.Author.Tests.{eq-eqb, ne-eqb}
 use lib.Dec.{eqb}
 use lib.ListN.{length, drop, getD, length-append, drop-of-length-le}
 use lib.Seq.{drop-cons}
-use Rattle.text.specs.Format.{TAB, LF, BACKSLASH, LETTER-t, LETTER-n, escapeByte, escape, escaped, unescape, unescape-next}
+use Rattle.text.specs.Format.{TAB, LF, BACKSLASH, LETTER-t, LETTER-n, escapeByte, escape, escaped, unescape}
+use Rattle.text.specs.Format.{unescape-next}
 use Rattle.text.proofs.Bridge as Bridge
 
 pub byte-backslash : (b : ℕ) → b ≡ 92 → escapeByte b ≡ 92 ∷ 92 ∷ []
@@ -32,7 +33,8 @@ pub byte-width : (b : ℕ) → length (escapeByte b) ≤ 2
 unfolding escapeByte
 byte-width b = at (eqb b BACKSLASH) refl (eqb b TAB) refl (eqb b LF) refl
   where
-    at : (p : Bool) → eqb b BACKSLASH ≡ p → (q : Bool) → eqb b TAB ≡ q → (r : Bool) → eqb b LF ≡ r → length (escapeByte b) ≤ 2
+    at : (p : Bool) → eqb b BACKSLASH ≡ p → (q : Bool) → eqb b TAB ≡ q → (r : Bool) → eqb b LF ≡ r
+        → length (escapeByte b) ≤ 2
     at true e q f r g = rw (e, escapeByte) (omega arith)
     at false e true f r g = rw (e, escapeByte) (rw f (omega arith))
     at false e false f true g = rw (e, escapeByte) (rw f (rw g (omega arith)))
@@ -47,7 +49,8 @@ module _ (s : List ℕ) (i : ℕ) where
   unfolding escape
   escape-more h = rw (add-one, drop-cons s i 0)
 
-  pub escape-width : i < length s → length (escape (drop i s)) ≡ length (escapeByte (getD s i 0)) + length (escape (drop (i + 1) s))
+  pub escape-width : i < length s → length (escape (drop i s)) ≡ length (escapeByte (getD s i 0)) + length
+      (escape (drop (i + 1) s))
   escape-width h = ap length (escape-more h) ∙ length-append (escapeByte (getD s i 0)) (escape (drop (i + 1) s))
 
   pub plain-end : length s ≤ i → unescape (drop i s) ≡ []

@@ -9,14 +9,17 @@ use borrow.Author.Tests.{ltb-true, eqb-true, lt-ltb, le-leb, eq-eqb, ne-eqb}
 use lib.Dec.{eqb, leb, ltb}
 use lib.ListN.{length, length-append}
 use Rattle.text.specs.Bytes.{All, Free}
-use Rattle.text.specs.Format.{TAB, LF, PLUS, DIGIT0, BACKSLASH, escapeByte, escape, Message, recordText, escaped, unescape, digits, printId, decimal, below64, readDigits, readId, line, joinHead, split, allButLast, lines, fields}
+use Rattle.text.specs.Format.{TAB, LF, PLUS, DIGIT0, BACKSLASH, escapeByte, escape, Message, recordText, escaped}
+use Rattle.text.specs.Format.{unescape, digits, printId, decimal, below64, readDigits, readId, line, joinHead}
+use Rattle.text.specs.Format.{split, allButLast, lines, fields}
 
 -- unescape gives back what was escaped
 unescape-byte : (b : ℕ) (rest : List ℕ) → unescape (escapeByte b ++ rest) ≡ b ∷ unescape rest
 unfolding escapeByte unescape escaped
 unescape-byte b rest = at-backslash (eqb b BACKSLASH) refl
   where
-    at-lf : (t : Bool) → eqb b LF ≡ t → eqb b BACKSLASH ≡ false → eqb b TAB ≡ false → unescape (escapeByte b ++ rest) ≡ b ∷ unescape rest
+    at-lf : (t : Bool) → eqb b LF ≡ t → eqb b BACKSLASH ≡ false → eqb b TAB ≡ false → unescape (escapeByte b ++ rest)
+        ≡ b ∷ unescape rest
     at-lf true e p q = cc (eqb-true b LF e)
     at-lf false e p q = cc
 
@@ -67,7 +70,8 @@ escape-plain [] = tt
 escape-plain (b ∷ bs) = All-append Plain (escapeByte b) (escape bs) (escapeByte-plain b) (escape-plain bs)
 
 -- decimal numbers
-decimal-digit : (high d : ℕ) (rest : List ℕ) → d < 10 → decimal high ((DIGIT0 + d) ∷ rest) ≡ decimal (high * 10 + d) rest
+decimal-digit : (high d : ℕ) (rest : List ℕ) → d < 10 → decimal high ((DIGIT0 + d) ∷ rest)
+    ≡ decimal (high * 10 + d) rest
 unfolding decimal
 decimal-digit high d rest h =
     let p : leb DIGIT0 (DIGIT0 + d) ≡ true = le-leb DIGIT0 (DIGIT0 + d) (omega arith) in
@@ -75,16 +79,21 @@ decimal-digit high d rest h =
     let r : (DIGIT0 + d) - DIGIT0 ≡ d = omega arith in
     cc
 
-decimal-snoc : (bs : List ℕ) (high v d : ℕ) → d < 10 → decimal high bs ≡ some v → decimal high (bs ++ ((DIGIT0 + d) ∷ [])) ≡ some (v * 10 + d)
+decimal-snoc : (bs : List ℕ) (high v d : ℕ) → d < 10 → decimal high bs ≡ some v
+    → decimal high (bs ++ ((DIGIT0 + d) ∷ [])) ≡ some (v * 10 + d)
 unfolding decimal
 decimal-snoc [] high v d h e = let q : high ≡ v = cc in cc (decimal-digit high d [] h)
 decimal-snoc (b ∷ bs) high v d h e = at-low (leb DIGIT0 b) refl (λ k. decimal-snoc bs k v d h)
   where
-    at-high : (t : Bool) → ltb b (DIGIT0 + 10) ≡ t → leb DIGIT0 b ≡ true → ((k : ℕ) → decimal k bs ≡ some v → decimal k (bs ++ ((DIGIT0 + d) ∷ [])) ≡ some (v * 10 + d)) → decimal high (b ∷ (bs ++ ((DIGIT0 + d) ∷ []))) ≡ some (v * 10 + d)
-    at-high true p q ih = let s : decimal (high * 10 + (b - DIGIT0)) bs ≡ some v = cc in cc (ih (high * 10 + (b - DIGIT0)) s)
+    at-high : (t : Bool) → ltb b (DIGIT0 + 10) ≡ t → leb DIGIT0 b ≡ true → ((k : ℕ) → decimal k bs ≡ some v
+        → decimal k (bs ++ ((DIGIT0 + d) ∷ [])) ≡ some (v * 10 + d)) → decimal high (b ∷ (bs ++ ((DIGIT0 + d) ∷ [])))
+        ≡ some (v * 10 + d)
+    at-high true p q ih = let s : decimal (high * 10 + (b - DIGIT0)) bs ≡ some v = cc in
+        cc (ih (high * 10 + (b - DIGIT0)) s)
     at-high false p q ih = cc
 
-    at-low : (t : Bool) → leb DIGIT0 b ≡ t → ((k : ℕ) → decimal k bs ≡ some v → decimal k (bs ++ ((DIGIT0 + d) ∷ [])) ≡ some (v * 10 + d)) → decimal high (b ∷ (bs ++ ((DIGIT0 + d) ∷ []))) ≡ some (v * 10 + d)
+    at-low : (t : Bool) → leb DIGIT0 b ≡ t → ((k : ℕ) → decimal k bs ≡ some v → decimal k (bs ++ ((DIGIT0 + d) ∷ []))
+        ≡ some (v * 10 + d)) → decimal high (b ∷ (bs ++ ((DIGIT0 + d) ∷ []))) ≡ some (v * 10 + d)
     at-low true p ih = at-high (ltb b (DIGIT0 + 10)) refl p ih
     at-low false p ih = cc
 
@@ -97,7 +106,8 @@ unfolding digits decimal
 digits-say zero n h = let z : n ≡ 0 = omega arith in cc
 digits-say (suc places) n h = at (ltb n 10) refl (digits-say places (n / 10))
   where
-    at : (t : Bool) → ltb n 10 ≡ t → (n / 10 < 10 ^ places → decimal 0 (digits places (n / 10)) ≡ some (n / 10)) → decimal 0 (digits (suc places) n) ≡ some n
+    at : (t : Bool) → ltb n 10 ≡ t → (n / 10 < 10 ^ places → decimal 0 (digits places (n / 10)) ≡ some (n / 10))
+        → decimal 0 (digits (suc places) n) ≡ some n
     at true e ih = let z : 0 * 10 + n ≡ n = omega arith in cc (decimal-digit 0 n [] (ltb-true n 10 e))
     at false e ih = let s : n / 10 * 10 + n % 10 ≡ n = omega arith in
         cc (decimal-snoc (digits places (n / 10)) 0 (n / 10) (n % 10) (omega arith) (ih (omega arith)))
@@ -117,16 +127,21 @@ digits-digits (suc places) n = at (ltb n 10) refl (digits-digits places (n / 10)
   where
     at : (t : Bool) → ltb n 10 ≡ t → All Digit (digits places (n / 10)) → All Digit (digits (suc places) n)
     at true e ih = rw (e, digits) (omega arith, tt)
-    at false e ih = rw (e, digits) (All-append Digit (digits places (n / 10)) ((DIGIT0 + n % 10) ∷ []) ih (omega arith, tt))
+    at false e ih = rw (e, digits) (All-append Digit (digits places (n / 10)) ((DIGIT0 + n % 10) ∷ []) ih (
+      omega arith,
+      tt,
+    ))
 
-readId-digits : (bs : List ℕ) (n : ℕ) → n < 2 ^ 64 → 0 < length bs → All Digit bs → decimal 0 bs ≡ some n → readId bs ≡ some n
+readId-digits : (bs : List ℕ) (n : ℕ) → n < 2 ^ 64 → 0 < length bs → All Digit bs → decimal 0 bs ≡ some n → readId bs
+    ≡ some n
 unfolding readId readDigits below64
 readId-digits [] n h l d e = absurd (omega arith)
 readId-digits (b ∷ bs) n h l d e = cc (lt-ltb n (2 ^ 64) h, ne-eqb b PLUS (omega arith))
 
 pub readId-printId : (n : ℕ) → n < 2 ^ 64 → readId (printId n) ≡ some n
 unfolding printId
-readId-printId n h = readId-digits (digits 20 n) n h (digits-there 19 n) (digits-digits 20 n) (digits-say 20 n (omega arith))
+readId-printId n h = readId-digits (digits 20 n) n h (digits-there 19 n) (digits-digits 20 n)
+    (digits-say 20 n (omega arith))
 
 Digit-plain : (b : ℕ) → Digit b → Plain b
 Digit-plain b h = (ne-eqb b TAB (omega arith), ne-eqb b LF (omega arith))
@@ -164,7 +179,11 @@ allButLast-cons p (q ∷ ps) h = refl
 -- a line first; and a piece without LF is no line
 pub lines-line : (text rest : List ℕ) → Free LF text → lines (line text ++ rest) ≡ text ∷ lines rest
 unfolding lines line
-lines-line text rest f = rw append-assoc (cc (split-piece LF text rest f, allButLast-cons text (split LF rest) (split-some LF rest)))
+lines-line text rest f = rw append-assoc (cc (
+  split-piece LF text rest f,
+  allButLast-cons text (split LF rest)
+      (split-some LF rest),
+))
 
 pub lines-torn : (text : List ℕ) → Free LF text → lines text ≡ []
 unfolding lines allButLast
@@ -180,7 +199,8 @@ plain-lf t p = All-map Plain (λ b. eqb b LF ≡ false) (λ b h. h .1) t p
 pub fields-record : (m : Message) → fields (recordText m) ≡ printId (m .id) ∷ escape (m .name) ∷ escape (m .body) ∷ []
 unfolding fields recordText
 fields-record m = rw append-assoc (cc (
-  split-piece TAB (printId (m .id)) (escape (m .name) ++ TAB ∷ escape (m .body)) (plain-tab (printId (m .id)) (printId-plain (m .id))),
+  split-piece TAB (printId (m .id)) (escape (m .name) ++ TAB ∷ escape (m .body)) (plain-tab (printId (m .id))
+      (printId-plain (m .id))),
   split-piece TAB (escape (m .name)) (escape (m .body)) (plain-tab (escape (m .name)) (escape-plain (m .name))),
   split-last TAB (escape (m .body)) (plain-tab (escape (m .body)) (escape-plain (m .body))),
 ))
@@ -191,8 +211,10 @@ fields-done n = split-last TAB (printId n) (plain-tab (printId n) (printId-plain
 
 pub recordText-free : (m : Message) → Free LF (recordText m)
 unfolding recordText
-recordText-free m = All-append (λ b. eqb b LF ≡ false) (printId (m .id) ++ TAB ∷ escape (m .name)) (TAB ∷ escape (m .body))
-    (All-append (λ b. eqb b LF ≡ false) (printId (m .id)) (TAB ∷ escape (m .name)) (plain-lf (printId (m .id)) (printId-plain (m .id))) (refl, plain-lf (escape (m .name)) (escape-plain (m .name))))
+recordText-free m = All-append (λ b. eqb b LF ≡ false) (printId (m .id) ++ TAB ∷ escape (m .name))
+    (TAB ∷ escape (m .body))
+    (All-append (λ b. eqb b LF ≡ false) (printId (m .id)) (TAB ∷ escape (m .name)) (plain-lf (printId (m .id))
+    (printId-plain (m .id))) (refl, plain-lf (escape (m .name)) (escape-plain (m .name))))
     (refl, plain-lf (escape (m .body)) (escape-plain (m .body)))
 
 pub printId-free : (n : ℕ) → Free LF (printId n)

@@ -28,7 +28,11 @@ read-low s i high h l = rw (drop-cons s i 0) (cc (lt-leb DIGIT0 (getD s i 0) l))
 
 pub read-high : (s : List ℕ) (i high : ℕ) → i < length s → 57 < getD s i 0 → below64 (decimal high (drop i s)) ≡ none
 unfolding decimal below64
-read-high s i high h l = rw (drop-cons s i 0) (cc (le-leb DIGIT0 (getD s i 0) (omega arith), le-ltb (getD s i 0) (DIGIT0 + 10) (omega arith)))
+read-high s i high h l = rw (drop-cons s i 0) (cc (
+  le-leb DIGIT0 (getD s i 0) (omega arith),
+  le-ltb (getD s i 0)
+      (DIGIT0 + 10) (omega arith),
+))
 
 too-large : (high : ℕ) (bs : List ℕ) → 2 ^ 64 ≤ high → below64 (decimal high bs) ≡ none
 unfolding below64
@@ -39,7 +43,8 @@ too-large high bs h = at (decimal high bs) refl
     at (some n) e = cc (le-ltb n (2 ^ 64) (omega (arith, decimal-grows bs high n e)))
 
 module _ (s : List ℕ) (i high : ℕ) (h : i < length s) (low : 48 ≤ getD s i 0) (top : getD s i 0 ≤ 57) where
-  pub read-next : below64 (decimal (high * 10 + (getD s i 0 - 48)) (drop (i + 1) s)) ≡ below64 (decimal high (drop i s))
+  pub read-next : below64 (decimal (high * 10 + (getD s i 0 - 48)) (drop (i + 1) s))
+      ≡ below64 (decimal high (drop i s))
   read-next = ap below64 (sym (decimal-next s i high h low (omega arith)))
 
   pub read-large : 2 ^ 64 ≤ high * 10 + (getD s i 0 - 48) → below64 (decimal high (drop i s)) ≡ none
@@ -70,9 +75,11 @@ unfolding digits
 digits-more zero n p h = absurd (omega arith)
 digits-more (suc places) n p h = at (ltb n 10) refl places refl (digits-more places (n / 10))
   where
-    at : (t : Bool) → ltb n 10 ≡ t → (k : ℕ) → places ≡ k → (0 < places → n / 10 < 10 ^ places → digits (suc places) (n / 10) ≡ digits places (n / 10)) → digits (suc (suc places)) n ≡ digits (suc places) n
+    at : (t : Bool) → ltb n 10 ≡ t → (k : ℕ) → places ≡ k → (0 < places → n / 10 < 10 ^ places
+        → digits (suc places) (n / 10) ≡ digits places (n / 10)) → digits (suc (suc places)) n ≡ digits (suc places) n
     at true e k q ih = cc
-    at false e zero q ih = let z : 10 ≤ n = ltb-false n 10 e in let w : 10 ^ suc places ≡ 10 = rw q refl in absurd (omega arith)
+    at false e zero q ih = let z : 10 ≤ n = ltb-false n 10 e in let w : 10 ^ suc places ≡ 10 = rw q refl in
+        absurd (omega arith)
     at false e (suc k) q ih = cc (ih (omega arith) (omega arith))
 
 pub print-one : (n : ℕ) → n < 10 → printId n ≡ (48 + n) ∷ []
@@ -94,7 +101,8 @@ unfolding digits
 digits-short zero n = omega arith
 digits-short (suc places) n = at (ltb n 10) refl (digits-short places (n / 10))
   where
-    at : (t : Bool) → ltb n 10 ≡ t → length (digits places (n / 10)) ≤ places → length (digits (suc places) n) ≤ suc places
+    at : (t : Bool) → ltb n 10 ≡ t → length (digits places (n / 10)) ≤ places → length (digits (suc places) n) ≤ suc
+        places
     at true e ih = rw (e, digits) (omega arith)
     at false e ih = rw (e, digits) (simp length-append (omega arith))
 

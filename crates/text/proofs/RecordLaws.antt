@@ -26,7 +26,8 @@ pub done-parts : (id : ℕ) → doneLine id ≡ printId id ++ afterBody
 unfolding doneLine line
 done-parts id = refl
 
-pub record-length : (m : Message) → length (recordLine m) ≡ length (printId (m .id)) + length (escape (m .name)) + length (escape (m .body)) + 3
+pub record-length : (m : Message) → length (recordLine m) ≡ length (printId (m .id)) + length (escape (m .name))
+    + length (escape (m .body)) + 3
 record-length m = rw (record-parts m) (simp length-append (omega arith))
 
 pub done-length : (id : ℕ) → length (doneLine id) ≡ length (printId id) + 1
@@ -37,12 +38,15 @@ unfolding escape
 escape-long [] = omega arith
 escape-long (b ∷ s) = simp length-append (omega (arith, escape-long s, byte-width b))
 
-pub wrote-id : (m : Message) {out d : List ℕ} {a : ℕ} → length (recordLine m) ≤ length out → Wrote out 0 (printId (m .id)) d a → Writing out 0 (recordLine m) d a (afterId m)
+pub wrote-id : (m : Message) {out d : List ℕ} {a : ℕ} → length (recordLine m) ≤ length out
+    → Wrote out 0 (printId (m .id)) d a → Writing out 0 (recordLine m) d a (afterId m)
 wrote-id m {out} h p = further (begin out 0 (recordLine m) (omega arith)) (record-parts m) p
 
 module _ {d₀ : List ℕ} {at₀ : ℕ} {t d : List ℕ} {a : ℕ} where
-  pub byte : {b : ℕ} {r d′ : List ℕ} {a′ : ℕ} → Writing d₀ at₀ t d a (b ∷ r) → Wrote d a (b ∷ []) d′ a′ → Writing d₀ at₀ t d′ a′ r
+  pub byte : {b : ℕ} {r d′ : List ℕ} {a′ : ℕ} → Writing d₀ at₀ t d a (b ∷ r) → Wrote d a (b ∷ []) d′ a′
+      → Writing d₀ at₀ t d′ a′ r
   byte w p = further w refl p
 
-  pub text : {x d′ : List ℕ} {a′ : ℕ} (r : List ℕ) → Writing d₀ at₀ t d a (x ++ r) → Wrote d a x d′ a′ → Writing d₀ at₀ t d′ a′ r
+  pub text : {x d′ : List ℕ} {a′ : ℕ} (r : List ℕ) → Writing d₀ at₀ t d a (x ++ r) → Wrote d a x d′ a′
+      → Writing d₀ at₀ t d′ a′ r
   text r w p = further w refl p

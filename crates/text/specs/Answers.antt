@@ -7,8 +7,7 @@ use Prim.Native.Nat.{ℕ, _+_, _-_, _≤_, _<_}
 use lib.Dec.{leb}
 use lib.ListN.{length, take, drop, getD}
 use Rattle.text.specs.Bytes.{write, part, Free}
-use Rattle.text.specs.Format.{LF, unescape, lines}
-use Rattle.text.specs.Line.{Line, put, done, other, readLine}
+use Rattle.text.specs.Format.{LF, readId, lines, fields}
 use Rattle.text.specs.declared.ids.IdRead.{IdRead}
 use Rattle.text.specs.declared.ids.IdRead.the-variants.{Is, Not}
 use Rattle.text.specs.declared.escape.Measure.{Measure}
@@ -56,20 +55,20 @@ abbrev pub putKind : IdRead → ℕ → ℕ → ℕ → ℕ → LineKind
 putKind (Is id) a b c d = Put id a b c d
 putKind Not a b c d = Other
 
--- what the answer of `line_kind` says of its line
-abbrev pub kindOf : List ℕ → LineKind → Line
-kindOf line (Put id a b c d) = put (record { id = id; name = unescape (part line a b); body = unescape (part line c d) })
-kindOf line (Done id) = done id
-kindOf line Other = other
+-- the kind of a line by its fields: a record has its id and the places of name and body, each from after its TAB to
+-- before the next or the line's end
+unfoldable pub kindIn : List (List ℕ) → LineKind
+kindIn [] = Other
+kindIn (a ∷ []) = doneKind (idOf (readId a))
+kindIn (a ∷ b ∷ []) = Other
+kindIn (a ∷ b ∷ c ∷ []) =
+    let name = length a + 1 in
+    let body = name + length b + 1 in
+    putKind (idOf (readId a)) name (name + length b) body (body + length c)
+kindIn (a ∷ b ∷ c ∷ d ∷ rest) = Other
 
-abbrev pub Inside : List ℕ → LineKind → Type 0
-Inside line (Put id a b c d) = (a ≤ b) × (b ≤ c) × (c ≤ d) × (d ≤ length line)
-Inside line (Done id) = Unit
-Inside line Other = Unit
-
-pub record Said (line : List ℕ) (r : LineKind) : Type 0 where
-  pub says : kindOf line r ≡ readLine line
-  pub inside : Inside line r
+unfoldable pub lineKind : List ℕ → LineKind
+lineKind text = kindIn (fields text)
 
 -- the next whole line from `at` on ends at `end`; there is none where that is the file's length
 pub record NextLine (file : List ℕ) (at end : ℕ) : Type 0 where

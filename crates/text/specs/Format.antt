@@ -1,4 +1,5 @@
--- What a log's text is (01, "Log"): escaped fields, decimal ids, records, done lines, lines and fields. A byte is a number, a text a list of bytes.
+-- What a log's text is (docs/RULES.md, 2): escaped fields, decimal ids, records, done lines, lines and fields. A byte
+-- is a number, a text a list of bytes.
 use mathlib.Core.Bool.{true, false}
 use mathlib.Core.Option.{Option, none, some}
 use mathlib.Core.List.{List, [], _∷_, _++_}
@@ -60,7 +61,10 @@ unfoldable mutual
 -- n in decimal, without leading zeros, by at most `places` digits
 unfoldable pub digits : ℕ → ℕ → List ℕ
 digits zero n = []
-digits (suc places) n = elim (ltb n 10) [ true ↦ (DIGIT0 + n) ∷ [] | false ↦ digits places (n / 10) ++ ((DIGIT0 + n % 10) ∷ []) ]
+digits (suc places) n = elim (ltb n 10) [
+  | true ↦ (DIGIT0 + n) ∷ []
+  | false ↦ digits places (n / 10) ++ ((DIGIT0 + n % 10) ∷ [])
+]
 
 -- an id (below 2 ^ 64, so 20 places do) in decimal
 unfoldable pub printId : ℕ → List ℕ
@@ -89,7 +93,7 @@ unfoldable pub readId : List ℕ → Option ℕ
 readId [] = none
 readId (b ∷ bs) = elim (eqb b PLUS) [ true ↦ readDigits bs | false ↦ readDigits (b ∷ bs) ]
 
--- a message as the log has it (01, "Records"): its id, group name and body
+-- a message as the log has it (docs/RULES.md, 1): its id, group name and body
 pub record Message : Type 0 where
   pub id : ℕ
   pub name : List ℕ

@@ -1,4 +1,4 @@
--- What a line of the log says (01, "Log": opening).
+-- What a line of the log says (docs/RULES.md, 2).
 use mathlib.Core.Option.{Option, none, some}
 use mathlib.Core.List.{List, [], _∷_}
 use Prim.Native.Nat.{ℕ}
@@ -40,6 +40,31 @@ abbrev pub bodyOf : Line → List ℕ
 bodyOf (put m) = m .body
 bodyOf (done id) = []
 bodyOf other = []
+
+-- the name and the body as they stand in a record's line, still escaped; nothing in any other line
+abbrev pub ofRecord : Option ℕ → List ℕ → List ℕ
+ofRecord none field = []
+ofRecord (some id) field = field
+
+unfoldable pub nameIn : List (List ℕ) → List ℕ
+nameIn [] = []
+nameIn (a ∷ []) = []
+nameIn (a ∷ b ∷ []) = []
+nameIn (a ∷ b ∷ c ∷ []) = ofRecord (readId a) b
+nameIn (a ∷ b ∷ c ∷ d ∷ rest) = []
+
+unfoldable pub bodyIn : List (List ℕ) → List ℕ
+bodyIn [] = []
+bodyIn (a ∷ []) = []
+bodyIn (a ∷ b ∷ []) = []
+bodyIn (a ∷ b ∷ c ∷ []) = ofRecord (readId a) c
+bodyIn (a ∷ b ∷ c ∷ d ∷ rest) = []
+
+unfoldable pub nameField : List ℕ → List ℕ
+nameField text = nameIn (fields text)
+
+unfoldable pub bodyField : List ℕ → List ℕ
+bodyField text = bodyIn (fields text)
 
 abbrev pub firstOf : List (List ℕ) → List ℕ
 firstOf [] = []

@@ -155,8 +155,8 @@ fn after_len(s: &[u8], i: usize, n: usize) -> usize
     unescaped_len(s, i + 1, n + 1)
 }
 
-// Whether a field, unescaped, is at most `most` bytes long. A field of more than twice that and one byte is too long unread,
-// so that the calls never go deeper than that.
+// Whether a field, unescaped, is at most `most` bytes long. A field of more than twice that and one byte is too long
+// unread, so that the calls never go deeper than that.
 pub fn field_fits(field: &[u8], most: usize) -> bool
     ensures { λ r. ⌜ r ≡ leb (length (unescape (now (field .entry)))) most ⌝ }
 {
@@ -168,7 +168,8 @@ pub fn field_fits(field: &[u8], most: usize) -> bool
 
 // A field, unescaped, written from the first byte on; one that does not fit is left out. The answer is its length.
 pub fn copy_field(out: &mut [u8], field: &[u8]) -> Measure
-    ensures { λ r. ⌜ record { bytes = now (out .exit); answer = r } ≡ filled (now (out .entry)) (unescape (now (field .entry))) ⌝ }
+    ensures { λ r. ⌜
+        record { bytes = now (out .exit); answer = r } ≡ filled (now (out .entry)) (unescape (now (field .entry))) ⌝ }
 {
     if field_fits(field, out.len()) {
         let n = unescape_plain(out, 0, field, 0);

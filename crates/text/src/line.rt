@@ -2,9 +2,8 @@
 ghost use mathlib.Core.Path.{_≡_};
 ghost use Prim.Native.Nat.{_≤_};
 ghost use lib.ListN.{length};
-ghost use Rattle.text.specs.Format.{unescape};
-ghost use Rattle.text.specs.Line.{readLine, nameOf, bodyOf};
-ghost use Rattle.text.specs.Answers.{First, FirstFrom, doneKind, putKind, Said, NextLine};
+ghost use Rattle.text.specs.Line.{nameField, bodyField};
+ghost use Rattle.text.specs.Answers.{First, FirstFrom, doneKind, putKind, lineKind, NextLine};
 use crate::ids::IdRead;
 use crate::ids::read_id;
 
@@ -69,7 +68,7 @@ fn put_kind(i: IdRead, a: usize, b: usize, c: usize, d: usize) -> LineKind
 
 // A line, without its LF.
 pub fn line_kind(line: &[u8]) -> LineKind
-    ensures { λ r. ⌜ Said (now (line .entry)) r ⌝ }
+    ensures { λ r. ⌜ r ≡ lineKind (now (line .entry)) ⌝ }
 {
     let n = line.len();
     let a = find(line, b'\t');
@@ -97,9 +96,10 @@ pub fn line_end(file: &[u8], at: usize) -> usize
     find_from(file, at, b'\n')
 }
 
-// The name of a record, as it stands in the line from after its TAB on; nothing in any other line.
+// The name of a record, as it stands in the line, still escaped: the slice from after its TAB on. Nothing in any other
+// line.
 pub fn name_field(line: &[u8]) -> &[u8]
-    ensures { λ r. ⌜ unescape (now r) ≡ nameOf (readLine (now (line .entry))) ⌝ }
+    ensures { λ r. ⌜ now r ≡ nameField (now (line .entry)) ⌝ }
 {
     match line_kind(line) {
         LineKind::Put {
@@ -116,7 +116,7 @@ pub fn name_field(line: &[u8]) -> &[u8]
 
 // The body of a record, in the same way.
 pub fn body_field(line: &[u8]) -> &[u8]
-    ensures { λ r. ⌜ unescape (now r) ≡ bodyOf (readLine (now (line .entry))) ⌝ }
+    ensures { λ r. ⌜ now r ≡ bodyField (now (line .entry)) ⌝ }
 {
     match line_kind(line) {
         LineKind::Put {

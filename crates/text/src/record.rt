@@ -14,7 +14,9 @@ use crate::ids::print_id;
 
 // The length of a message's record, where it is at most `most`.
 pub fn record_len(id: u64, name: &[u8], body: &[u8], most: usize) -> Measure
-    ensures { λ r. ⌜ r ≡ within (length (recordLine (record { id = id; name = now (name .entry); body = now (body .entry) }))) most ⌝ }
+    ensures { λ r. ⌜ r
+        ≡ within (length (recordLine (record { id = id; name = now (name .entry); body = now (body .entry) })))
+        most ⌝ }
 {
     let rest = id_len(id) + 3;
     if most < rest {
@@ -32,7 +34,8 @@ pub fn record_len(id: u64, name: &[u8], body: &[u8], most: usize) -> Measure
 // The record of a message, written from the first byte on.
 fn write_record(out: &mut [u8], id: u64, name: &[u8], body: &[u8]) -> usize
     requires { ⌜ length (recordLine (record { id = id; name = now name; body = now body })) ≤ length (now out) ⌝ }
-    ensures { λ r. ⌜ Wrote (now (out .entry)) 0 (recordLine (record { id = id; name = now (name .entry); body = now (body .entry) })) (now (out .exit)) r ⌝ }
+    ensures { λ r. ⌜ Wrote (now (out .entry)) 0
+        (recordLine (record { id = id; name = now (name .entry); body = now (body .entry) })) (now (out .exit)) r ⌝ }
 {
     let a = print_id(out, id);
     let b = put(out, a, b'\t');
@@ -42,9 +45,12 @@ fn write_record(out: &mut [u8], id: u64, name: &[u8], body: &[u8]) -> usize
     put(out, e, b'\n')
 }
 
-// The encoder: the record of a message fills the first bytes of `out`, the others keep theirs; one that does not fit is left out.
+// The encoder: the record of a message fills the first bytes of `out`, the others keep theirs; one that does not fit
+// is left out.
 pub fn encode_record(out: &mut [u8], id: u64, name: &[u8], body: &[u8]) -> Measure
-    ensures { λ r. ⌜ record { bytes = now (out .exit); answer = r } ≡ filled (now (out .entry)) (recordLine (record { id = id; name = now (name .entry); body = now (body .entry) })) ⌝ }
+    ensures { λ r. ⌜ record { bytes = now (out .exit); answer = r }
+        ≡ filled (now (out .entry))
+        (recordLine (record { id = id; name = now (name .entry); body = now (body .entry) })) ⌝ }
 {
     let Measure::Len(_) = record_len(id, name, body, out.len()) else {
         return Measure::Over;

@@ -1,6 +1,6 @@
--- Crashed messages are tried again up to the group's retries, else dead; dead and crash counts are held at their largest. After a failure in a fixed group
--- Trap is asked, and after yes Trapped of each actor left; those that answer yes are retired in key order: their mailboxes go back to pending, and what
--- they had in their hands crashed.
+-- Crashed messages are tried again up to the group's retries, else dead; dead and crash counts are held at their
+-- largest. After a failure in a fixed group Trap is asked, and after yes Trapped of each actor left; those that
+-- answer yes are retired in key order: their mailboxes go back to pending, and what they had in their hands crashed.
 use Prim.Native.Nat.{ℕ, _+_, _-_}
 use lib.Dec.{eqb, ltb}
 use lib.ListN.{set}
@@ -99,10 +99,12 @@ trappedReply keys c k r = trappedBy keys c k (yesIn r)
 -- ---- those that were trapped are retired
 
 abbrev pub crashedAt : At → ℕ → ℕ → ℕ → Crashed
-crashedAt a queued dead crashes = record { at = a; queued = queued; losses = record { dead = dead; crashes = crashes } }
+crashedAt a queued dead crashes =
+    record { at = a; queued = queued; losses = record { dead = dead; crashes = crashes } }
 
 abbrev pub doomedBy : Dying → Table → At → ℕ → ℕ → Crashing
-doomedBy d keys a queued crashes = record { links = d .links; rows = d .rows; keys = keys; crashed = crashedAt a queued (d .dead) crashes }
+doomedBy d keys a queued crashes =
+    record { links = d .links; rows = d .rows; keys = keys; crashed = crashedAt a queued (d .dead) crashes }
 
 abbrev pub mailBack : Table → ℕ → Table
 mailBack t slot = moveAll t (mailboxOf slot) PENDING
@@ -113,11 +115,18 @@ doomedKey groups t rows keys c k left queued l =
     (crashedFirst groups (mailBack t (slotAt (c .group) k)) rows (c .group) (handOf (slotAt (c .group) k)) (l .dead))
     (removeKey keys (c .group) k)
     (at.Doomed c left)
-    (capped (queued + lenOf (mailBack t (slotAt (c .group) k)) (mailboxOf (slotAt (c .group) k))) - lenOf t (mailboxOf (slotAt (c .group) k)))
+    (capped (queued + lenOf (mailBack t (slotAt (c .group) k)) (mailboxOf (slotAt (c .group) k)))
+    - lenOf t (mailboxOf (slotAt (c .group) k)))
     (capped (l .crashes + 1))
 
 abbrev pub doomedDone : Table → Table → Table → Cursor → ℕ → Losses → Crashing
-doomedDone t rows keys c queued l = record { links = t; rows = rows; keys = keys; crashed = record { at = readyAfter c; queued = queued; losses = l } }
+doomedDone t rows keys c queued l =
+    record {
+      links = t;
+      rows = rows;
+      keys = keys;
+      crashed = record { at = readyAfter c; queued = queued; losses = l };
+    }
 
 abbrev pub doomedFront : Table → Table → Table → Table → Cursor → ℕ → ℕ → Losses → Key → Crashing
 doomedFront groups t rows keys c left queued l (key.At k) =
@@ -126,4 +135,5 @@ doomedFront groups t rows keys c left queued l key.Nothing = doomedDone t rows k
 
 unfoldable pub doomedOf : Table → Table → Table → Table → Cursor → ℕ → ℕ → Losses → Crashing
 doomedOf groups t rows keys c left queued l =
-    pick (eqb left 0) (doomedDone t rows keys c queued l) (doomedFront groups t rows keys c left queued l (frontOf (keysAt keys DOOMED)))
+    pick (eqb left 0) (doomedDone t rows keys c queued l)
+    (doomedFront groups t rows keys c left queued l (frontOf (keysAt keys DOOMED)))

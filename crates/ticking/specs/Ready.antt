@@ -1,4 +1,5 @@
--- A group's ready list is popped, and each actor that has work is stepped once: its step begins at a question, or has ended.
+-- A group's ready list is popped, and each actor that has work is stepped once: its step begins at a question, or has
+-- ended.
 use mathlib.Core.Bool.{Bool, true, false}
 use Prim.Native.Nat.{ℕ, _-_}
 use lib.Dec.{eqb}
@@ -16,7 +17,7 @@ use Rattle.steps.specs.StepEval.{EvalStarted, evalStart}
 use Rattle.group.specs.declared.at.At.{At}
 use Rattle.group.specs.declared.at.At.the-variants as at
 use Rattle.group.specs.declared.at.Cursor.{Cursor}
-use Rattle.group.specs.At.{nextGroup, readyAfter, fixedAfter, evalAfter}
+use Rattle.group.specs.At.{nextGroup, readyAfter, evalAfter}
 use Rattle.group.specs.Roster.{readyRow, slotAt, liveOf}
 use Rattle.ticking.specs.declared.ready.Begun.{Begun}
 
@@ -43,13 +44,18 @@ unfoldable pub restsOf : Actor → ℕ → Bool
 restsOf a waiting = pick (eqb waiting 0) (pick (a .runnable) false (a .ran)) false
 
 abbrev pub startedFixed : Cursor → FixedActors → Started
-startedFixed c f = record { actors = f .actors; at = fixedAfter c (f .at) }
+startedFixed c f = record { actors = f .actors; at = at.Fixed c (f .ask) }
 
 unfoldable pub beginFixed : Table → Cursor → ℕ → Started
 beginFixed actors c slot = startedFixed c (fixedStart actors slot)
 
 abbrev pub startedEval : Cursor → EvalStarted → Stepping
-startedEval c s = record { links = s .links; actors = s .actors; begun = begunAt (evalAfter c (s .step .at)) (s .step .queued) true }
+startedEval c s =
+    record {
+      links = s .links;
+      actors = s .actors;
+      begun = begunAt (evalAfter c (s .step .next)) (s .step .queued) true;
+    }
 
 unfoldable pub beginEval : Table → Table → Cursor → ℕ → ℕ → Stepping
 beginEval t actors c slot queued = startedEval c (evalStart t actors slot queued)
@@ -62,7 +68,8 @@ beginBy t actors c slot queued mode.Fixed = fixedBegun t queued (beginFixed acto
 beginBy t actors c slot queued mode.Eval = beginEval t actors c slot queued
 
 unfoldable pub beginStep : Table → Table → Cursor → ℕ → ℕ → Stepping
-beginStep t actors c slot queued = beginBy t (putActor actors slot (beganStep (actorAt actors slot))) c slot queued (actorAt actors slot .mode)
+beginStep t actors c slot queued =
+    beginBy t (putActor actors slot (beganStep (actorAt actors slot))) c slot queued (actorAt actors slot .mode)
 
 -- the actor is scheduled no more, and stepped if it has work
 abbrev pub unscheduled : Table → ℕ → Table
@@ -72,7 +79,11 @@ unfoldable pub readyKey : Table → Table → Table → Cursor → ℕ → Bool 
 readyKey t keys actors c queued stepped =
     pick (liveOf keys (c .group) (c .key))
     (pick (restsOf (actorAt actors (slotAt (c .group) (c .key))) (lenOf t (mailboxOf (slotAt (c .group) (c .key)))))
-    (record { links = t; actors = unscheduled actors (slotAt (c .group) (c .key)); begun = begunAt (readyAfter c) queued stepped })
+    (record {
+      links = t;
+      actors = unscheduled actors (slotAt (c .group) (c .key));
+      begun = begunAt (readyAfter c) queued stepped;
+    })
     (beginStep t (unscheduled actors (slotAt (c .group) (c .key))) c (slotAt (c .group) (c .key)) queued))
     (record { links = t; actors = actors; begun = begunAt (readyAfter c) queued stepped })
 
@@ -80,7 +91,8 @@ abbrev pub readiedWith : Table → Stepping → Readied
 readiedWith keys s = record { links = s .links; keys = keys; actors = s .actors; begun = s .begun }
 
 abbrev pub wakeAfter : Table → Table → Table → ℕ → Bool → ℕ → ℕ → Readied
-wakeAfter t keys actors queued stepped g clock = record { links = t; keys = keys; actors = actors; begun = begunAt (at.Wake (nextGroup g) clock) queued stepped }
+wakeAfter t keys actors queued stepped g clock =
+    record { links = t; keys = keys; actors = actors; begun = begunAt (at.Wake (nextGroup g) clock) queued stepped }
 
 -- the cursor of a key that is popped
 abbrev pub cursorAt : ℕ → ℕ → ℕ → ℕ → Cursor
@@ -96,4 +108,5 @@ readyFront t keys actors queued stepped g clock pops key.Nothing = wakeAfter t k
 
 unfoldable pub readyOf : Table → Table → Table → ℕ → Bool → ℕ → ℕ → ℕ → Readied
 readyOf t keys actors queued stepped g clock pops =
-    pick (eqb pops 0) (wakeAfter t keys actors queued stepped g clock) (readyFront t keys actors queued stepped g clock pops (frontOf (keysAt keys (readyRow g))))
+    pick (eqb pops 0) (wakeAfter t keys actors queued stepped g clock)
+    (readyFront t keys actors queued stepped g clock pops (frontOf (keysAt keys (readyRow g))))

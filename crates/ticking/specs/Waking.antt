@@ -1,5 +1,5 @@
--- Waiting actors past their deadline, and those whose Poll gives a count above 0, go to the ready list. Poll is asked only of an actor that is blocked,
--- past no deadline and, if eval, has a run.
+-- Waiting actors past their deadline, and those whose Poll gives a count above 0, go to the ready list. Poll is asked
+-- only of an actor that is blocked, past no deadline and, if eval, has a run.
 use mathlib.Core.Bool.{Bool, true, false}
 use Prim.Native.Nat.{ℕ, _-_}
 use lib.Dec.{eqb, ltb, leb}
@@ -42,7 +42,10 @@ unfoldable pub wakeOf : Table → ℕ → ℕ → ℕ → Listed
 wakeOf keys n g clock =
     pick (leb n g) (record { keys = keys; at = at.Rest })
     (pick (leb 8 g) (record { keys = keys; at = at.Rest })
-    (record { keys = set (set keys REST (keysAt keys (waitingRow g))) (waitingRow g) blankRow; at = at.WakeNext g clock (atMost64 (countOf (keysAt keys (waitingRow g)))) }))
+    (record {
+      keys = set (set keys REST (keysAt keys (waitingRow g))) (waitingRow g) blankRow;
+      at = at.WakeNext g clock (atMost64 (countOf (keysAt keys (waitingRow g))));
+    }))
 
 -- its deadline has passed
 unfoldable pub lateAt : Wake → ℕ → Bool
@@ -58,9 +61,11 @@ pollsOf a = pollsBy (a .blocked) (hasRun (a .run)) (a .mode)
 
 -- awake, it is queued to run; else it waits on, unless it is idle
 unfoldable pub wokenTo : Table → Table → ℕ → ℕ → Bool → Keyed
-wokenTo keys actors g k true = scheduleOf keys (putActor actors (slotAt g k) (wokenAs (actorAt actors (slotAt g k)))) g k
+wokenTo keys actors g k true =
+    scheduleOf keys (putActor actors (slotAt g k) (wokenAs (actorAt actors (slotAt g k)))) g k
 wokenTo keys actors g k false =
-    pick (actorAt actors (slotAt g k) .idle) (record { keys = keys; actors = actors }) (record { keys = pushKey keys (waitingRow g) k; actors = actors })
+    pick (actorAt actors (slotAt g k) .idle) (record { keys = keys; actors = actors })
+    (record { keys = pushKey keys (waitingRow g) k; actors = actors })
 
 abbrev pub wakedTo : Keyed → At → Waked
 wakedTo k a = record { keys = k .keys; actors = k .actors; at = a }
@@ -78,20 +83,25 @@ wakeOne keys actors g k clock left =
 
 -- pops: how many keys the ready list has at the end of the group's own wake
 abbrev pub readyNow : Table → Table → ℕ → ℕ → Waked
-readyNow keys actors g clock = record { keys = keys; actors = actors; at = at.Ready g clock (atMost64 (countOf (keysAt keys (readyRow g)))) }
+readyNow keys actors g clock =
+    record { keys = keys; actors = actors; at = at.Ready g clock (atMost64 (countOf (keysAt keys (readyRow g)))) }
 
 abbrev pub wakeFirst : Table → Table → ℕ → ℕ → ℕ → Key → Waked
-wakeFirst keys actors g clock left (key.At k) = wakeOne (set keys REST (popFront (keysAt keys REST))) actors g k clock (left - 1)
+wakeFirst keys actors g clock left (key.At k) =
+    wakeOne (set keys REST (popFront (keysAt keys REST))) actors g k clock (left - 1)
 wakeFirst keys actors g clock left key.Nothing = readyNow keys actors g clock
 
 unfoldable pub wakeNext : Table → Table → ℕ → ℕ → ℕ → Waked
-wakeNext keys actors g clock left = pick (eqb left 0) (readyNow keys actors g clock) (wakeFirst keys actors g clock left (frontOf (keysAt keys REST)))
+wakeNext keys actors g clock left =
+    pick (eqb left 0) (readyNow keys actors g clock) (wakeFirst keys actors g clock left (frontOf (keysAt keys REST)))
 
 -- Poll: above 0 it is awake
 abbrev pub pollBy : Table → Table → ℕ → ℕ → ℕ → ℕ → CountIn → Waked
 pollBy keys actors g k clock left (count.Of n) =
-    pick (ltb 0 n) (wakedTo (wokenTo keys actors g k true) (at.WakeNext g clock left)) (wakedTo (wokenTo keys actors g k false) (at.WakeNext g clock left))
-pollBy keys actors g k clock left count.Other = record { keys = keys; actors = actors; at = at.WakePoll g k clock left }
+    pick (ltb 0 n) (wakedTo (wokenTo keys actors g k true) (at.WakeNext g clock left))
+    (wakedTo (wokenTo keys actors g k false) (at.WakeNext g clock left))
+pollBy keys actors g k clock left count.Other =
+    record { keys = keys; actors = actors; at = at.WakePoll g k clock left }
 
 unfoldable pub pollReply : Table → Table → ℕ → ℕ → ℕ → ℕ → Reply → Waked
 pollReply keys actors g k clock left r = pollBy keys actors g k clock left (countIn r)

@@ -1,6 +1,17 @@
-// Crashed messages are tried again or dead (`handle_crash` of the Rust), and actors of a trapped interpreter are retired (`crash_trapped`).
+// Crashed messages are tried again or dead (`handle_crash` of the Rust), and actors of a trapped interpreter are
+// retired (`crash_trapped`).
 ghost use mathlib.Core.Path.{_≡_};
-ghost use Rattle.ticking.specs.Crash.{crashedEntry, crashedFirst, crashOf, trappedNext, trapReply, nextAsked, trappedReply, doomedKey, doomedOf};
+ghost use Rattle.ticking.specs.Crash.{
+  crashedEntry,
+  crashedFirst,
+  crashOf,
+  trappedNext,
+  trapReply,
+  nextAsked,
+  trappedReply,
+  doomedKey,
+  doomedOf,
+};
 use crate::settle;
 use actor::message;
 use actor::question;
@@ -30,7 +41,8 @@ pub struct Crashed {
     pub losses: Losses,
 }
 
-// The first message of a list crashed: it is tried again up to the group's retries, else dead and over. The number of the dead after it.
+// The first message of a list crashed: it is tried again up to the group's retries, else dead and over. The number of
+// the dead after it.
 fn crashed_entry(
     groups: &[[u64; 37]],
     links: &mut [[u64; 4]],
@@ -40,7 +52,9 @@ fn crashed_entry(
     entry: usize,
     dead: u64,
 ) -> u64
-    ensures { λ r. ⌜ record { links = now (links .exit); rows = now (rows .exit); dead = r } ≡ crashedEntry (now (groups .entry)) (now (links .entry)) (now (rows .entry)) g from entry dead ⌝ }
+    ensures { λ r.
+        ⌜ record { links = now (links .exit); rows = now (rows .exit); dead = r }
+        ≡ crashedEntry (now (groups .entry)) (now (links .entry)) (now (rows .entry)) g from entry dead ⌝ }
 {
     let s = settings::group_at(groups, g);
     let retry = s.retry;
@@ -65,7 +79,9 @@ fn crashed_first(
     from: usize,
     dead: u64,
 ) -> u64
-    ensures { λ r. ⌜ record { links = now (links .exit); rows = now (rows .exit); dead = r } ≡ crashedFirst (now (groups .entry)) (now (links .entry)) (now (rows .entry)) g from dead ⌝ }
+    ensures { λ r.
+        ⌜ record { links = now (links .exit); rows = now (rows .exit); dead = r }
+        ≡ crashedFirst (now (groups .entry)) (now (links .entry)) (now (rows .entry)) g from dead ⌝ }
 {
     match lists::first(links, from) {
         Found::Entry(e) => crashed_entry(groups, links, rows, g, from, e, dead),
@@ -81,7 +97,9 @@ pub fn crash(
     c: Cursor,
     losses: Losses,
 ) -> Losses
-    ensures { λ r. ⌜ record { links = now (links .exit); rows = now (rows .exit); losses = r } ≡ crashOf (now (groups .entry)) (now (links .entry)) (now (rows .entry)) c losses ⌝ }
+    ensures { λ r.
+        ⌜ record { links = now (links .exit); rows = now (rows .exit); losses = r }
+        ≡ crashOf (now (groups .entry)) (now (links .entry)) (now (rows .entry)) c losses ⌝ }
 {
     let crashes = lists::sum(losses.crashes, 1);
     let dead = crashed_first(groups, links, rows, c.group, lists::HAND, losses.dead);
@@ -151,7 +169,10 @@ fn doomed_key(
     queued: u64,
     losses: Losses,
 ) -> Crashed
-    ensures { λ r. ⌜ record { links = now (links .exit); rows = now (rows .exit); keys = now (lists .exit); crashed = r } ≡ doomedKey (now (groups .entry)) (now (links .entry)) (now (rows .entry)) (now (lists .entry)) c key left queued losses ⌝ }
+    ensures { λ r.
+        ⌜ record { links = now (links .exit); rows = now (rows .exit); keys = now (lists .exit); crashed = r }
+        ≡ doomedKey (now (groups .entry)) (now (links .entry)) (now (rows .entry)) (now (lists .entry)) c key
+        left queued losses ⌝ }
 {
     let slot = roster::slot_at(c.group, key);
     settle::remove_key(lists, c.group, key);
@@ -182,7 +203,10 @@ pub fn doomed(
     queued: u64,
     losses: Losses,
 ) -> Crashed
-    ensures { λ r. ⌜ record { links = now (links .exit); rows = now (rows .exit); keys = now (lists .exit); crashed = r } ≡ doomedOf (now (groups .entry)) (now (links .entry)) (now (rows .entry)) (now (lists .entry)) c left queued losses ⌝ }
+    ensures { λ r.
+        ⌜ record { links = now (links .exit); rows = now (rows .exit); keys = now (lists .exit); crashed = r }
+        ≡ doomedOf (now (groups .entry)) (now (links .entry)) (now (rows .entry)) (now (lists .entry)) c left
+        queued losses ⌝ }
 {
     let next = at::ready_after(c);
     if left == 0 {

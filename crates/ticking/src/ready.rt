@@ -13,7 +13,7 @@ use lists::keys::Key;
 use steps::eval;
 use steps::fixed;
 
-// Where the turn stands then, how many messages are in mailboxes, and whether an actor was stepped.
+// The next point, the new queued, and whether an actor was stepped.
 pub struct Begun {
     pub at: At,
     pub queued: u64,
@@ -37,8 +37,8 @@ fn rests(a: Actor, waiting: u64) -> bool
 fn begin_fixed(actors: &mut [[u64; 12]], c: Cursor, slot: usize) -> At
     ensures { λ r. ⌜ record { actors = now (actors .exit); at = r } ≡ beginFixed (now (actors .entry)) c slot ⌝ }
 {
-    let next = fixed::fixed_start(actors, slot);
-    at::fixed_after(c, next)
+    let ask = fixed::fixed_start(actors, slot);
+    At::Fixed(c, ask)
 }
 
 // A step of an eval actor begins; one with no run and no mail ends at once.
@@ -49,10 +49,12 @@ fn begin_eval(
     slot: usize,
     queued: u64,
 ) -> Begun
-    ensures { λ r. ⌜ record { links = now (links .exit); actors = now (actors .exit); begun = r } ≡ beginEval (now (links .entry)) (now (actors .entry)) c slot queued ⌝ }
+    ensures { λ r.
+        ⌜ record { links = now (links .exit); actors = now (actors .exit); begun = r }
+        ≡ beginEval (now (links .entry)) (now (actors .entry)) c slot queued ⌝ }
 {
     let s = eval::eval_start(links, actors, slot, queued);
-    let next = s.at;
+    let next = s.next;
     let at = at::eval_after(c, next);
     Begun {
         at,
@@ -69,7 +71,9 @@ fn begin_step(
     slot: usize,
     queued: u64,
 ) -> Begun
-    ensures { λ r. ⌜ record { links = now (links .exit); actors = now (actors .exit); begun = r } ≡ beginStep (now (links .entry)) (now (actors .entry)) c slot queued ⌝ }
+    ensures { λ r.
+        ⌜ record { links = now (links .exit); actors = now (actors .exit); begun = r }
+        ≡ beginStep (now (links .entry)) (now (actors .entry)) c slot queued ⌝ }
 {
     let a = state::actor_at(actors, slot);
     let mode = a.mode;
@@ -97,7 +101,9 @@ fn ready_key(
     queued: u64,
     stepped: bool,
 ) -> Begun
-    ensures { λ r. ⌜ record { links = now (links .exit); actors = now (actors .exit); begun = r } ≡ readyKey (now (links .entry)) (now (lists .entry)) (now (actors .entry)) c queued stepped ⌝ }
+    ensures { λ r.
+        ⌜ record { links = now (links .exit); actors = now (actors .exit); begun = r }
+        ≡ readyKey (now (links .entry)) (now (lists .entry)) (now (actors .entry)) c queued stepped ⌝ }
 {
     let next = at::ready_after(c);
     let there = roster::live(lists, c.group, c.key);
@@ -135,7 +141,9 @@ pub fn ready(
     clock: u64,
     pops: u64,
 ) -> Begun
-    ensures { λ r. ⌜ record { links = now (links .exit); keys = now (lists .exit); actors = now (actors .exit); begun = r } ≡ readyOf (now (links .entry)) (now (lists .entry)) (now (actors .entry)) queued stepped g clock pops ⌝ }
+    ensures { λ r.
+        ⌜ record { links = now (links .exit); keys = now (lists .exit); actors = now (actors .exit); begun = r }
+        ≡ readyOf (now (links .entry)) (now (lists .entry)) (now (actors .entry)) queued stepped g clock pops ⌝ }
 {
     let after = at::next_group(g);
     if pops == 0 {

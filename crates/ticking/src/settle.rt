@@ -1,8 +1,7 @@
 // `settle` of the Rust: a step's end puts the actor into a list, or takes it out of its group.
 ghost use mathlib.Core.Path.{_≡_};
-ghost use Rattle.ticking.specs.Settle.{stepEnd, removeKey, letGo, releaseOf, blockAt, yieldAt, settleOf};
+ghost use Rattle.ticking.specs.Settle.{stepEnd, removeKey, letGo, releaseOf, blockAt, yieldAt, parkAt, settleOf};
 use actor::state;
-use actor::state::Mode;
 use actor::state::Wake;
 use group::at;
 use group::at::At;
@@ -11,24 +10,26 @@ use group::over;
 use group::roster;
 use lists::keys;
 use lists::slab;
+use steps::step::End;
+use steps::step::Parked;
 use steps::step::Step;
 
-// Where the turn stands then, and how many messages are in mailboxes.
+// The next point, and the new queued.
 pub struct Settled {
     pub at: At,
     pub queued: u64,
 }
 
-// The step's finished messages have their marks: Sends is asked, not of eval.
-pub fn step_end(actors: &[[u64; 12]], c: Cursor, step: Step) -> At
-    ensures { λ r. ⌜ r ≡ stepEnd (now (actors .entry)) c step ⌝ }
+// What the step finished has its marks: Sends is asked of a fixed actor; an eval actor is settled.
+pub fn step_end(c: Cursor, end: End) -> At
+    ensures { λ r. ⌜ r ≡ stepEnd c end ⌝ }
 {
-    let slot = roster::slot_at(c.group, c.key);
-    let a = state::actor_at(actors, slot);
-    let mode = a.mode;
-    match mode {
-        Mode::Fixed => At::Sends(c, step),
-        Mode::Eval => At::Settle(c, step),
+    match end {
+        End::Fixed(step) => At::Sends(c, step),
+        End::Eval(parked) => {
+            let step = Step::Parked(parked);
+            At::Settle(c, step)
+        }
     }
 }
 
@@ -42,7 +43,8 @@ pub(crate) fn remove_key(lists: &mut [[u8; 65]], g: usize, key: u8)
     keys::put_keys(lists, row, fewer);
 }
 
-// The mailbox of an actor that is gone: back to pending if it ever took a message, else over. Queued changes as the mailbox does.
+// The mailbox of an actor that is gone: back to pending if it ever took a message, else over. Queued changes as the
+// mailbox does.
 fn let_go(
     links: &mut [[u64; 4]],
     rows: &[[u64; 7]],
@@ -50,7 +52,9 @@ fn let_go(
     consumed: bool,
     queued: u64,
 ) -> u64
-    ensures { λ r. ⌜ record { links = now (links .exit); queued = r } ≡ letGo (now (links .entry)) (now (rows .entry)) slot consumed queued ⌝ }
+    ensures { λ r.
+        ⌜ record { links = now (links .exit); queued = r }
+        ≡ letGo (now (links .entry)) (now (rows .entry)) slot consumed queued ⌝ }
 {
     let mailbox = lists::mailbox(slot);
     let before = lists::length_of(links, mailbox);
@@ -75,7 +79,10 @@ fn release(
     c: Cursor,
     queued: u64,
 ) -> u64
-    ensures { λ r. ⌜ record { links = now (links .exit); keys = now (lists .exit); queued = r } ≡ releaseOf (now (links .entry)) (now (rows .entry)) (now (lists .entry)) (now (actors .entry)) c queued ⌝ }
+    ensures { λ r.
+        ⌜ record { links = now (links .exit); keys = now (lists .exit); queued = r }
+        ≡ releaseOf (now (links .entry)) (now (rows .entry)) (now (lists .entry)) (now (actors .entry)) c queued
+        ⌝ }
 {
     let slot = roster::slot_at(c.group, c.key);
     let a = state::actor_at(actors, slot);
@@ -86,7 +93,9 @@ fn release(
 
 // Parked on a host call, it waits.
 fn block_at(lists: &mut [[u8; 65]], actors: &mut [[u64; 12]], c: Cursor, until: Wake)
-    ensures { λ r. ⌜ record { keys = now (lists .exit); actors = now (actors .exit) } ≡ blockAt (now (lists .entry)) (now (actors .entry)) c until ⌝ }
+    ensures { λ r.
+        ⌜ record { keys = now (lists .exit); actors = now (actors .exit) }
+        ≡ blockAt (now (lists .entry)) (now (actors .entry)) c until ⌝ }
 {
     let slot = roster::slot_at(c.group, c.key);
     let a = state::actor_at(actors, slot);
@@ -98,13 +107,31 @@ fn block_at(lists: &mut [[u8; 65]], actors: &mut [[u64; 12]], c: Cursor, until: 
 
 // It handed the thread on: it runs again from the back of the ready list.
 fn yield_at(lists: &mut [[u8; 65]], actors: &mut [[u64; 12]], c: Cursor)
-    ensures { λ r. ⌜ record { keys = now (lists .exit); actors = now (actors .exit) } ≡ yieldAt (now (lists .entry)) (now (actors .entry)) c ⌝ }
+    ensures { λ r.
+        ⌜ record { keys = now (lists .exit); actors = now (actors .exit) }
+        ≡ yieldAt (now (lists .entry)) (now (actors .entry)) c ⌝ }
 {
     let slot = roster::slot_at(c.group, c.key);
     let a = state::actor_at(actors, slot);
     let b = state::yielded(a);
     state::put_actor(actors, slot, b);
     roster::schedule(lists, actors, c.group, c.key);
+}
+
+// An actor that goes on is put into a list of its group: idle, waiting or ready.
+fn park(lists: &mut [[u8; 65]], actors: &mut [[u64; 12]], c: Cursor, parked: Parked)
+    ensures { λ r.
+        ⌜ record { keys = now (lists .exit); actors = now (actors .exit) }
+        ≡ parkAt (now (lists .entry)) (now (actors .entry)) c parked ⌝ }
+{
+    match parked {
+        Parked::Waiting => {
+            let row = roster::idle_row(c.group);
+            roster::push_key(lists, row, c.key);
+        }
+        Parked::Blocked(until) => block_at(lists, actors, c, until),
+        Parked::Yield => yield_at(lists, actors, c),
+    }
 }
 
 // A step is settled.
@@ -117,7 +144,10 @@ pub fn settle(
     step: Step,
     queued: u64,
 ) -> Settled
-    ensures { λ r. ⌜ record { links = now (links .exit); keys = now (lists .exit); actors = now (actors .exit); settled = r } ≡ settleOf (now (links .entry)) (now (rows .entry)) (now (lists .entry)) (now (actors .entry)) c step queued ⌝ }
+    ensures { λ r.
+        ⌜ record { links = now (links .exit); keys = now (lists .exit); actors = now (actors .exit); settled = r }
+        ≡ settleOf (now (links .entry)) (now (rows .entry)) (now (lists .entry)) (now (actors .entry)) c step
+        queued ⌝ }
 {
     let next = at::ready_after(c);
     match step {
@@ -128,17 +158,8 @@ pub fn settle(
                 queued: fewer,
             }
         }
-        Step::Waiting => {
-            let row = roster::idle_row(c.group);
-            roster::push_key(lists, row, c.key);
-            Settled { at: next, queued }
-        }
-        Step::Blocked(until) => {
-            block_at(lists, actors, c, until);
-            Settled { at: next, queued }
-        }
-        Step::Yield => {
-            yield_at(lists, actors, c);
+        Step::Parked(parked) => {
+            park(lists, actors, c, parked);
             Settled { at: next, queued }
         }
         Step::Failed => {

@@ -65,7 +65,9 @@ fn polls(a: Actor) -> bool
 
 // Awake, it is queued to run; else it waits on, unless it is idle.
 fn woken_to(lists: &mut [[u8; 65]], actors: &mut [[u64; 12]], g: usize, key: u8, awake: bool)
-    ensures { λ r. ⌜ record { keys = now (lists .exit); actors = now (actors .exit) } ≡ wokenTo (now (lists .entry)) (now (actors .entry)) g key awake ⌝ }
+    ensures { λ r.
+        ⌜ record { keys = now (lists .exit); actors = now (actors .exit) }
+        ≡ wokenTo (now (lists .entry)) (now (actors .entry)) g key awake ⌝ }
 {
     let slot = roster::slot_at(g, key);
     let a = state::actor_at(actors, slot);
@@ -92,7 +94,9 @@ fn wake_one(
     clock: u64,
     left: u64,
 ) -> At
-    ensures { λ r. ⌜ record { keys = now (lists .exit); actors = now (actors .exit); at = r } ≡ wakeOne (now (lists .entry)) (now (actors .entry)) g key clock left ⌝ }
+    ensures { λ r.
+        ⌜ record { keys = now (lists .exit); actors = now (actors .exit); at = r }
+        ≡ wakeOne (now (lists .entry)) (now (actors .entry)) g key clock left ⌝ }
 {
     let there = roster::live(lists, g, key);
     if there {
@@ -122,7 +126,9 @@ pub fn wake_next(
     clock: u64,
     left: u64,
 ) -> At
-    ensures { λ r. ⌜ record { keys = now (lists .exit); actors = now (actors .exit); at = r } ≡ wakeNext (now (lists .entry)) (now (actors .entry)) g clock left ⌝ }
+    ensures { λ r.
+        ⌜ record { keys = now (lists .exit); actors = now (actors .exit); at = r }
+        ≡ wakeNext (now (lists .entry)) (now (actors .entry)) g clock left ⌝ }
 {
     let ready = keys::keys_at(lists, roster::ready_row(g));
     let n = keys::count(ready) as u64;
@@ -152,7 +158,9 @@ pub fn poll_reply(
     left: u64,
     reply: Reply,
 ) -> At
-    ensures { λ r. ⌜ record { keys = now (lists .exit); actors = now (actors .exit); at = r } ≡ pollReply (now (lists .entry)) (now (actors .entry)) g key clock left reply ⌝ }
+    ensures { λ r.
+        ⌜ record { keys = now (lists .exit); actors = now (actors .exit); at = r }
+        ≡ pollReply (now (lists .entry)) (now (actors .entry)) g key clock left reply ⌝ }
 {
     let came = question::count_in(reply);
     match came {

@@ -13,16 +13,20 @@ module _ (g : Given) (w : Work) where
   unfolding stepOf
   step-marks marks = rw marks
 
-  pub step-goes : (m : MarkedFirst) → marksAt (w .turn .at) ≡ true → m ≡ firstMark g w → isFree (m .marked .disk) ≡ true → goAfter g w m ≡ stepOf g w
+  pub step-goes : (m : MarkedFirst) → marksAt (w .turn .at) ≡ true → m ≡ firstMark g w → isFree (m .marked .disk)
+      ≡ true → goAfter g w m ≡ stepOf g w
   step-goes m marks e free =
       let goes : goAfter g w m ≡ markThen g w m = rw free in
       goes ∙ (ap (markThen g w) e ∙ step-marks marks)
 
-  pub step-stops : (m : MarkedFirst) → marksAt (w .turn .at) ≡ true → m ≡ firstMark g w → isFree (m .marked .disk) ≡ false → stopAfter w m ≡ stepOf g w
+  pub step-stops : (m : MarkedFirst) → marksAt (w .turn .at) ≡ true → m ≡ firstMark g w → isFree (m .marked .disk)
+      ≡ false → stopAfter w m ≡ stepOf g w
   step-stops m marks e free =
       let stops : stopAfter w m ≡ markThen g w m = rw free in
       stops ∙ (ap (markThen g w) e ∙ step-marks marks)
 
-  pub step-runs : marksAt (w .turn .at) ≡ false → workBy (w .bytes) (w .records) (w .turn .log) (w .turn .disk) (goOf (w .turn .at) (w .turn .counts) (g .limits) (g .store) (g .groups) (w .links) (w .rows) (w .keys) (w .actors)) ≡ stepOf g w
+  pub step-runs : marksAt (w .turn .at) ≡ false → workBy (w .bytes) (w .records) (w .turn .log) (w .turn .disk)
+      (goOf (w .turn .at) (w .turn .counts) (g .limits) (g .store) (g .groups) (w .links) (w .rows) (w .keys)
+      (w .actors)) ≡ stepOf g w
   unfolding stepOf
   step-runs marks = rw marks

@@ -51,27 +51,48 @@ abbrev pub routedTo : At → ℕ → Counts → Went
 routedTo a queued n = record { at = a; counts = record { queued = queued; losses = n .losses; stepped = n .stepped } }
 
 abbrev pub beganTo : At → ℕ → Bool → Counts → Went
-beganTo a queued stepped n = record { at = a; counts = record { queued = queued; losses = n .losses; stepped = stepped } }
+beganTo a queued stepped n =
+    record { at = a; counts = record { queued = queued; losses = n .losses; stepped = stepped } }
 
 abbrev pub lostTo : At → ℕ → Losses → Counts → Went
-lostTo a queued losses n = record { at = a; counts = record { queued = queued; losses = losses; stepped = n .stepped } }
+lostTo a queued losses n =
+    record { at = a; counts = record { queued = queued; losses = losses; stepped = n .stepped } }
 
 -- ---- points that change the counts
 
 abbrev pub routeGone : Counts → Sent → GoneActors
-routeGone n s = record { links = s .links; keys = s .keys; actors = s .actors; went = routedTo (s .routed .at) (s .routed .queued) n }
+routeGone n s =
+    record {
+      links = s .links;
+      keys = s .keys;
+      actors = s .actors;
+      went = routedTo (s .routed .at) (s .routed .queued) n;
+    }
 
 unfoldable pub goRoute : Counts → Limits → List ℕ → Table → Table → Table → Table → Table → ℕ → GoneActors
-goRoute n limits store groups t rows keys actors left = routeGone n (routeOf groups (limits .groups) store t rows keys actors (n .queued) left)
+goRoute n limits store groups t rows keys actors left =
+    routeGone n (routeOf groups (limits .groups) store t rows keys actors (n .queued) left)
 
 abbrev pub readyGone : Counts → Readied → GoneActors
-readyGone n s = record { links = s .links; keys = s .keys; actors = s .actors; went = beganTo (s .begun .at) (s .begun .queued) (s .begun .stepped) n }
+readyGone n s =
+    record {
+      links = s .links;
+      keys = s .keys;
+      actors = s .actors;
+      went = beganTo (s .begun .at) (s .begun .queued) (s .begun .stepped) n;
+    }
 
 unfoldable pub goReady : Counts → Table → Table → Table → ℕ → ℕ → ℕ → GoneActors
 goReady n t keys actors g clock pops = readyGone n (readyOf t keys actors (n .queued) (n .stepped) g clock pops)
 
 abbrev pub settleGone : Counts → Settling → GoneActors
-settleGone n s = record { links = s .links; keys = s .keys; actors = s .actors; went = routedTo (s .settled .at) (s .settled .queued) n }
+settleGone n s =
+    record {
+      links = s .links;
+      keys = s .keys;
+      actors = s .actors;
+      went = routedTo (s .settled .at) (s .settled .queued) n;
+    }
 
 unfoldable pub goSettle : Counts → Table → Table → Table → Table → Cursor → Step → GoneActors
 goSettle n t rows keys actors c s = settleGone n (settleOf t rows keys actors c s (n .queued))
@@ -83,7 +104,13 @@ unfoldable pub goCrash : Counts → Table → Table → Table → Cursor → Gon
 goCrash n groups t rows c = crashGone n c (crashOf groups t rows c (n .losses))
 
 abbrev pub doomedGone : Counts → Crashing → GoneKeys
-doomedGone n s = record { links = s .links; rows = s .rows; keys = s .keys; went = lostTo (s .crashed .at) (s .crashed .queued) (s .crashed .losses) n }
+doomedGone n s =
+    record {
+      links = s .links;
+      rows = s .rows;
+      keys = s .keys;
+      went = lostTo (s .crashed .at) (s .crashed .queued) (s .crashed .losses) n;
+    }
 
 unfoldable pub goDoomed : Counts → Table → Table → Table → Table → Cursor → ℕ → GoneKeys
 goDoomed n groups t rows keys c left = doomedGone n (doomedOf groups t rows keys c left (n .queued) (n .losses))
@@ -116,23 +143,31 @@ keysGone actors s = record { links = s .links; rows = s .rows; keys = s .keys; a
 
 unfoldable pub goOf : At → Counts → Limits → List ℕ → Table → Table → Table → Table → Table → Gone
 goOf at.Rest n limits store groups t rows keys actors = gone t rows keys actors at.Rest n
-goOf (at.Seed g) n limits store groups t rows keys actors = seedGone t rows n (seedOf groups (limits .groups) keys actors g)
+goOf (at.Seed g) n limits store groups t rows keys actors =
+    seedGone t rows n (seedOf groups (limits .groups) keys actors g)
 goOf (at.SeedBoot g) n limits store groups t rows keys actors = gone t rows keys actors (at.SeedBoot g) n
-goOf (at.Intake left) n limits store groups t rows keys actors = intakeGone rows keys actors n (intakeOf t (n .queued) (limits .backlog) left)
-goOf (at.Route left) n limits store groups t rows keys actors = actorsGone rows (goRoute n limits store groups t rows keys actors left)
+goOf (at.Intake left) n limits store groups t rows keys actors =
+    intakeGone rows keys actors n (intakeOf t (n .queued) (limits .backlog) left)
+goOf (at.Route left) n limits store groups t rows keys actors =
+    actorsGone rows (goRoute n limits store groups t rows keys actors left)
 goOf (at.RouteBoot g left) n limits store groups t rows keys actors = gone t rows keys actors (at.RouteBoot g left) n
 goOf at.TickClock n limits store groups t rows keys actors = gone t rows keys actors at.TickClock n
-goOf (at.Wake g clock) n limits store groups t rows keys actors = wakeGone t rows actors n (wakeOf keys (limits .groups) g clock)
-goOf (at.WakeNext g clock left) n limits store groups t rows keys actors = nextGone t rows n (wakeNext keys actors g clock left)
-goOf (at.WakePoll g k clock left) n limits store groups t rows keys actors = gone t rows keys actors (at.WakePoll g k clock left) n
-goOf (at.Ready g clock pops) n limits store groups t rows keys actors = actorsGone rows (goReady n t keys actors g clock pops)
+goOf (at.Wake g clock) n limits store groups t rows keys actors =
+    wakeGone t rows actors n (wakeOf keys (limits .groups) g clock)
+goOf (at.WakeNext g clock left) n limits store groups t rows keys actors =
+    nextGone t rows n (wakeNext keys actors g clock left)
+goOf (at.WakePoll g k clock left) n limits store groups t rows keys actors =
+    gone t rows keys actors (at.WakePoll g k clock left) n
+goOf (at.Ready g clock pops) n limits store groups t rows keys actors =
+    actorsGone rows (goReady n t keys actors g clock pops)
 goOf (at.Fixed c a) n limits store groups t rows keys actors = gone t rows keys actors (at.Fixed c a) n
 goOf (at.Eval c a) n limits store groups t rows keys actors = gone t rows keys actors (at.Eval c a) n
-goOf (at.StepEnd c s) n limits store groups t rows keys actors = gone t rows keys actors (stepEnd actors c s) n
+goOf (at.StepEnd c e) n limits store groups t rows keys actors = gone t rows keys actors (stepEnd c e) n
 goOf (at.Sends c s) n limits store groups t rows keys actors = gone t rows keys actors (at.Sends c s) n
 goOf (at.Settle c s) n limits store groups t rows keys actors = actorsGone rows (goSettle n t rows keys actors c s)
 goOf (at.Crash c) n limits store groups t rows keys actors = rowsGone keys actors (goCrash n groups t rows c)
 goOf (at.AskTrap c) n limits store groups t rows keys actors = gone t rows keys actors (at.Trap c) n
 goOf (at.Trap c) n limits store groups t rows keys actors = gone t rows keys actors (at.Trap c) n
 goOf (at.Trapped c k) n limits store groups t rows keys actors = gone t rows keys actors (at.Trapped c k) n
-goOf (at.Doomed c left) n limits store groups t rows keys actors = keysGone actors (goDoomed n groups t rows keys c left)
+goOf (at.Doomed c left) n limits store groups t rows keys actors =
+    keysGone actors (goDoomed n groups t rows keys c left)

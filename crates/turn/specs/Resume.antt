@@ -1,4 +1,5 @@
--- A reply to the turn's question leads to the next point; with none open, and where the reply does not fit, nothing changes.
+-- A reply to the turn's question leads to the next point; with none open, and where the reply does not fit, nothing
+-- changes.
 use mathlib.Core.List.{List}
 use Prim.Native.Nat.{ℕ}
 use Rattle.lists.specs.Links.{Table}
@@ -8,8 +9,8 @@ use Rattle.actor.specs.declared.question.ClockIn.{ClockIn}
 use Rattle.actor.specs.declared.question.ClockIn.the-variants as clock
 use Rattle.actor.specs.Questions.{clockIn}
 use Rattle.steps.specs.declared.step.Step.{Step}
-use Rattle.steps.specs.declared.fixed.FixedAt.{FixedAt}
-use Rattle.steps.specs.declared.eval.EvalAt.{EvalAt}
+use Rattle.steps.specs.declared.fixed.FixedAsk.{FixedAsk}
+use Rattle.steps.specs.declared.eval.EvalAsk.{EvalAsk}
 use Rattle.steps.specs.declared.eval.Limit.{Limit}
 use Rattle.steps.specs.StepFixed.{FixedBoth, stepFixed}
 use Rattle.steps.specs.StepEval.{EvalBoth, stepEval}
@@ -62,19 +63,26 @@ unfoldable pub routeResumed : Counts → Table → Table → Table → Table →
 routeResumed n t rows keys actors g left r = routeGone n (routeReply t rows keys actors g (n .queued) left r)
 
 abbrev pub fixedDone : Counts → Cursor → FixedBoth → ResumedStep
-fixedDone n c s = record { links = s .links; actors = s .actors; went = routedTo (fixedAfter c (s .step .at)) (s .step .queued) n }
+fixedDone n c s =
+    record {
+      links = s .links;
+      actors = s .actors;
+      went = routedTo (fixedAfter c (s .step .next)) (s .step .queued) n;
+    }
 
-unfoldable pub fixedResumed : Counts → Table → Table → Table → Cursor → FixedAt → Reply → ResumedStep
-fixedResumed n t rows actors c a r = fixedDone n c (stepFixed t rows actors (slotAt (c .group) (c .key)) (n .queued) a r)
+unfoldable pub fixedResumed : Counts → Table → Table → Table → Cursor → FixedAsk → Reply → ResumedStep
+fixedResumed n t rows actors c a r =
+    fixedDone n c (stepFixed t rows actors (slotAt (c .group) (c .key)) (n .queued) a r)
 
 abbrev pub limitOf : Limits → Table → Cursor → Limit
 limitOf limits groups c = record { timeout = groupAt groups (c .group) .timeout; tick = limits .tick }
 
 abbrev pub evalDone : Cursor → EvalBoth → ResumedEval
-evalDone c s = record { links = s .links; actors = s .actors; at = evalAfter c (s .at) }
+evalDone c s = record { links = s .links; actors = s .actors; at = evalAfter c (s .next) }
 
-unfoldable pub evalResumed : Limits → Table → Table → Table → Table → Cursor → EvalAt → Reply → ResumedEval
-evalResumed limits groups t rows actors c a r = evalDone c (stepEval t rows actors (slotAt (c .group) (c .key)) (limitOf limits groups c) a r)
+unfoldable pub evalResumed : Limits → Table → Table → Table → Table → Cursor → EvalAsk → Reply → ResumedEval
+evalResumed limits groups t rows actors c a r =
+    evalDone c (stepEval t rows actors (slotAt (c .group) (c .key)) (limitOf limits groups c) a r)
 
 -- ---- all points
 
@@ -105,12 +113,15 @@ resumeOf (at.Route left) n limits groups t rows keys actors r = resumed t keys a
 resumeOf (at.RouteBoot g left) n limits groups t rows keys actors r = routeResumed n t rows keys actors g left r
 resumeOf at.TickClock n limits groups t rows keys actors r = resumed t keys actors (clockReply r) n
 resumeOf (at.Wake g clock) n limits groups t rows keys actors r = resumed t keys actors (at.Wake g clock) n
-resumeOf (at.WakeNext g clock left) n limits groups t rows keys actors r = resumed t keys actors (at.WakeNext g clock left) n
-resumeOf (at.WakePoll g k clock left) n limits groups t rows keys actors r = pollResumed t n (pollReply keys actors g k clock left r)
+resumeOf (at.WakeNext g clock left) n limits groups t rows keys actors r =
+    resumed t keys actors (at.WakeNext g clock left) n
+resumeOf (at.WakePoll g k clock left) n limits groups t rows keys actors r =
+    pollResumed t n (pollReply keys actors g k clock left r)
 resumeOf (at.Ready g clock pops) n limits groups t rows keys actors r = resumed t keys actors (at.Ready g clock pops) n
 resumeOf (at.Fixed c a) n limits groups t rows keys actors r = stepResumed keys (fixedResumed n t rows actors c a r)
-resumeOf (at.Eval c a) n limits groups t rows keys actors r = runResumed keys n (evalResumed limits groups t rows actors c a r)
-resumeOf (at.StepEnd c s) n limits groups t rows keys actors r = resumed t keys actors (at.StepEnd c s) n
+resumeOf (at.Eval c a) n limits groups t rows keys actors r =
+    runResumed keys n (evalResumed limits groups t rows actors c a r)
+resumeOf (at.StepEnd c e) n limits groups t rows keys actors r = resumed t keys actors (at.StepEnd c e) n
 resumeOf (at.Sends c s) n limits groups t rows keys actors r = resumed t keys actors (sendsReply c s r) n
 resumeOf (at.Settle c s) n limits groups t rows keys actors r = resumed t keys actors (at.Settle c s) n
 resumeOf (at.Crash c) n limits groups t rows keys actors r = resumed t keys actors (at.Crash c) n

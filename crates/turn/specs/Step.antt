@@ -7,10 +7,9 @@ use Rattle.lists.specs.declared.Found.the-variants as found
 use Rattle.lists.specs.Links.{pick, Table, FREE, firstOf, moveFirst}
 use Rattle.log.specs.declared.LogId.{LogId}
 use Rattle.log.specs.declared.Counters.{Counters}
-use Rattle.log.specs.declared.Answer.{Answer}
-use Rattle.log.specs.declared.Answer.the-variants as answer
-use Rattle.log.specs.declared.Stepped.{Stepped}
-use Rattle.log.specs.Log.{state, Did, markOf}
+use Rattle.log.specs.declared.Due.{Due}
+use Rattle.log.specs.declared.Due.the-variants as due
+use Rattle.log.specs.Log.{state, DidMark, markOf}
 use Rattle.actor.specs.declared.message.Logged.{Logged}
 use Rattle.actor.specs.declared.message.Logged.the-variants as logged
 use Rattle.actor.specs.Messages.{messageAt}
@@ -32,7 +31,8 @@ pub record Given : Type 0 where
   pub store : List ℕ
   pub groups : Table
 
--- what a turn changes: its own state, the log's bytes and open records, the lists of messages, their rows, the key lists, the actors
+-- what a turn changes: its own state, the log's bytes and open records, the lists of messages, their rows, the key
+-- lists, the actors
 pub record Work : Type 0 where
   pub turn : Turn
   pub bytes : List ℕ
@@ -55,27 +55,32 @@ pub record MarkedFirst : Type 0 where
   pub links : Table
   pub marked : Marked
 
-abbrev pub diskBy : LogId → Answer → Disk
-diskBy id (answer.Ordered o) = disk.Waits o (what.Mark id)
-diskBy id answer.Nothing = disk.Free
-diskBy id (answer.Refused r) = disk.Free
+abbrev pub diskBy : LogId → Due → Disk
+diskBy id (due.Ordered o) = disk.Waits o (what.Mark id)
+diskBy id due.Nothing = disk.Free
 
-abbrev pub markedBy : Stepped → LogId → Marked
-markedBy s id = record { counters = s .counters; disk = diskBy id (s .answer) }
+-- what a mark leaves: the log's counters after it, and the disk by what the log had due
+abbrev pub markedBy : Counters → Due → LogId → Marked
+markedBy n d id = record { counters = n; disk = diskBy id d }
 
-abbrev pub markedLog : Did → LogId → MarkedLog
-markedLog d id = record { bytes = d .wal .bytes; records = d .wal .table; marked = record { counters = d .wal .counters; disk = diskBy id (d .answer) } }
+-- the same with the log's bytes and open records
+abbrev pub markedLog : DidMark → LogId → MarkedLog
+markedLog d id =
+    record { bytes = d .wal .bytes; records = d .wal .table; marked = markedBy (d .wal .counters) (d .due) id }
 
 unfoldable pub markLogged : List ℕ → Table → Counters → ℕ → Logged → MarkedLog
 markLogged bytes records n limit (logged.As id) = markedLog (markOf limit (state bytes records n) (id .0)) id
-markLogged bytes records n limit logged.Never = record { bytes = bytes; records = records; marked = record { counters = n; disk = disk.Free } }
+markLogged bytes records n limit logged.Never =
+    record { bytes = bytes; records = records; marked = record { counters = n; disk = disk.Free } }
 
 abbrev pub markedLinks : Table → MarkedLog → MarkedFirst
 markedLinks t m = record { bytes = m .bytes; records = m .records; links = t; marked = m .marked }
 
 abbrev pub markFound : List ℕ → Table → Table → Table → Counters → ℕ → Found → MarkedFirst
-markFound bytes records t rows n limit (found.Entry e) = markedLinks (moveFirst t OVER FREE) (markLogged bytes records n limit (messageAt rows e .id))
-markFound bytes records t rows n limit found.Nothing = record { bytes = bytes; records = records; links = t; marked = record { counters = n; disk = disk.Free } }
+markFound bytes records t rows n limit (found.Entry e) =
+    markedLinks (moveFirst t OVER FREE) (markLogged bytes records n limit (messageAt rows e .id))
+markFound bytes records t rows n limit found.Nothing =
+    record { bytes = bytes; records = records; links = t; marked = record { counters = n; disk = disk.Free } }
 
 -- the first message that is over: its entry is free, and its mark is ordered
 unfoldable pub markFirst : List ℕ → Table → Table → Table → Counters → ℕ → MarkedFirst
@@ -99,7 +104,8 @@ workBy bytes records n d g =
 abbrev pub goAfter : Given → Work → MarkedFirst → Work
 goAfter g w m =
     workBy (m .bytes) (m .records) (m .marked .counters) (m .marked .disk)
-    (goOf (w .turn .at) (w .turn .counts) (g .limits) (g .store) (g .groups) (m .links) (w .rows) (w .keys) (w .actors))
+    (goOf (w .turn .at) (w .turn .counts) (g .limits) (g .store) (g .groups) (m .links) (w .rows) (w .keys)
+    (w .actors))
 
 -- the mark's order is out: the turn stays where it is
 abbrev pub stopAfter : Work → MarkedFirst → Work
@@ -122,7 +128,8 @@ stepOf g w =
     pick (marksAt (w .turn .at))
     (markThen g w (markFirst (w .bytes) (w .records) (w .links) (w .rows) (w .turn .log) (g .limits .«compact_at»)))
     (workBy (w .bytes) (w .records) (w .turn .log) (w .turn .disk)
-    (goOf (w .turn .at) (w .turn .counts) (g .limits) (g .store) (g .groups) (w .links) (w .rows) (w .keys) (w .actors)))
+    (goOf (w .turn .at) (w .turn .counts) (g .limits) (g .store) (g .groups) (w .links) (w .rows) (w .keys)
+    (w .actors)))
 
 -- ---- the loop
 

@@ -1,4 +1,5 @@
-// What is open: the order that waits, else the turn's question. It is a function of the state, so an older question is shown again once an order is stored.
+// What is open: the order that waits, else the turn's question. It is a function of the state, so an older question
+// is shown again once an order is stored.
 ghost use mathlib.Core.Path.{_≡_};
 ghost use Rattle.turn.specs.Asks.{asksAt, asksIn};
 use crate::state::Disk;
@@ -38,13 +39,13 @@ fn asks_at(at: At, links: &[[u64; 4]], rows: &[[u64; 7]]) -> Asked
             Asked::Open(q)
         }
         At::Ready(_, _, _) => Asked::Nothing,
-        At::Fixed(c, a) => {
+        At::Fixed(c, ask) => {
             let who = at::who_of(c.group, c.key);
-            fixed::fixed_asks(links, who, a)
+            fixed::fixed_asks(links, who, ask)
         }
-        At::Eval(c, a) => {
+        At::Eval(c, ask) => {
             let who = at::who_of(c.group, c.key);
-            eval::eval_asks(links, rows, who, a)
+            eval::eval_asks(links, rows, who, ask)
         }
         At::StepEnd(_, _) => Asked::Nothing,
         At::Sends(c, _) => {

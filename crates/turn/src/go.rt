@@ -70,7 +70,10 @@ fn go_route(
     actors: &mut [[u64; 12]],
     left: u64,
 ) -> Went
-    ensures { λ r. ⌜ record { links = now (links .exit); keys = now (lists .exit); actors = now (actors .exit); went = r } ≡ goRoute counts limits (now (store .entry)) (now (groups .entry)) (now (links .entry)) (now (rows .entry)) (now (lists .entry)) (now (actors .entry)) left ⌝ }
+    ensures { λ r.
+        ⌜ record { links = now (links .exit); keys = now (lists .exit); actors = now (actors .exit); went = r }
+        ≡ goRoute counts limits (now (store .entry)) (now (groups .entry)) (now (links .entry))
+        (now (rows .entry)) (now (lists .entry)) (now (actors .entry)) left ⌝ }
 {
     let s = route::route(
         groups,
@@ -96,7 +99,9 @@ fn go_ready(
     clock: u64,
     pops: u64,
 ) -> Went
-    ensures { λ r. ⌜ record { links = now (links .exit); keys = now (lists .exit); actors = now (actors .exit); went = r } ≡ goReady counts (now (links .entry)) (now (lists .entry)) (now (actors .entry)) g clock pops ⌝ }
+    ensures { λ r.
+        ⌜ record { links = now (links .exit); keys = now (lists .exit); actors = now (actors .exit); went = r }
+        ≡ goReady counts (now (links .entry)) (now (lists .entry)) (now (actors .entry)) g clock pops ⌝ }
 {
     let s = ready::ready(
         links,
@@ -121,7 +126,10 @@ fn go_settle(
     c: Cursor,
     step: Step,
 ) -> Went
-    ensures { λ r. ⌜ record { links = now (links .exit); keys = now (lists .exit); actors = now (actors .exit); went = r } ≡ goSettle counts (now (links .entry)) (now (rows .entry)) (now (lists .entry)) (now (actors .entry)) c step ⌝ }
+    ensures { λ r.
+        ⌜ record { links = now (links .exit); keys = now (lists .exit); actors = now (actors .exit); went = r }
+        ≡ goSettle counts (now (links .entry)) (now (rows .entry)) (now (lists .entry)) (now (actors .entry)) c
+        step ⌝ }
 {
     let s = settle::settle(links, rows, lists, actors, c, step, counts.queued);
     let at = s.at;
@@ -135,7 +143,9 @@ fn go_crash(
     rows: &mut [[u64; 7]],
     c: Cursor,
 ) -> Went
-    ensures { λ r. ⌜ record { links = now (links .exit); rows = now (rows .exit); went = r } ≡ goCrash counts (now (groups .entry)) (now (links .entry)) (now (rows .entry)) c ⌝ }
+    ensures { λ r.
+        ⌜ record { links = now (links .exit); rows = now (rows .exit); went = r }
+        ≡ goCrash counts (now (groups .entry)) (now (links .entry)) (now (rows .entry)) c ⌝ }
 {
     let losses = counts.losses;
     let more = crash::crash(groups, links, rows, c, losses);
@@ -152,7 +162,10 @@ fn go_doomed(
     c: Cursor,
     left: u64,
 ) -> Went
-    ensures { λ r. ⌜ record { links = now (links .exit); rows = now (rows .exit); keys = now (lists .exit); went = r } ≡ goDoomed counts (now (groups .entry)) (now (links .entry)) (now (rows .entry)) (now (lists .entry)) c left ⌝ }
+    ensures { λ r.
+        ⌜ record { links = now (links .exit); rows = now (rows .exit); keys = now (lists .exit); went = r }
+        ≡ goDoomed counts (now (groups .entry)) (now (links .entry)) (now (rows .entry)) (now (lists .entry)) c
+        left ⌝ }
 {
     let losses = counts.losses;
     let s = crash::doomed(groups, links, rows, lists, c, left, counts.queued, losses);
@@ -173,7 +186,16 @@ pub(crate) fn go(
     lists: &mut [[u8; 65]],
     actors: &mut [[u64; 12]],
 ) -> Went
-    ensures { λ r. ⌜ record { links = now (links .exit); rows = now (rows .exit); keys = now (lists .exit); actors = now (actors .exit); went = r } ≡ goOf at counts limits (now (store .entry)) (now (groups .entry)) (now (links .entry)) (now (rows .entry)) (now (lists .entry)) (now (actors .entry)) ⌝ }
+    ensures { λ r.
+        ⌜ record {
+          links = now (links .exit);
+          rows = now (rows .exit);
+          keys = now (lists .exit);
+          actors = now (actors .exit);
+          went = r;
+        }
+        ≡ goOf at counts limits (now (store .entry)) (now (groups .entry)) (now (links .entry))
+        (now (rows .entry)) (now (lists .entry)) (now (actors .entry)) ⌝ }
 {
     match at {
         At::Rest => Went {
@@ -224,16 +246,16 @@ pub(crate) fn go(
             counts,
         },
         At::Ready(g, clock, pops) => go_ready(counts, links, lists, actors, g, clock, pops),
-        At::Fixed(c, a) => Went {
-            at: At::Fixed(c, a),
+        At::Fixed(c, ask) => Went {
+            at: At::Fixed(c, ask),
             counts,
         },
-        At::Eval(c, a) => Went {
-            at: At::Eval(c, a),
+        At::Eval(c, ask) => Went {
+            at: At::Eval(c, ask),
             counts,
         },
-        At::StepEnd(c, step) => {
-            let next = settle::step_end(actors, c, step);
+        At::StepEnd(c, end) => {
+            let next = settle::step_end(c, end);
             Went { at: next, counts }
         }
         At::Sends(c, step) => Went {

@@ -1,4 +1,5 @@
-// A reply to the turn's question leads to the next point. A message that was sent is kept by the caller: here Sends only ends.
+// A reply to the turn's question leads to the next point. A message that was sent is kept by the caller: here Sends
+// only ends.
 ghost use mathlib.Core.Path.{_≡_};
 ghost use Rattle.turn.specs.Resume.{clockReply, sendsReply, routeResumed, fixedResumed, evalResumed, resumeOf};
 use crate::go;
@@ -16,10 +17,10 @@ use group::settings;
 use routing::route;
 use routing::seed;
 use steps::eval;
-use steps::eval::EvalAt;
+use steps::eval::EvalAsk;
 use steps::eval::Limit;
 use steps::fixed;
-use steps::fixed::FixedAt;
+use steps::fixed::FixedAsk;
 use steps::step::Step;
 use ticking::crash;
 use ticking::waking;
@@ -63,7 +64,10 @@ fn route_resumed(
     left: u64,
     reply: Reply,
 ) -> Went
-    ensures { λ r. ⌜ record { links = now (links .exit); keys = now (lists .exit); actors = now (actors .exit); went = r } ≡ routeResumed counts (now (links .entry)) (now (rows .entry)) (now (lists .entry)) (now (actors .entry)) g left reply ⌝ }
+    ensures { λ r.
+        ⌜ record { links = now (links .exit); keys = now (lists .exit); actors = now (actors .exit); went = r }
+        ≡ routeResumed counts (now (links .entry)) (now (rows .entry)) (now (lists .entry))
+        (now (actors .entry)) g left reply ⌝ }
 {
     let s = route::route_reply(links, rows, lists, actors, g, counts.queued, left, reply);
     let at = s.at;
@@ -76,14 +80,16 @@ fn fixed_resumed(
     rows: &[[u64; 7]],
     actors: &mut [[u64; 12]],
     c: Cursor,
-    a: FixedAt,
+    ask: FixedAsk,
     reply: Reply,
 ) -> Went
-    ensures { λ r. ⌜ record { links = now (links .exit); actors = now (actors .exit); went = r } ≡ fixedResumed counts (now (links .entry)) (now (rows .entry)) (now (actors .entry)) c a reply ⌝ }
+    ensures { λ r.
+        ⌜ record { links = now (links .exit); actors = now (actors .exit); went = r }
+        ≡ fixedResumed counts (now (links .entry)) (now (rows .entry)) (now (actors .entry)) c ask reply ⌝ }
 {
     let slot = roster::slot_at(c.group, c.key);
-    let s = fixed::step_fixed(links, rows, actors, slot, counts.queued, a, reply);
-    let next = s.at;
+    let s = fixed::step_fixed(links, rows, actors, slot, counts.queued, ask, reply);
+    let next = s.next;
     let at = at::fixed_after(c, next);
     go::routed_to(at, s.queued, counts)
 }
@@ -95,10 +101,13 @@ fn eval_resumed(
     rows: &[[u64; 7]],
     actors: &mut [[u64; 12]],
     c: Cursor,
-    a: EvalAt,
+    ask: EvalAsk,
     reply: Reply,
 ) -> At
-    ensures { λ r. ⌜ record { links = now (links .exit); actors = now (actors .exit); at = r } ≡ evalResumed limits (now (groups .entry)) (now (links .entry)) (now (rows .entry)) (now (actors .entry)) c a reply ⌝ }
+    ensures { λ r.
+        ⌜ record { links = now (links .exit); actors = now (actors .exit); at = r }
+        ≡ evalResumed limits (now (groups .entry)) (now (links .entry)) (now (rows .entry))
+        (now (actors .entry)) c ask reply ⌝ }
 {
     let s = settings::group_at(groups, c.group);
     let limit = Limit {
@@ -106,7 +115,7 @@ fn eval_resumed(
         tick: limits.tick,
     };
     let slot = roster::slot_at(c.group, c.key);
-    let next = eval::step_eval(links, rows, actors, slot, limit, a, reply);
+    let next = eval::step_eval(links, rows, actors, slot, limit, ask, reply);
     at::eval_after(c, next)
 }
 
@@ -122,7 +131,10 @@ pub fn resume(
     actors: &mut [[u64; 12]],
     reply: Reply,
 ) -> Went
-    ensures { λ r. ⌜ record { links = now (links .exit); keys = now (lists .exit); actors = now (actors .exit); went = r } ≡ resumeOf at counts limits (now (groups .entry)) (now (links .entry)) (now (rows .entry)) (now (lists .entry)) (now (actors .entry)) reply ⌝ }
+    ensures { λ r.
+        ⌜ record { links = now (links .exit); keys = now (lists .exit); actors = now (actors .exit); went = r }
+        ≡ resumeOf at counts limits (now (groups .entry)) (now (links .entry)) (now (rows .entry))
+        (now (lists .entry)) (now (actors .entry)) reply ⌝ }
 {
     match at {
         At::Rest => Went {
@@ -166,13 +178,13 @@ pub fn resume(
             at: At::Ready(g, clock, pops),
             counts,
         },
-        At::Fixed(c, a) => fixed_resumed(counts, links, rows, actors, c, a, reply),
-        At::Eval(c, a) => {
-            let next = eval_resumed(limits, groups, links, rows, actors, c, a, reply);
+        At::Fixed(c, ask) => fixed_resumed(counts, links, rows, actors, c, ask, reply),
+        At::Eval(c, ask) => {
+            let next = eval_resumed(limits, groups, links, rows, actors, c, ask, reply);
             Went { at: next, counts }
         }
-        At::StepEnd(c, step) => Went {
-            at: At::StepEnd(c, step),
+        At::StepEnd(c, end) => Went {
+            at: At::StepEnd(c, end),
             counts,
         },
         At::Sends(c, step) => {

@@ -1,4 +1,5 @@
-// Where a turn stands, the order that waits, the counts, and the log's counters; and the settings that a turn looks at.
+// Where a turn stands, the order that waits, the counts, and the log's counters; and the settings that a turn looks
+// at.
 ghost use mathlib.Core.Path.{_≡_};
 ghost use Rattle.turn.specs.State.{runsAt, marksAt, isFree, runningOf};
 use group::at::At;

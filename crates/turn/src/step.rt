@@ -1,7 +1,8 @@
-// A step of a turn: at some points what is over gets its mark first, one order at a time; then the point runs. The loop stops at a question,
-// an order, or the turn's end.
+// A step of a turn: at some points what is over gets its mark first, one order at a time; then the point runs. The
+// loop stops at a question, an order, or the turn's end.
 ghost use mathlib.Core.Path.{_≡_};
-ghost use Rattle.turn.specs.Step.{markedBy, markLogged, markFirst, stepOf, advanceOf, weightOf};
+ghost use Rattle.log.specs.Log.{state, markOf};
+ghost use Rattle.turn.specs.Step.{markedBy, markedLog, markLogged, markFirst, stepOf, advanceOf, weightOf};
 use crate::go;
 use crate::state;
 use crate::state::Disk;
@@ -11,10 +12,9 @@ use crate::state::What;
 use actor::message;
 use actor::message::Logged;
 use lists::Found;
-use log::Answer;
 use log::Counters;
+use log::Due;
 use log::LogId;
-use log::Stepped;
 use log::wal;
 
 // The log's counters after a mark, and its order, if one went out.
@@ -23,26 +23,38 @@ pub struct Marked {
     pub disk: Disk,
 }
 
-// What the log said to a mark.
-fn marked_by(s: Stepped, id: LogId) -> Marked
-    ensures { λ r. ⌜ r ≡ markedBy s id ⌝ }
+// What the log had due for a mark, acted on: with the counters as they are now.
+fn marked_by(counters: Counters, due: Due, id: LogId) -> Marked
+    ensures { λ r. ⌜ r ≡ markedBy counters due id ⌝ }
 {
-    let counters = s.counters;
-    let answer = s.answer;
-    match answer {
-        Answer::Ordered(order) => Marked {
+    match due {
+        Due::Ordered(order) => Marked {
             counters,
             disk: Disk::Waits(order, What::Mark(id)),
         },
-        Answer::Nothing => Marked {
-            counters,
-            disk: Disk::Free,
-        },
-        Answer::Refused(_) => Marked {
+        Due::Nothing => Marked {
             counters,
             disk: Disk::Free,
         },
     }
+}
+
+// The mark of a message that was logged as `id`: the log changes the turn's counters, lent to it by `&mut`.
+fn mark_id(
+    log: &mut [u8],
+    records: &mut [[u64; 3]],
+    before: Counters,
+    limit: usize,
+    id: LogId,
+) -> Marked
+    ensures { λ r. ⌜
+        record { bytes = now (log .exit); records = now (records .exit); marked = r }
+        ≡ markedLog (markOf limit (state (now (log .entry)) (now (records .entry)) before) (id .0)) id
+        ⌝ }
+{
+    let mut counters = before;
+    let due = wal::mark(&mut counters, log, records, limit, id);
+    marked_by(counters, due, id)
 }
 
 // A message's mark, where it was logged.
@@ -53,13 +65,13 @@ fn mark_logged(
     limit: usize,
     id: Logged,
 ) -> Marked
-    ensures { λ r. ⌜ record { bytes = now (log .exit); records = now (records .exit); marked = r } ≡ markLogged (now (log .entry)) (now (records .entry)) counters limit id ⌝ }
+    ensures { λ r. ⌜
+        record { bytes = now (log .exit); records = now (records .exit); marked = r }
+        ≡ markLogged (now (log .entry)) (now (records .entry)) counters limit id
+        ⌝ }
 {
     match id {
-        Logged::As(number) => {
-            let s = wal::mark(log, records, counters, limit, number);
-            marked_by(s, number)
-        }
+        Logged::As(number) => mark_id(log, records, counters, limit, number),
         Logged::Never => Marked {
             counters,
             disk: Disk::Free,
@@ -76,7 +88,16 @@ fn mark_first(
     counters: Counters,
     limit: usize,
 ) -> Marked
-    ensures { λ r. ⌜ record { bytes = now (log .exit); records = now (records .exit); links = now (links .exit); marked = r } ≡ markFirst (now (log .entry)) (now (records .entry)) (now (links .entry)) (now (rows .entry)) counters limit ⌝ }
+    ensures { λ r. ⌜
+        record {
+          bytes = now (log .exit);
+          records = now (records .exit);
+          links = now (links .exit);
+          marked = r;
+        }
+        ≡ markFirst
+        (now (log .entry)) (now (records .entry)) (now (links .entry)) (now (rows .entry)) counters limit
+        ⌝ }
 {
     match lists::first(links, lists::OVER) {
         Found::Entry(e) => {
@@ -105,7 +126,28 @@ pub(crate) fn step(
     lists: &mut [[u8; 65]],
     actors: &mut [[u64; 12]],
 ) -> Turn
-    ensures { λ r. ⌜ record { turn = r; bytes = now (log .exit); records = now (records .exit); links = now (links .exit); rows = now (rows .exit); keys = now (lists .exit); actors = now (actors .exit) } ≡ stepOf (record { limits = limits; store = now (store .entry); groups = now (groups .entry) }) (record { turn = turn; bytes = now (log .entry); records = now (records .entry); links = now (links .entry); rows = now (rows .entry); keys = now (lists .entry); actors = now (actors .entry) }) ⌝ }
+    ensures { λ r. ⌜
+        record {
+          turn = r;
+          bytes = now (log .exit);
+          records = now (records .exit);
+          links = now (links .exit);
+          rows = now (rows .exit);
+          keys = now (lists .exit);
+          actors = now (actors .exit);
+        }
+        ≡ stepOf
+        (record { limits = limits; store = now (store .entry); groups = now (groups .entry) })
+        (record {
+          turn = turn;
+          bytes = now (log .entry);
+          records = now (records .entry);
+          links = now (links .entry);
+          rows = now (rows .entry);
+          keys = now (lists .entry);
+          actors = now (actors .entry);
+        })
+        ⌝ }
 {
     let at = turn.at;
     let counts = turn.counts;
@@ -166,7 +208,7 @@ pub(crate) fn step(
     }
 }
 
-// As far as the turn runs by itself.
+// Runs until a question, an order or the end.
 pub fn advance(
     turn: Turn,
     limits: Limits,
@@ -179,7 +221,28 @@ pub fn advance(
     lists: &mut [[u8; 65]],
     actors: &mut [[u64; 12]],
 ) -> Turn
-    ensures { λ r. ⌜ record { turn = r; bytes = now (log .exit); records = now (records .exit); links = now (links .exit); rows = now (rows .exit); keys = now (lists .exit); actors = now (actors .exit) } ≡ advanceOf (weightOf turn) (record { limits = limits; store = now (store .entry); groups = now (groups .entry) }) (record { turn = turn; bytes = now (log .entry); records = now (records .entry); links = now (links .entry); rows = now (rows .entry); keys = now (lists .entry); actors = now (actors .entry) }) ⌝ }
+    ensures { λ r. ⌜
+        record {
+          turn = r;
+          bytes = now (log .exit);
+          records = now (records .exit);
+          links = now (links .exit);
+          rows = now (rows .exit);
+          keys = now (lists .exit);
+          actors = now (actors .exit);
+        }
+        ≡ advanceOf (weightOf turn)
+        (record { limits = limits; store = now (store .entry); groups = now (groups .entry) })
+        (record {
+          turn = turn;
+          bytes = now (log .entry);
+          records = now (records .entry);
+          links = now (links .entry);
+          rows = now (rows .entry);
+          keys = now (lists .entry);
+          actors = now (actors .entry);
+        })
+        ⌝ }
 {
     let mut t = turn;
     while state::running(t) {

@@ -32,9 +32,11 @@ unfolding numbers
 length-numbers [] = refl
 length-numbers (n ∷ ns) = length-append (number n) (numbers ns) ∙ omega (arith, length-number n, length-numbers ns)
 
-pub numbers-more : (ns : List ℕ) (i : ℕ) → i < length ns → numbers (drop i ns) ≡ number (getD ns i 0) ++ numbers (drop (i + 1) ns)
+pub numbers-more : (ns : List ℕ) (i : ℕ) → i < length ns → numbers (drop i ns) ≡ number (getD ns i 0) ++ numbers
+    (drop (i + 1) ns)
 unfolding numbers
-numbers-more ns i h = ap numbers (drop-cons ns i 0 h) ∙ ap (λ k. number (getD ns i 0) ++ numbers (drop k ns)) (sym (add-one i))
+numbers-more ns i h = ap numbers (drop-cons ns i 0 h) ∙ ap (λ k. number (getD ns i 0) ++ numbers (drop k ns))
+    (sym (add-one i))
 
 pub numbers-end : (ns : List ℕ) (i : ℕ) → length ns ≤ i → numbers (drop i ns) ≡ []
 unfolding numbers
@@ -43,5 +45,8 @@ numbers-end ns i h = ap numbers (drop-of-length-le ns h)
 pub drop-more : (s : List ℕ) (i : ℕ) → i < length s → drop i s ≡ (getD s i 0 ∷ []) ++ drop (i + 1) s
 drop-more s i h = drop-cons s i 0 h ∙ ap (λ k. getD s i 0 ∷ drop k s) (sym (add-one i))
 
-pub numbers-room : (ns : List ℕ) (i : ℕ) → i < length ns → length (numbers (drop i ns)) ≡ 8 + length (numbers (drop (i + 1) ns))
-numbers-room ns i h = ap length (numbers-more ns i h) ∙ (length-append (number (getD ns i 0)) (numbers (drop (i + 1) ns)) ∙ ap (λ k. k + length (numbers (drop (i + 1) ns))) (length-number (getD ns i 0)))
+pub numbers-room : (ns : List ℕ) (i : ℕ) → i < length ns → length (numbers (drop i ns))
+    ≡ 8 + length (numbers (drop (i + 1) ns))
+numbers-room ns i h = ap length (numbers-more ns i h)
+    ∙ (length-append (number (getD ns i 0)) (numbers (drop (i + 1) ns))
+    ∙ ap (λ k. k + length (numbers (drop (i + 1) ns))) (length-number (getD ns i 0)))

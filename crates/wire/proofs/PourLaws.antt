@@ -16,11 +16,13 @@ use Rattle.wire.specs.Pour.{Poured, poured, pour, pourRows, pourKeys}
 -- ---- one text: it has room, it has none, nothing goes out any more
 
 module _ (text : List ℕ) {out : List ℕ} {at code : ℕ} where
-  pub pour-room : {out′ : List ℕ} {end : ℕ} → code ≡ 0 → leb (at + length text) (length out) ≡ true → Wrote out at text out′ end → poured out′ end 0 ≡ pour (poured out at code) text
+  pub pour-room : {out′ : List ℕ} {end : ℕ} → code ≡ 0 → leb (at + length text) (length out) ≡ true
+      → Wrote out at text out′ end → poured out′ end 0 ≡ pour (poured out at code) text
   unfolding pour
   pour-room e r w = rw (eq-eqb code 0 e, r, w .bytes, w .past)
 
-  pub pour-full : code ≡ 0 → leb (at + length text) (length out) ≡ false → poured out at 2 ≡ pour (poured out at code) text
+  pub pour-full : code ≡ 0 → leb (at + length text) (length out) ≡ false → poured out at 2
+      ≡ pour (poured out at code) text
   unfolding pour
   pour-full e r = rw (eq-eqb code 0 e, r)
 
@@ -35,7 +37,8 @@ module _ (t : Table) (i : ℕ) where
   more inside = rw add-one (drop-cons t i [] inside)
 
   module _ (d : Poured) {d′ whole : Poured} (inside : i < length t) where
-    pub rows-more : d′ ≡ pour d (numbers (getD t i [])) → pourRows d (drop i t) ≡ whole → pourRows d′ (drop (i + 1) t) ≡ whole
+    pub rows-more : d′ ≡ pour d (numbers (getD t i [])) → pourRows d (drop i t) ≡ whole → pourRows d′ (drop (i + 1) t)
+        ≡ whole
     unfolding pourRows
     rows-more e h = rw e (sym (ap (pourRows d) (more inside)) ∙ h)
 

@@ -21,7 +21,8 @@ poured out at code = record { out = out; at = at; code = code }
 unfoldable pub pour : Poured → List ℕ → Poured
 pour d text =
     pick (eqb (d .code) 0)
-    (pick (leb (d .at + length text) (length (d .out))) (poured (write (d .out) (d .at) text) (d .at + length text) 0) (poured (d .out) (d .at) 2))
+    (pick (leb (d .at + length text) (length (d .out))) (poured (write (d .out) (d .at) text) (d .at + length text) 0)
+    (poured (d .out) (d .at) 2))
     d
 
 -- rows of numbers, and rows of bytes

@@ -1,5 +1,5 @@
--- A script's bytes (docs/PROTOCOL.md): a header with settings and lent lengths, the groups, the file, then calls. A script that is cut short, or has a number that
--- stands for nothing, is malformed.
+-- A script's bytes (docs/PROTOCOL.md): a header with settings and lent lengths, the groups, the file, then calls. A
+-- script that is cut short, or has a number that stands for nothing, is malformed.
 use mathlib.Core.Bool.{Bool, true, false}
 use mathlib.Core.List.{List, [], _∷_}
 use Prim.Native.Nat.{ℕ, zero, suc, _+_, _-_, _*_, _≤_, _<_}
@@ -54,7 +54,8 @@ headerOf s =
     (pick (ltb 3 (numberAt s 8)) header.Malformed
     (pick (ltb 16 (numberAt s 80)) header.Malformed
     (pick (ltb (length s) (fileAt (numberAt s 80))) header.Malformed
-    (pick (ltb (length s - fileAt (numberAt s 80)) (numberAt s 32)) header.Malformed (header.Fields (fieldsOf s (numberAt s 80)))))))
+    (pick (ltb (length s - fileAt (numberAt s 80)) (numberAt s 32)) header.Malformed
+    (header.Fields (fieldsOf s (numberAt s 80)))))))
     header.Malformed)
 
 -- the groups and the file lie in the script
@@ -72,7 +73,8 @@ groupsInto (suc k) s p (old ∷ olds) = numbersAt 37 s p ∷ groupsInto k s (p +
 
 -- 0 nobody, 1 a caller
 unfoldable pub callerIn : ℕ → ℕ → KindRead
-callerIn k v = pick (eqb k 0) (known.Known (kind.Admit caller.Nobody)) (pick (eqb k 1) (known.Known (kind.Admit (caller.From (record { 0 = v })))) known.Unknown)
+callerIn k v = pick (eqb k 0) (known.Known (kind.Admit caller.Nobody))
+    (pick (eqb k 1) (known.Known (kind.Admit (caller.From (record { 0 = v })))) known.Unknown)
 
 abbrev pub repliedBy : Reply → KindRead
 repliedBy r = known.Known (kind.Reply r)
@@ -84,7 +86,8 @@ statusIn v =
     (pick (eqb v 2) (repliedBy (reply.Ran status.Preempted))
     (pick (eqb v 3) (repliedBy (reply.Ran status.Event))
     (pick (eqb v 4) (repliedBy (reply.Ran status.HostCall))
-    (pick (eqb v 5) (repliedBy (reply.Ran status.Error)) (pick (eqb v 6) (repliedBy (reply.Ran status.Broke)) known.Unknown))))))
+    (pick (eqb v 5) (repliedBy (reply.Ran status.Error)) (pick (eqb v 6) (repliedBy (reply.Ran status.Broke))
+    known.Unknown))))))
 
 -- 0 no, 1 yes, 2 clock, 3 count, 4 ran, 5 message, 6 end, 7 told, 8 stored, 9 failed
 unfoldable pub replyIn : ℕ → ℕ → KindRead
@@ -104,7 +107,8 @@ unfoldable pub kindIn : ℕ → ℕ → ℕ → KindRead
 kindIn tag k v =
     pick (eqb tag 1) (callerIn k v)
     (pick (eqb tag 2) (known.Known kind.Turn)
-    (pick (eqb tag 3) (replyIn k v) (pick (eqb tag 4) (known.Known kind.Sync) (pick (eqb tag 5) (known.Known kind.Close) known.Unknown))))
+    (pick (eqb tag 3) (replyIn k v) (pick (eqb tag 4) (known.Known kind.Sync)
+    (pick (eqb tag 5) (known.Known kind.Close) known.Unknown))))
 
 -- a call of a known kind, whose name begins at `name`, its body at `body`, and ends at `end`
 abbrev pub readAs : ℕ → ℕ → ℕ → KindRead → CallRead
@@ -117,7 +121,8 @@ callAt s p =
     pick (ltb (length s - p) 40) Malformed
     (pick (ltb (length s - (p + 40)) (numberAt s (p + 24))) Malformed
     (pick (ltb (length s - (p + 40 + numberAt s (p + 24))) (numberAt s (p + 32))) Malformed
-    (readAs (p + 40) (p + 40 + numberAt s (p + 24)) (p + 40 + numberAt s (p + 24) + numberAt s (p + 32)) (kindIn (numberAt s p) (numberAt s (p + 8)) (numberAt s (p + 16))))))
+    (readAs (p + 40) (p + 40 + numberAt s (p + 24)) (p + 40 + numberAt s (p + 24) + numberAt s (p + 32))
+    (kindIn (numberAt s p) (numberAt s (p + 8)) (numberAt s (p + 16))))))
 
 -- a call that was read lies behind p, in the script
 abbrev pub InScript : List ℕ → ℕ → CallRead → Type 0

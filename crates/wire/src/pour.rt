@@ -1,4 +1,5 @@
-// The output: texts one behind the other, each whole, while the lent slice has room. Nothing is required: on any numbers each function equals its definition.
+// The output: texts one behind the other, each whole, while the lent slice has room. Nothing is required: on any
+// numbers each function equals its definition.
 ghost use mathlib.Core.Path.{_≡_};
 ghost use Prim.Native.Nat.{_+_};
 ghost use lib.Dec.{leb};
@@ -25,7 +26,8 @@ fn fits_behind(at: usize, n: usize, long: usize) -> bool
 
 // Bytes.
 pub fn pour_bytes(out: &mut [u8], d: Done, s: &[u8]) -> Done
-    ensures { λ r. ⌜ record { out = now (out .exit); at = r .at; code = r .code } ≡ pour (record { out = now (out .entry); at = d .at; code = d .code }) (now (s .entry)) ⌝ }
+    ensures { λ r. ⌜ record { out = now (out .exit); at = r .at; code = r .code }
+        ≡ pour (record { out = now (out .entry); at = d .at; code = d .code }) (now (s .entry)) ⌝ }
 {
     if d.code == 0 {
         let at = d.at;
@@ -40,7 +42,8 @@ pub fn pour_bytes(out: &mut [u8], d: Done, s: &[u8]) -> Done
 
 // Numbers.
 pub fn pour_numbers(out: &mut [u8], d: Done, ns: &[u64]) -> Done
-    ensures { λ r. ⌜ record { out = now (out .exit); at = r .at; code = r .code } ≡ pour (record { out = now (out .entry); at = d .at; code = d .code }) (numbers (now (ns .entry))) ⌝ }
+    ensures { λ r. ⌜ record { out = now (out .exit); at = r .at; code = r .code }
+        ≡ pour (record { out = now (out .entry); at = d .at; code = d .code }) (numbers (now (ns .entry))) ⌝ }
 {
     if d.code == 0 {
         let at = d.at;
@@ -55,7 +58,8 @@ pub fn pour_numbers(out: &mut [u8], d: Done, ns: &[u64]) -> Done
 
 // The table of open records.
 pub fn pour_records(out: &mut [u8], d: Done, t: &[[u64; 3]]) -> Done
-    ensures { λ r. ⌜ record { out = now (out .exit); at = r .at; code = r .code } ≡ pourRows (record { out = now (out .entry); at = d .at; code = d .code }) (now (t .entry)) ⌝ }
+    ensures { λ r. ⌜ record { out = now (out .exit); at = r .at; code = r .code }
+        ≡ pourRows (record { out = now (out .entry); at = d .at; code = d .code }) (now (t .entry)) ⌝ }
 {
     let mut e = d;
     let mut i: usize = 0;
@@ -70,7 +74,8 @@ pub fn pour_records(out: &mut [u8], d: Done, t: &[[u64; 3]]) -> Done
 
 // The table of links.
 pub fn pour_links(out: &mut [u8], d: Done, t: &[[u64; 4]]) -> Done
-    ensures { λ r. ⌜ record { out = now (out .exit); at = r .at; code = r .code } ≡ pourRows (record { out = now (out .entry); at = d .at; code = d .code }) (now (t .entry)) ⌝ }
+    ensures { λ r. ⌜ record { out = now (out .exit); at = r .at; code = r .code }
+        ≡ pourRows (record { out = now (out .entry); at = d .at; code = d .code }) (now (t .entry)) ⌝ }
 {
     let mut e = d;
     let mut i: usize = 0;
@@ -85,7 +90,8 @@ pub fn pour_links(out: &mut [u8], d: Done, t: &[[u64; 4]]) -> Done
 
 // The table of messages.
 pub fn pour_messages(out: &mut [u8], d: Done, t: &[[u64; 7]]) -> Done
-    ensures { λ r. ⌜ record { out = now (out .exit); at = r .at; code = r .code } ≡ pourRows (record { out = now (out .entry); at = d .at; code = d .code }) (now (t .entry)) ⌝ }
+    ensures { λ r. ⌜ record { out = now (out .exit); at = r .at; code = r .code }
+        ≡ pourRows (record { out = now (out .entry); at = d .at; code = d .code }) (now (t .entry)) ⌝ }
 {
     let mut e = d;
     let mut i: usize = 0;
@@ -100,7 +106,8 @@ pub fn pour_messages(out: &mut [u8], d: Done, t: &[[u64; 7]]) -> Done
 
 // The table of actors.
 pub fn pour_actors(out: &mut [u8], d: Done, t: &[[u64; 12]]) -> Done
-    ensures { λ r. ⌜ record { out = now (out .exit); at = r .at; code = r .code } ≡ pourRows (record { out = now (out .entry); at = d .at; code = d .code }) (now (t .entry)) ⌝ }
+    ensures { λ r. ⌜ record { out = now (out .exit); at = r .at; code = r .code }
+        ≡ pourRows (record { out = now (out .entry); at = d .at; code = d .code }) (now (t .entry)) ⌝ }
 {
     let mut e = d;
     let mut i: usize = 0;
@@ -115,7 +122,8 @@ pub fn pour_actors(out: &mut [u8], d: Done, t: &[[u64; 12]]) -> Done
 
 // The table of groups.
 pub fn pour_groups(out: &mut [u8], d: Done, t: &[[u64; 37]]) -> Done
-    ensures { λ r. ⌜ record { out = now (out .exit); at = r .at; code = r .code } ≡ pourRows (record { out = now (out .entry); at = d .at; code = d .code }) (now (t .entry)) ⌝ }
+    ensures { λ r. ⌜ record { out = now (out .exit); at = r .at; code = r .code }
+        ≡ pourRows (record { out = now (out .entry); at = d .at; code = d .code }) (now (t .entry)) ⌝ }
 {
     let mut e = d;
     let mut i: usize = 0;
@@ -130,7 +138,8 @@ pub fn pour_groups(out: &mut [u8], d: Done, t: &[[u64; 37]]) -> Done
 
 // The lists of keys.
 pub fn pour_keys(out: &mut [u8], d: Done, t: &[[u8; 65]]) -> Done
-    ensures { λ r. ⌜ record { out = now (out .exit); at = r .at; code = r .code } ≡ pourKeys (record { out = now (out .entry); at = d .at; code = d .code }) (now (t .entry)) ⌝ }
+    ensures { λ r. ⌜ record { out = now (out .exit); at = r .at; code = r .code }
+        ≡ pourKeys (record { out = now (out .entry); at = d .at; code = d .code }) (now (t .entry)) ⌝ }
 {
     let mut e = d;
     let mut i: usize = 0;

@@ -2,7 +2,8 @@
 ghost use mathlib.Core.Path.{_≡_};
 ghost use Prim.Native.Nat.{_+_, _≤_, _<_};
 ghost use Rattle.wire.specs.Number.{numbersAt};
-ghost use Rattle.wire.specs.Script.{fileAt, fieldsOf, headerOf, HasFile, groupsInto, callerIn, repliedBy, statusIn, replyIn, kindIn, readAs, callAt, InScript};
+ghost use Rattle.wire.specs.Script.{fileAt, fieldsOf, headerOf, HasFile, groupsInto, callerIn, repliedBy};
+ghost use Rattle.wire.specs.Script.{statusIn, replyIn, kindIn, readAs, callAt, InScript};
 use crate::number::number_at;
 use actor::message::Caller;
 use actor::message::CallerId;

@@ -1,4 +1,4 @@
--- `lines::reader` meets its contract: a walk of its MIR, by hand. A `Lines` is made of the slice and the place passed, in the result's local.
+-- `lines::reader` meets its contract: a manual proof over its MIR (a walk). A `Lines` is made of the slice and the place passed, in the result's local.
 -- A `&[u8]` is Copy, so what it owns is had twice: once for log at exit, and once inside the result, beside the facts of at.
 -- Assumes nothing.
 use mathlib.Core.Path.{refl}

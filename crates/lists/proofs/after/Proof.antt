@@ -1,3 +1,5 @@
+-- `after` meets its contract: each way out follows from what the calls ensured and the tests said. Mechanical
+-- answers, as tools/answers.py writes them. Assumes nothing.
 use borrow.Author.Needs.{needs}
 use Rattle.lists.proofs.after.Statement.{statement}
 use Rattle.lists.proofs.after.Tie as tie

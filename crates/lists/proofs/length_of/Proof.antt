@@ -1,3 +1,5 @@
+-- `length_of` meets its contract: each way out follows from what the calls ensured and the tests said. Mechanical
+-- answers, as tools/answers.py writes them. Assumes nothing.
 use borrow.Author.Needs.{needs}
 use Rattle.lists.proofs.length_of.Statement.{statement}
 use Rattle.lists.proofs.length_of.Tie as tie

@@ -1,3 +1,5 @@
+-- `move_all` meets its contract: each way out follows from what the calls ensured and the tests said. Mechanical
+-- answers, as tools/answers.py writes them. Assumes nothing.
 use borrow.Author.Tests.{eq-eqb, le-leb, lt-leb, ne-eqb}
 use Rattle.lists.specs.Links.{moveAll}
 use borrow.Author.Needs.{needs}

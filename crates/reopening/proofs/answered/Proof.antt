@@ -19,9 +19,6 @@ enum-known-o c = search needs
 enum-told-2 : tie.Need-enum-told-2
 enum-told-2 c = search needs
 
-enum-told-3 : tie.Need-enum-told-3
-enum-told-3 c = search needs
-
 enum-known-a-2 : tie.Need-enum-known-a-2
 enum-known-a-2 c = search needs
 
@@ -41,10 +38,7 @@ returns-3 : tie.Need-returns-3
 returns-3 c = search needs
 
 returns-4 : tie.Need-returns-4
-returns-4 c = search needs
-
-returns-5 : tie.Need-returns-5
-returns-5 c =
+returns-4 c =
     let a2 = c .before .before .a2 in
     let number = c .number in
     ap Refused (number .ensures) ∙ sym (ap answerOf (a2 .given .1))
@@ -57,11 +51,9 @@ answered-spec =
     enum-told
     enum-known-o
     enum-told-2
-    enum-told-3
     enum-known-a-2
     number-requires
     returns
     returns-2
     returns-3
-    returns-4
-    returns-5)
+    returns-4)

@@ -1,3 +1,5 @@
+-- `message::logged_of` meets its contract: each way out follows from what the calls ensured and the tests said. Mechanical
+-- answers, as tools/answers.py writes them. Assumes nothing.
 use borrow.Author.Tests.{eq-eqb, ne-eqb}
 use Rattle.actor.proofs.message.logged_of.Statement.{statement}
 use Rattle.actor.proofs.message.logged_of.Tie as tie

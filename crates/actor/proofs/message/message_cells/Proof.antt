@@ -1,3 +1,5 @@
+-- `message::message_cells` meets its contract: each way out follows from what the calls ensured and the tests said. Mechanical
+-- answers, as tools/answers.py writes them. Assumes nothing.
 use borrow.Author.Needs.{needs}
 use Rattle.actor.proofs.message.message_cells.Statement.{statement}
 use Rattle.actor.proofs.message.message_cells.Tie as tie

@@ -1,3 +1,5 @@
+-- `question::count_in` meets its contract: each way out follows from what the calls ensured and the tests said. Mechanical
+-- answers, as tools/answers.py writes them. Assumes nothing.
 use borrow.Author.Needs.{needs}
 use Rattle.actor.proofs.question.count_in.Statement.{statement}
 use Rattle.actor.proofs.question.count_in.Tie as tie

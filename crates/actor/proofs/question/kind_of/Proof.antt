@@ -1,3 +1,5 @@
+-- `question::kind_of` meets its contract: each way out follows from what the calls ensured and the tests said. Mechanical
+-- answers, as tools/answers.py writes them. Assumes nothing.
 use borrow.Author.Tests.{le-leb, lt-leb}
 use borrow.Author.Needs.{needs}
 use Rattle.actor.proofs.question.kind_of.Statement.{statement}

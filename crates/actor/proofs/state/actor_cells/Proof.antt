@@ -1,3 +1,5 @@
+-- `state::actor_cells` meets its contract: each way out follows from what the calls ensured and the tests said. Mechanical
+-- answers, as tools/answers.py writes them. Assumes nothing.
 use Rattle.actor.specs.Actors.{actorCells}
 use borrow.Author.Needs.{needs}
 use Rattle.actor.proofs.state.actor_cells.Statement.{statement}

@@ -1,3 +1,5 @@
+-- `state::actor_of` meets its contract: each way out follows from what the calls ensured and the tests said. Mechanical
+-- answers, as tools/answers.py writes them. Assumes nothing.
 use Rattle.actor.specs.Actors.{actorOf}
 use borrow.Author.Needs.{needs}
 use Rattle.actor.proofs.state.actor_of.Statement.{statement}

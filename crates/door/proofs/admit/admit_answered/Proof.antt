@@ -17,20 +17,14 @@ with-disk-requires c κs = search needs
 shown-now-requires : tie.Need-shown-now-requires
 shown-now-requires c κs = search needs
 
-enum-told : tie.Need-enum-told
-enum-told c = search needs
-
-refused-requires : tie.Need-refused-requires
-refused-requires c κs = search needs
-
 enum-known-answer-2 : tie.Need-enum-known-answer-2
 enum-known-answer-2 c = search needs
 
 log-refusal-requires : tie.Need-log-refusal-requires
 log-refusal-requires c κs = search needs
 
-refused-requires-2 : tie.Need-refused-requires-2
-refused-requires-2 c κs = search needs
+refused-requires : tie.Need-refused-requires
+refused-requires c κs = search needs
 
 same-length : tie.Need-same-length
 same-length c = search needs
@@ -49,10 +43,7 @@ returns c =
     simp (told, disk) (ap (answeredIn (a .pool) (a .counters) _) (c .before .before .before .before .before .before .before .before .keep .ensures) ∙ ap (λ x. answeredOf (c .before .before .before .before .before .before .before .before .before .before .before .before .before .before .before .before .before .before .before .before .args .pool) (c .before .before .before .before .before .before .before .before .before .before .before .before .before .before .before .before .before .before .before .before .args .counters) x (c .before .before .before .before .before .before .before .before .before .before .before .before .before .before .before .before .before .before .before .before .args .store .now) (c .before .before .before .before .before .before .before .before .before .before .before .before .before .before .before .before .before .before .before .before .args .links .now) (c .before .before .before .before .before .before .before .before .before .before .before .before .before .before .before .before .before .before .before .before .args .rows .now) (c .before .before .before .before .before .before .before .before .before .before .before .before .before .before .before .before .before .before .before .before .args .name .now) (c .before .before .before .before .before .before .before .before .before .before .before .before .before .before .before .before .before .before .before .before .args .body .now)) (sym (c .before .before .before .before .before .before .before .before .before .before .before .before .before .before .before .answer .given .1)))
 
 returns-2 : tie.Need-returns-2
-returns-2 c = simp (c .refused .ensures) (ap (λ x. answeredOf (c .before .before .before .before .before .before .args .pool) (c .before .before .before .before .before .before .args .counters) x (c .before .before .before .before .before .before .args .store .now) (c .before .before .before .before .before .before .args .links .now) (c .before .before .before .before .before .before .args .rows .now) (c .before .before .before .before .before .before .args .name .now) (c .before .before .before .before .before .before .args .body .now)) (sym (c .before .enum-told .given .1)))
-
-returns-3 : tie.Need-returns-3
-returns-3 c = simp (c .refused2 .ensures, c .before .log-refusal .ensures) (ap (λ x. answeredOf (c .before .before .before .before .before .before .before .before .args .pool) (c .before .before .before .before .before .before .before .before .args .counters) x (c .before .before .before .before .before .before .before .before .args .store .now) (c .before .before .before .before .before .before .before .before .args .links .now) (c .before .before .before .before .before .before .before .before .args .rows .now) (c .before .before .before .before .before .before .before .before .args .name .now) (c .before .before .before .before .before .before .before .before .args .body .now)) (sym (c .before .before .before .answer2 .given .1)))
+returns-2 c = simp (c .refused .ensures, c .before .log-refusal .ensures) (ap (λ x. answeredOf (c .before .before .before .before .before .before .before .before .args .pool) (c .before .before .before .before .before .before .before .before .args .counters) x (c .before .before .before .before .before .before .before .before .args .store .now) (c .before .before .before .before .before .before .before .before .args .links .now) (c .before .before .before .before .before .before .before .before .args .rows .now) (c .before .before .before .before .before .before .before .before .args .name .now) (c .before .before .before .before .before .before .before .before .args .body .now)) (sym (c .before .before .before .answer2 .given .1)))
 
 pub admit-answered-spec : {M : Type 1} → statement M
 admit-answered-spec =
@@ -62,14 +53,11 @@ admit-answered-spec =
     keep-requires
     with-disk-requires
     shown-now-requires
-    enum-told
-    refused-requires
     enum-known-answer-2
     log-refusal-requires
-    refused-requires-2
+    refused-requires
     same-length
     same-length-2
     same-length-3
     returns
-    returns-2
-    returns-3)
+    returns-2)

@@ -34,23 +34,20 @@ slice-aggregate-open-pool c = search needs
 open-pool-requires : tie.Need-open-pool-requires
 open-pool-requires c κs = search needs
 
-enum-told : tie.Need-enum-told
-enum-told c = search needs
+enum-known-answer-2 : tie.Need-enum-known-answer-2
+enum-known-answer-2 c = search needs
 
 no-pool-requires : tie.Need-no-pool-requires
 no-pool-requires c κs = search needs
 
+log-refusal-requires : tie.Need-log-refusal-requires
+log-refusal-requires c κs = search needs
+
 refused-requires : tie.Need-refused-requires
 refused-requires c κs = search needs
 
-enum-known-answer-2 : tie.Need-enum-known-answer-2
-enum-known-answer-2 c = search needs
-
 no-pool-requires-2 : tie.Need-no-pool-requires-2
 no-pool-requires-2 c κs = search needs
-
-log-refusal-requires : tie.Need-log-refusal-requires
-log-refusal-requires c κs = search needs
 
 refused-requires-2 : tie.Need-refused-requires-2
 refused-requires-2 c κs = search needs
@@ -60,12 +57,6 @@ no-pool-requires-3 c κs = search needs
 
 refused-requires-3 : tie.Need-refused-requires-3
 refused-requires-3 c κs = search needs
-
-no-pool-requires-4 : tie.Need-no-pool-requires-4
-no-pool-requires-4 c κs = search needs
-
-refused-requires-4 : tie.Need-refused-requires-4
-refused-requires-4 c κs = search needs
 
 same-length : tie.Need-same-length
 same-length c = c .before .before .before .before .before .before .before .before .before .before .before .before .before .before .before .before .before .before .before .before .open-log .kept .0
@@ -109,50 +100,30 @@ same-length-10 c = search needs
 returns-2 : tie.Need-returns-2
 unfolding openOf
 returns-2 c =
-    let a = c .before .before .before .before .before .before .before .before .before .before .before .before .before .before .before .before .before .before .before .before .before .before .args in
-    let fits = simp (c .before .before .before .before .before .before .before .before .before .before .before .before .before .before .before .before .before .before .before .settings-fit .ensures) at (c .before .before .before .before .before .before .before .before .before .before .before .before .before .before .before .before .before .before .if1 .taken) in
-    let sized = simp (c .before .before .before .before .before .before .before .before .before .before .before .before .before .before .before .before .before .tables-sized .ensures) at (c .before .before .before .before .before .before .before .before .before .before .before .before .before .before .before .before .if2 .taken) in
-    let opened = simp (c .before .before .enum-told .given .1) at (ap (openedLog (a .settings) (a .given .now) (a .groups .now) (a .links .now) (a .rows .now) (a .lists .now)) (c .before .before .before .before .before .before .before .before .before .before .before .open-log .ensures)) in
-    let none = c .before .no-pool .ensures in
-    let told = c .refused .ensures in
-    simp (told, none, fits, sized) opened
-
-same-length-11 : tie.Need-same-length-11
-same-length-11 c = search needs
-
-same-length-12 : tie.Need-same-length-12
-same-length-12 c = search needs
-
-same-length-13 : tie.Need-same-length-13
-same-length-13 c = search needs
-
-returns-3 : tie.Need-returns-3
-unfolding openOf
-returns-3 c =
     let a = c .before .before .before .before .before .before .before .before .before .before .before .before .before .before .before .before .before .before .before .before .before .before .before .before .args in
     let fits = simp (c .before .before .before .before .before .before .before .before .before .before .before .before .before .before .before .before .before .before .before .before .before .settings-fit .ensures) at (c .before .before .before .before .before .before .before .before .before .before .before .before .before .before .before .before .before .before .before .before .if1 .taken) in
     let sized = simp (c .before .before .before .before .before .before .before .before .before .before .before .before .before .before .before .before .before .before .before .tables-sized .ensures) at (c .before .before .before .before .before .before .before .before .before .before .before .before .before .before .before .before .before .before .if2 .taken) in
     let opened = simp (c .before .before .before .before .answer2 .given .1) at (ap (openedLog (a .settings) (a .given .now) (a .groups .now) (a .links .now) (a .rows .now) (a .lists .now)) (c .before .before .before .before .before .before .before .before .before .before .before .before .before .open-log .ensures)) in
-    let none = c .before .before .no-pool2 .ensures in
+    let none = c .before .before .no-pool .ensures in
     let why = c .before .log-refusal .ensures in
-    let told = c .refused2 .ensures in
+    let told = c .refused .ensures in
     simp (told, why, none, fits, sized) opened
+
+returns-3 : tie.Need-returns-3
+unfolding openOf
+returns-3 c =
+    let fits = simp (c .before .before .before .before .before .settings-fit .ensures) at (c .before .before .before .before .if1 .taken) in
+    let sized = simp (c .before .before .before .tables-sized .ensures) at (c .before .before .if2 .left) in
+    let none = c .before .no-pool2 .ensures in
+    let told = c .refused2 .ensures in
+    simp (told, none, fits, sized)
 
 returns-4 : tie.Need-returns-4
 unfolding openOf
 returns-4 c =
-    let fits = simp (c .before .before .before .before .before .settings-fit .ensures) at (c .before .before .before .before .if1 .taken) in
-    let sized = simp (c .before .before .before .tables-sized .ensures) at (c .before .before .if2 .left) in
+    let fits = simp (c .before .before .before .settings-fit .ensures) at (c .before .before .if1 .left) in
     let none = c .before .no-pool3 .ensures in
     let told = c .refused3 .ensures in
-    simp (told, none, fits, sized)
-
-returns-5 : tie.Need-returns-5
-unfolding openOf
-returns-5 c =
-    let fits = simp (c .before .before .before .settings-fit .ensures) at (c .before .before .if1 .left) in
-    let none = c .before .no-pool4 .ensures in
-    let told = c .refused4 .ensures in
     simp (told, none, fits)
 
 pub open-spec : {M : Type 1} → statement M
@@ -166,17 +137,14 @@ open-spec =
     enum-known-answer
     slice-aggregate-open-pool
     open-pool-requires
-    enum-told
-    no-pool-requires
-    refused-requires
     enum-known-answer-2
-    no-pool-requires-2
+    no-pool-requires
     log-refusal-requires
+    refused-requires
+    no-pool-requires-2
     refused-requires-2
     no-pool-requires-3
     refused-requires-3
-    no-pool-requires-4
-    refused-requires-4
     same-length
     same-length-2
     same-length-3
@@ -189,9 +157,5 @@ open-spec =
     same-length-9
     same-length-10
     returns-2
-    same-length-11
-    same-length-12
-    same-length-13
     returns-3
-    returns-4
-    returns-5)
+    returns-4)

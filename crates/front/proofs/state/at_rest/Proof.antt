@@ -1,3 +1,5 @@
+-- `state::at_rest` meets its contract: each way out follows from what the calls ensured and the tests said. Mechanical
+-- answers, as tools/answers.py writes them. Assumes nothing.
 use Rattle.front.specs.State.{atRest}
 use borrow.Author.Needs.{needs}
 use Rattle.front.proofs.state.at_rest.Statement.{statement}

@@ -1,3 +1,5 @@
+-- `keys::add_absent` meets its contract: each way out follows from what the calls ensured and the tests said. Mechanical
+-- answers, as tools/answers.py writes them. Assumes nothing.
 use Rattle.lists.specs.KeyLists.{addAbsent}
 use borrow.Author.Needs.{needs}
 use Rattle.lists.proofs.keys.add_absent.Statement.{statement}

@@ -1,3 +1,5 @@
+-- `keys::append` meets its contract: each way out follows from what the calls ensured and the tests said. Mechanical
+-- answers, as tools/answers.py writes them. Assumes nothing.
 use borrow.Author.Tests.{le-ltb, lt-ltb}
 use Rattle.lists.specs.KeyLists.{appendOf}
 use borrow.Author.Needs.{needs}

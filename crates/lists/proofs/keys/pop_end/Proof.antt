@@ -1,3 +1,5 @@
+-- `keys::pop_end` meets its contract: each way out follows from what the calls ensured and the tests said. Mechanical
+-- answers, as tools/answers.py writes them. Assumes nothing.
 use borrow.Author.Tests.{eq-eqb, ne-eqb}
 use Rattle.lists.specs.KeyLists.{popEnd}
 use borrow.Author.Needs.{needs}

@@ -1,3 +1,5 @@
+-- `slab::vacant` meets its contract: each way out follows from what the calls ensured and the tests said. Mechanical
+-- answers, as tools/answers.py writes them. Assumes nothing.
 use borrow.Author.Tests.{eq-eqb, le-ltb, lt-ltb, ne-eqb}
 use Rattle.lists.specs.Slabs.{vacantOf}
 use borrow.Author.Needs.{needs}

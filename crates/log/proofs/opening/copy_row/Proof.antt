@@ -2,7 +2,7 @@
 use mathlib.Core.Path.{refl}
 use borrow.Author.Needs.{needs}
 use Rattle.text.specs.Line.{nameOf, bodyOf, lineAt}
-use Rattle.log.proofs.FieldLaws.{field-at, fit-name, fit-body, both-fields}
+use Rattle.log.proofs.FieldLaws.{name-at, body-at, fit-name, fit-body, both-fields}
 use Rattle.log.proofs.opening.copy_row.Statement.{statement}
 use Rattle.log.proofs.opening.copy_row.Tie as tie
 
@@ -65,7 +65,7 @@ returns c =
     let file = args .file .now in
     let l = lineAt file (args .at) in
     both-fields (args .store .now) _ _ (args .base) (nameOf l) (bodyOf l) _ _ _ _ _ _ (len-of .result) (len-of2 .result) (pre .0) (fit-name l (pre .1)) (fit-body l (pre .1))
-    (field-at nameOf file _ _ (args .at) (line-at .ensures) (name-field .ensures)) (field-at bodyOf file _ _ (args .at) (line-at .ensures) (body-field .ensures))
+    (name-at file _ _ (args .at) (line-at .ensures) (name-field .ensures)) (body-at file _ _ (args .at) (line-at .ensures) (body-field .ensures))
     refl (copy-field .ensures) refl (copy-field2 .ensures) (len-of .ensures) (len-of2 .ensures)
 
 pub copy-row-spec : {M : Type 1} → statement M

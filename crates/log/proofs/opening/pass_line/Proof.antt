@@ -4,7 +4,7 @@ use Prim.Native.Nat.{_-_}
 use native.Mathlib.Omega.{arith}
 use borrow.Author.Needs.{needs}
 use lib.ListN.{take}
-use Rattle.text.specs.Answers.{kindOf}
+use Rattle.text.proofs.LineLaws.{kindOf, kind-says}
 use Rattle.log.specs.declared.opening.Taken.the-variants.{Next, Over}
 use Rattle.log.specs.Scan.{TookLine}
 use Rattle.log.proofs.RowLaws.{rise-wide, took-line}
@@ -24,7 +24,7 @@ returns c =
     let line-kind = c .before .before .before .before .line-kind in
     let id = c .before .before .id in
     let if1 = c .if1 in
-    subst (λ l. TookLine (args .lo) (args .p) (args .rows .now) l (args .at) Over (args .rows .now)) (ap (kindOf (args .line .now)) (sym (id .given .1)) ∙ line-kind .ensures .says) (omega (arith, if1 .taken))
+    subst (λ l. TookLine (args .lo) (args .p) (args .rows .now) l (args .at) Over (args .rows .now)) (ap (kindOf (args .line .now)) (sym (id .given .1) ∙ line-kind .ensures) ∙ kind-says (args .line .now)) (omega (arith, if1 .taken))
 
 next-after-requires : tie.Need-next-after-requires
 next-after-requires c κs =
@@ -57,7 +57,7 @@ returns-2 c =
     let if1 = c .before .before .before .before .if1 in
     let next-after = c .before .before .before .next-after in
     let put-row = c .before .put-row in
-    took-line (args .lo) (args .p) (args .rows .now) _ _ (args .at) (Next (put-row .result)) _ (ap (kindOf (args .line .now)) (sym (id .given .1)) ∙ line-kind .ensures .says)
+    took-line (args .lo) (args .p) (args .rows .now) _ _ (args .at) (Next (put-row .result)) _ (ap (kindOf (args .line .now)) (sym (id .given .1) ∙ line-kind .ensures) ∙ kind-says (args .line .now))
     (put-row .ensures .0, (put-row .ensures .1 .0, put-row .ensures .1 .1 ∙ next-after .ensures, omega (arith, if1 .left)))
 
 same-length-2 : tie.Need-same-length-2
@@ -69,7 +69,7 @@ returns-3 c =
     let line-kind = c .before .before .before .before .before .before .line-kind in
     let id2 = c .before .before .before .before .id2 in
     let take-row = c .before .take-row in
-    took-line (args .lo) (args .p) (args .rows .now) _ _ (args .at) (Next (take-row .result)) _ (ap (kindOf (args .line .now)) (sym (id2 .given .1)) ∙ line-kind .ensures .says)
+    took-line (args .lo) (args .p) (args .rows .now) _ _ (args .at) (Next (take-row .result)) _ (ap (kindOf (args .line .now)) (sym (id2 .given .1) ∙ line-kind .ensures) ∙ kind-says (args .line .now))
     (take-row .ensures .0, (take-row .ensures .1 .0, take-row .ensures .1 .1 .0, take-row .ensures .1 .1 .1))
 
 returns-4 : tie.Need-returns-4
@@ -78,7 +78,7 @@ returns-4 c =
     let pre = c .before .before .before .before .pre in
     let line-kind = c .before .before .line-kind in
     let enum-told = c .enum-told in
-    subst (λ l. TookLine (args .lo) (args .p) (args .rows .now) l (args .at) (Next (args .p)) (args .rows .now)) (ap (kindOf (args .line .now)) (sym (enum-told .given .1)) ∙ line-kind .ensures .says)
+    subst (λ l. TookLine (args .lo) (args .p) (args .rows .now) l (args .at) (Next (args .p)) (args .rows .now)) (ap (kindOf (args .line .now)) (sym (enum-told .given .1) ∙ line-kind .ensures) ∙ kind-says (args .line .now))
     (pre .0, (refl, refl, refl))
 
 pub pass-line-spec : {M : Type 1} → statement M

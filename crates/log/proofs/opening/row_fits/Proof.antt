@@ -3,8 +3,8 @@ use mathlib.Core.Path.{ap, _∙_}
 use borrow.Author.Needs.{needs}
 use lib.ListN.{length}
 use lib.Dec.{leb}
-use Rattle.text.specs.Line.{nameOf, bodyOf, lineAt}
-use Rattle.log.proofs.FieldLaws.{field-at, fit-both, fit-not}
+use Rattle.text.specs.Line.{lineAt}
+use Rattle.log.proofs.FieldLaws.{name-at, body-at, fit-both, fit-not}
 use Rattle.log.proofs.opening.row_fits.Statement.{statement}
 use Rattle.log.proofs.opening.row_fits.Tie as tie
 
@@ -33,8 +33,8 @@ returns c =
     let body-field = c .before .body-field in
     let field-fits2 = c .field-fits2 in
     let l = lineAt (args .file .now) (args .at) in
-    let name = field-fits .ensures ∙ ap (λ x. leb (length x) 32) (field-at nameOf (args .file .now) _ _ (args .at) (line-at .ensures) (name-field .ensures)) in
-    let body = field-fits2 .ensures ∙ ap (λ x. leb (length x) 128) (field-at bodyOf (args .file .now) _ _ (args .at) (line-at .ensures) (body-field .ensures)) in
+    let name = field-fits .ensures ∙ ap (λ x. leb (length x) 32) (name-at (args .file .now) _ _ (args .at) (line-at .ensures) (name-field .ensures)) in
+    let body = field-fits2 .ensures ∙ ap (λ x. leb (length x) 128) (body-at (args .file .now) _ _ (args .at) (line-at .ensures) (body-field .ensures)) in
     fit-both l _ _ name body (if1 .taken)
 
 returns-2 : tie.Need-returns-2
@@ -45,7 +45,7 @@ returns-2 c =
     let field-fits = c .before .field-fits in
     let if1 = c .if1 in
     let l = lineAt (args .file .now) (args .at) in
-    let name = field-fits .ensures ∙ ap (λ x. leb (length x) 32) (field-at nameOf (args .file .now) _ _ (args .at) (line-at .ensures) (name-field .ensures)) in
+    let name = field-fits .ensures ∙ ap (λ x. leb (length x) 32) (name-at (args .file .now) _ _ (args .at) (line-at .ensures) (name-field .ensures)) in
     fit-not l _ name (if1 .left)
 
 pub row-fits-spec : {M : Type 1} → statement M

@@ -1,4 +1,4 @@
--- `log::opening::scan` meets its contract: a walk of its MIR with a loop in it. One reader, a local, is lent to `next` at every turn and comes back; the rows are lent again to `take_line`, and come back.
+-- `log::opening::scan` meets its contract: a manual proof over its MIR (a walk), with a loop in it. One reader, a local, is lent to `next` at every turn and comes back; the rows are lent again to `take_line`, and come back.
 -- The loop's invariant is the context where a turn begins (`I`), at the reader's place, what was taken in, and the rows (`St`, and `PassLaws.antt` for what is known of them); what is left of the file falls.
 -- All that the proof knows of the callees is that each meets its contract. Written by tools/looped.py. Assumes nothing.
 use mathlib.Core.Path.{_≡_, refl, sym, ap, _∙_, subst}

@@ -1,5 +1,9 @@
--- By the test; the part begins at 0.
-use mathlib.Core.Path.{ap, _∙_}
+-- By the test; the part begins at 0, so it is the first bytes.
+use mathlib.Core.Path.{_≡_, refl, ap, _∙_}
+use Prim.Native.Nat.{_-_}
+use native.Mathlib.Omega.{arith}
+use lib.ListN.{take}
+use Rattle.text.specs.Bytes.{part}
 use borrow.Author.Tests.{lt-ltb, le-ltb}
 use borrow.Author.Needs.{needs}
 use Rattle.wire.specs.Pour.{pour}
@@ -11,8 +15,8 @@ returns : tie.Need-returns
 unfolding pourLog
 returns c = rw (lt-ltb (c .before .before .before .args .show) 1 (c .if1 .taken))
 
-range-requires : tie.Need-range-requires
-range-requires c κs = search needs
+bytes-in-requires : tie.Need-bytes-in-requires
+bytes-in-requires c κs = search needs
 
 pour-bytes-requires : tie.Need-pour-bytes-requires
 pour-bytes-requires c κs = search needs
@@ -23,10 +27,14 @@ same-length c = search needs
 returns-2 : tie.Need-returns-2
 unfolding pourLog
 returns-2 c =
-    let part = c .before .before .before in
-    let test = part .before .before in
-    rw (le-ltb (test .before .before .before .args .show) 1 (test .if1 .left)) (c .before .before .pour-bytes .ensures ∙ ap (pour _) (part .range .ensures))
+    let file = c .before .before .before .before in
+    let test = file .before in
+    let args = test .before .before .before .args in
+    let all : args .size - 0 ≡ args .size = omega arith in
+    let front : part (args .log .now) 0 (args .size) ≡ take (args .size) (args .log .now) = rw all refl in
+    rw (le-ltb (args .show) 1 (test .if1 .left))
+    (c .before .before .pour-bytes .ensures ∙ ap (pour _) (file .bytes-in .ensures ∙ front))
 
 pub pour-log-spec : {M : Type 1} → statement M
 pour-log-spec =
-    tie.close (tie.spec returns range-requires pour-bytes-requires same-length returns-2)
+    tie.close (tie.spec returns bytes-in-requires pour-bytes-requires same-length returns-2)

@@ -1,3 +1,5 @@
+-- `eval::ask_tell` meets its contract: each way out follows from what the calls ensured and the tests said. Mechanical
+-- answers, as tools/answers.py writes them. Assumes nothing.
 use borrow.Author.Needs.{needs}
 use Rattle.steps.proofs.eval.ask_tell.Statement.{statement}
 use Rattle.steps.proofs.eval.ask_tell.Tie as tie

@@ -1,3 +1,5 @@
+-- `eval::eval_booted` meets its contract: each way out follows from what the calls ensured and the tests said. Mechanical
+-- answers, as tools/answers.py writes them. Assumes nothing.
 use Rattle.steps.specs.StepEval.{evalBooted}
 use borrow.Author.Needs.{needs}
 use Rattle.steps.proofs.eval.eval_booted.Statement.{statement}

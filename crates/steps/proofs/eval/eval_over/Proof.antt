@@ -1,3 +1,5 @@
+-- `eval::eval_over` meets its contract: each way out follows from what the calls ensured and the tests said. Mechanical
+-- answers, as tools/answers.py writes them. Assumes nothing.
 use borrow.Author.Tests.{eq-eqb, ne-eqb}
 use Rattle.steps.specs.StepEval.{evalOver}
 use borrow.Author.Needs.{needs}

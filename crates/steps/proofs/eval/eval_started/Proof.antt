@@ -1,3 +1,5 @@
+-- `eval::eval_started` meets its contract: each way out follows from what the calls ensured and the tests said. Mechanical
+-- answers, as tools/answers.py writes them. Assumes nothing.
 use Rattle.steps.specs.StepEval.{evalStarted}
 use borrow.Author.Needs.{needs}
 use Rattle.steps.proofs.eval.eval_started.Statement.{statement}

@@ -1,3 +1,5 @@
+-- `eval::step_eval` meets its contract: each way out follows from what the calls ensured and the tests said. Mechanical
+-- answers, as tools/answers.py writes them. Assumes nothing.
 use Rattle.steps.specs.StepEval.{stepEval}
 use borrow.Author.Needs.{needs}
 use Rattle.steps.proofs.eval.step_eval.Statement.{statement}
@@ -21,8 +23,8 @@ enum-told-3 c = search needs
 start-reply-requires : tie.Need-start-reply-requires
 start-reply-requires c κs = search needs
 
-enum-known-at : tie.Need-enum-known-at
-enum-known-at c = search needs
+enum-known-ask : tie.Need-enum-known-ask
+enum-known-ask c = search needs
 
 run-reply-requires : tie.Need-run-reply-requires
 run-reply-requires c κs = search needs
@@ -33,14 +35,11 @@ enum-told-4 c = search needs
 dispatch-reply-requires : tie.Need-dispatch-reply-requires
 dispatch-reply-requires c κs = search needs
 
-enum-known-at-2 : tie.Need-enum-known-at-2
-enum-known-at-2 c = search needs
+enum-known-ask-2 : tie.Need-enum-known-ask-2
+enum-known-ask-2 c = search needs
 
 tell-reply-requires : tie.Need-tell-reply-requires
 tell-reply-requires c κs = search needs
-
-enum-known-at-3 : tie.Need-enum-known-at-3
-enum-known-at-3 c = search needs
 
 same-length : tie.Need-same-length
 same-length c = search needs
@@ -90,7 +89,7 @@ same-length-8 c = search needs
 returns-4 : tie.Need-returns-4
 unfolding stepEval
 returns-4 c =
-    let h1 = c .before .before .before .before .before .before .at .given .1 in
+    let h1 = c .before .before .before .before .before .before .ask .given .1 in
     let e1 = c .before .before .run-reply .ensures in
     simp (e1, h1)
 
@@ -116,15 +115,9 @@ same-length-12 c = search needs
 returns-6 : tie.Need-returns-6
 unfolding stepEval
 returns-6 c =
-    let h1 = c .before .before .before .before .before .before .at2 .given .1 in
+    let h1 = c .before .before .before .before .before .before .ask2 .given .1 in
     let e1 = c .before .before .tell-reply .ensures in
     simp (e1, h1)
-
-returns-7 : tie.Need-returns-7
-unfolding stepEval
-returns-7 c =
-    let h1 = c .before .at3 .given .1 in
-    simp (h1)
 
 pub step-eval-spec : {M : Type 1} → statement M
 step-eval-spec =
@@ -136,13 +129,12 @@ step-eval-spec =
     boot-reply-requires
     enum-told-3
     start-reply-requires
-    enum-known-at
+    enum-known-ask
     run-reply-requires
     enum-told-4
     dispatch-reply-requires
-    enum-known-at-2
+    enum-known-ask-2
     tell-reply-requires
-    enum-known-at-3
     same-length
     same-length-2
     returns
@@ -160,5 +152,4 @@ step-eval-spec =
     returns-5
     same-length-11
     same-length-12
-    returns-6
-    returns-7)
+    returns-6)

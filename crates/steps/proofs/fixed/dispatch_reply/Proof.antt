@@ -1,3 +1,5 @@
+-- `fixed::dispatch_reply` meets its contract: each way out follows from what the calls ensured and the tests said. Mechanical
+-- answers, as tools/answers.py writes them. Assumes nothing.
 use Rattle.steps.specs.StepFixed.{dispatchReply}
 use borrow.Author.Needs.{needs}
 use Rattle.steps.proofs.fixed.dispatch_reply.Statement.{statement}

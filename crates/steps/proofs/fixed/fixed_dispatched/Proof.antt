@@ -1,3 +1,5 @@
+-- `fixed::fixed_dispatched` meets its contract: each way out follows from what the calls ensured and the tests said. Mechanical
+-- answers, as tools/answers.py writes them. Assumes nothing.
 use borrow.Author.Tests.{le-ltb, lt-ltb}
 use Rattle.steps.specs.StepFixed.{fixedDispatched}
 use borrow.Author.Needs.{needs}

@@ -1,3 +1,5 @@
+-- `fixed::fixed_ran` meets its contract: each way out follows from what the calls ensured and the tests said. Mechanical
+-- answers, as tools/answers.py writes them. Assumes nothing.
 use Rattle.steps.specs.StepFixed.{fixedRan}
 use borrow.Author.Needs.{needs}
 use Rattle.steps.proofs.fixed.fixed_ran.Statement.{statement}

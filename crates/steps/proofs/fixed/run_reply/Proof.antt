@@ -1,3 +1,5 @@
+-- `fixed::run_reply` meets its contract: each way out follows from what the calls ensured and the tests said. Mechanical
+-- answers, as tools/answers.py writes them. Assumes nothing.
 use Rattle.steps.specs.StepFixed.{runReply}
 use borrow.Author.Needs.{needs}
 use Rattle.steps.proofs.fixed.run_reply.Statement.{statement}

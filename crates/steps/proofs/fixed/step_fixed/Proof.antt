@@ -5,8 +5,8 @@ use borrow.Author.Needs.{needs}
 use Rattle.steps.proofs.fixed.step_fixed.Statement.{statement}
 use Rattle.steps.proofs.fixed.step_fixed.Tie as tie
 
-enum-known-at : tie.Need-enum-known-at
-enum-known-at c = search needs
+enum-known-ask : tie.Need-enum-known-ask
+enum-known-ask c = search needs
 
 run-reply-requires : tie.Need-run-reply-requires
 run-reply-requires c κs = search needs
@@ -29,16 +29,13 @@ enum-told-3 c = search needs
 dispatch-reply-requires : tie.Need-dispatch-reply-requires
 dispatch-reply-requires c κs = search needs
 
-enum-known-at-2 : tie.Need-enum-known-at-2
-enum-known-at-2 c = search needs
-
 same-length : tie.Need-same-length
 same-length c = search needs
 
 returns : tie.Need-returns
 unfolding stepFixed
 returns c =
-    let h1 = c .before .before .before .before .at .given .1 in
+    let h1 = c .before .before .before .before .ask .given .1 in
     let e1 = c .before .run-reply .ensures in
     simp (h1) (ap (keptFixed _ _) e1)
 
@@ -78,17 +75,11 @@ returns-4 c =
     let e1 = c .before .dispatch-reply .ensures in
     simp (h1) (ap (keptFixed _ _) e1)
 
-returns-5 : tie.Need-returns-5
-unfolding stepFixed
-returns-5 c =
-    let h1 = c .before .at2 .given .1 in
-    simp (h1)
-
 pub step-fixed-spec : {M : Type 1} → statement M
 step-fixed-spec =
     tie.close
     (tie.spec
-    enum-known-at
+    enum-known-ask
     run-reply-requires
     enum-told
     drain-reply-requires
@@ -96,7 +87,6 @@ step-fixed-spec =
     push-reply-requires
     enum-told-3
     dispatch-reply-requires
-    enum-known-at-2
     same-length
     returns
     same-length-2
@@ -106,5 +96,4 @@ step-fixed-spec =
     same-length-5
     returns-3
     same-length-6
-    returns-4
-    returns-5)
+    returns-4)

@@ -1,3 +1,5 @@
+-- `step::caller_first` meets its contract: each way out follows from what the calls ensured and the tests said. Mechanical
+-- answers, as tools/answers.py writes them. Assumes nothing.
 use Rattle.steps.specs.Steps.{callerFirst}
 use borrow.Author.Needs.{needs}
 use Rattle.steps.proofs.step.caller_first.Statement.{statement}

@@ -1,3 +1,5 @@
+-- `step::idle_at` meets its contract: each way out follows from what the calls ensured and the tests said. Mechanical
+-- answers, as tools/answers.py writes them. Assumes nothing.
 use Rattle.steps.specs.Steps.{idledAt}
 use borrow.Author.Needs.{needs}
 use Rattle.steps.proofs.step.idle_at.Statement.{statement}

@@ -1,3 +1,5 @@
+-- `step::place_over` meets its contract: each way out follows from what the calls ensured and the tests said. Mechanical
+-- answers, as tools/answers.py writes them. Assumes nothing.
 use Rattle.steps.specs.Steps.{placeOver}
 use borrow.Author.Needs.{needs}
 use Rattle.steps.proofs.step.place_over.Statement.{statement}

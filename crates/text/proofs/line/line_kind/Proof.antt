@@ -1,11 +1,12 @@
 -- The places of the first three TABs part the line into its fields.
-use mathlib.Core.Path.{sym}
-use Prim.Native.Nat.{_+_, _-_}
+use mathlib.Core.Path.{sym, ap, _∙_}
+use Prim.Native.Nat.{_+_, _-_, _<_}
 use native.Mathlib.Omega.{arith}
 use borrow.Author.Needs.{needs}
 use lib.Seq.{length-take-le}
-use lib.ListN.{length, take}
-use Rattle.text.proofs.LineLaws.{kind-one, kind-two, kind-more, kind-three, said-done, said-put}
+use lib.ListN.{length}
+use Rattle.text.specs.Answers.{doneKind, putKind}
+use Rattle.text.proofs.LineLaws.{kind-one, kind-two, kind-more, kind-three}
 use Rattle.text.proofs.line.line_kind.Statement.{statement}
 use Rattle.text.proofs.line.line_kind.Tie as tie
 
@@ -25,7 +26,8 @@ returns c =
     let if1 = c .before .before .if1 in
     let read-id = c .before .read-id in
     let done-kind = c .done-kind in
-    let s = args .line .now in said-done s (read-id .result) (done-kind .result) (read-id .ensures) (done-kind .ensures) (kind-one s (find .result) (find .ensures) (omega (arith, if1 .taken)))
+    let s = args .line .now in
+    done-kind .ensures ∙ (ap doneKind (read-id .ensures) ∙ sym (kind-one s (find .result) (find .ensures) (omega (arith, if1 .taken))))
 
 add-find-from : tie.Need-add-find-from
 add-find-from c = search needs
@@ -40,7 +42,9 @@ returns-2 c =
     let if1 = c .before .before .if1 in
     let find-from = c .before .find-from in
     let if2 = c .if2 in
-    let s = args .line .now in let a = find .ensures .within in record { says = sym (kind-two s (find .result) (find-from .result) (find .ensures) (omega (arith, if1 .left)) (find-from .ensures) (omega (arith, if2 .taken))); inside = tt }
+    let s = args .line .now in
+    let a = find .ensures .within in
+    sym (kind-two s (find .result) (find-from .result) (find .ensures) (omega (arith, if1 .left)) (find-from .ensures) (omega (arith, if2 .taken)))
 
 add-find-from-2 : tie.Need-add-find-from-2
 add-find-from-2 c = search needs
@@ -57,7 +61,12 @@ returns-3 c =
     let if2 = c .before .before .if2 in
     let find-from2 = c .before .find-from2 in
     let if3 = c .if3 in
-    let s = args .line .now in let a = find .ensures .within in let b = find-from .ensures .within in record { says = sym (kind-more s (find .result) (find-from .result) (find .ensures) (omega (arith, if1 .left)) (find-from .ensures) (omega (arith, if2 .left)) (find-from2 .result) (find-from2 .ensures) (if3 .taken)); inside = tt }
+    let s = args .line .now in
+    let a = find .ensures .within in
+    let b = find-from .ensures .within in
+    let one : find .result < length s = omega (arith, if1 .left) in
+    let two : find-from .result < length s = omega (arith, if2 .left) in
+    sym (kind-more s (find .result) (find-from .result) (find .ensures) one (find-from .ensures) two (find-from2 .result) (find-from2 .ensures) (if3 .taken))
 
 slice-aggregate-read-id : tie.Need-slice-aggregate-read-id
 slice-aggregate-read-id c =
@@ -88,10 +97,14 @@ returns-4 c =
     let if3 = c .before .before .before .if3 in
     let read-id2 = c .before .read-id2 in
     let put-kind = c .put-kind in
-    let s = args .line .now in let a = find .ensures .within in let b = find-from .ensures .within in
-    said-put s (read-id2 .result) (put-kind .result) (take (find .result) s) (find .result + 1) (find-from .result) (find-from .result + 1) (length s) (read-id2 .ensures) (put-kind .ensures)
-    (kind-three s (find .result) (find-from .result) (find .ensures) (omega (arith, if1 .left)) (find-from .ensures) (omega (arith, if2 .left)) (find-from2 .result) (find-from2 .ensures) (if3 .left))
-    (find-from .ensures .low) (omega arith) (omega (arith, if2 .left)) (omega arith)
+    let s = args .line .now in
+    let a = find .ensures .within in
+    let b = find-from .ensures .within in
+    let one : find .result < length s = omega (arith, if1 .left) in
+    let two : find-from .result < length s = omega (arith, if2 .left) in
+    put-kind .ensures
+    ∙ (ap (λ i. putKind i (find .result + 1) (find-from .result) (find-from .result + 1) (length s)) (read-id2 .ensures)
+    ∙ sym (kind-three s (find .result) (find-from .result) (find .ensures) one (find-from .ensures) two (find-from2 .result) (find-from2 .ensures) (if3 .left)))
 
 pub line-kind-spec : {M : Type 1} → statement M
 line-kind-spec =

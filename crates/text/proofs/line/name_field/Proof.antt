@@ -1,10 +1,8 @@
--- The line's kind has the places of the name; its meaning is the line's.
+-- The line's kind has the places of the name, and the part there is the field.
 use mathlib.Core.Path.{sym, ap, _∙_, subst}
 use native.Mathlib.Omega.{arith}
 use borrow.Author.Needs.{needs}
-use Rattle.text.specs.Answers.{kindOf, Inside}
-use Rattle.text.specs.Line.{nameOf}
-use Rattle.text.specs.Format.{unescape}
+use Rattle.text.proofs.LineLaws.{Inside, namePart, kind-inside, kind-name}
 use Rattle.text.proofs.line.name_field.Statement.{statement}
 use Rattle.text.proofs.line.name_field.Tie as tie
 
@@ -19,7 +17,7 @@ sub-result c =
     let args = c .before .before .before .before .before .args in
     let line-kind = c .before .before .before .line-kind in
     let name = c .before .name in
-    let inside = subst (Inside (args .line .now)) (name .given .1) (line-kind .ensures .inside) in
+    let inside = subst (Inside (args .line .now)) (name .given .1) (subst (Inside (args .line .now)) (sym (line-kind .ensures)) (kind-inside (args .line .now))) in
     omega (arith, inside)
 
 part-result-start : tie.Need-part-result-start
@@ -27,7 +25,7 @@ part-result-start c =
     let args = c .before .before .before .before .before .args in
     let line-kind = c .before .before .before .line-kind in
     let name = c .before .name in
-    let inside = subst (Inside (args .line .now)) (name .given .1) (line-kind .ensures .inside) in
+    let inside = subst (Inside (args .line .now)) (name .given .1) (subst (Inside (args .line .now)) (sym (line-kind .ensures)) (kind-inside (args .line .now))) in
     omega (arith, inside)
 
 part-result-end : tie.Need-part-result-end
@@ -35,7 +33,7 @@ part-result-end c =
     let args = c .before .before .before .before .before .args in
     let line-kind = c .before .before .before .line-kind in
     let name = c .before .name in
-    let inside = subst (Inside (args .line .now)) (name .given .1) (line-kind .ensures .inside) in
+    let inside = subst (Inside (args .line .now)) (name .given .1) (subst (Inside (args .line .now)) (sym (line-kind .ensures)) (kind-inside (args .line .now))) in
     omega (arith, inside)
 
 enum-told : tie.Need-enum-told
@@ -67,23 +65,21 @@ returns c =
     let args = c .before .before .before .before .before .before .args in
     let line-kind = c .before .before .before .before .line-kind in
     let name = c .before .before .name in
-    ap (λ k. nameOf (kindOf (args .line .now) k)) (sym (name .given .1)) ∙ ap nameOf (line-kind .ensures .says)
+    ap (namePart (args .line .now)) (sym (name .given .1) ∙ line-kind .ensures) ∙ kind-name (args .line .now)
 
 returns-2 : tie.Need-returns-2
-unfolding unescape
 returns-2 c =
     let args = c .before .before .before .before .before .args in
     let line-kind = c .before .before .before .line-kind in
     let enum-told = c .before .enum-told in
-    ap (λ k. nameOf (kindOf (args .line .now) k)) (sym (enum-told .given .1)) ∙ ap nameOf (line-kind .ensures .says)
+    ap (namePart (args .line .now)) (sym (enum-told .given .1) ∙ line-kind .ensures) ∙ kind-name (args .line .now)
 
 returns-3 : tie.Need-returns-3
-unfolding unescape
 returns-3 c =
     let args = c .before .before .before .before .before .args in
     let line-kind = c .before .before .before .line-kind in
     let enum-told2 = c .before .enum-told2 in
-    ap (λ k. nameOf (kindOf (args .line .now) k)) (sym (enum-told2 .given .1)) ∙ ap nameOf (line-kind .ensures .says)
+    ap (namePart (args .line .now)) (sym (enum-told2 .given .1) ∙ line-kind .ensures) ∙ kind-name (args .line .now)
 
 pub name-field-spec : {M : Type 1} → statement M
 name-field-spec =

@@ -8,19 +8,12 @@ use Rattle.ticking.proofs.ready.begin_fixed.Tie as tie
 fixed-start-requires : tie.Need-fixed-start-requires
 fixed-start-requires c κs = search needs
 
-fixed-after-requires : tie.Need-fixed-after-requires
-fixed-after-requires c κs = search needs
-
 same-length : tie.Need-same-length
 same-length c = search needs
 
 returns : tie.Need-returns
 unfolding beginFixed
-returns c =
-    let e1 = c .before .before .fixed-start .ensures in
-    let e2 = c .fixed-after .ensures in
-    simp (e2) (ap (startedFixed _) e1)
+returns c = ap (startedFixed _) (c .before .fixed-start .ensures)
 
 pub begin-fixed-spec : {M : Type 1} → statement M
-begin-fixed-spec =
-    tie.close (tie.spec fixed-start-requires fixed-after-requires same-length returns)
+begin-fixed-spec = tie.close (tie.spec fixed-start-requires same-length returns)

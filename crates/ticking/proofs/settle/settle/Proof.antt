@@ -15,29 +15,14 @@ enum-told c = search needs
 release-requires : tie.Need-release-requires
 release-requires c κs = search needs
 
-enum-told-2 : tie.Need-enum-told-2
-enum-told-2 c = search needs
-
-idle-row-requires : tie.Need-idle-row-requires
-idle-row-requires c κs = search needs
-
-push-key-requires : tie.Need-push-key-requires
-push-key-requires c κs = search needs
-
 enum-known-step : tie.Need-enum-known-step
 enum-known-step c = search needs
 
-block-at-requires : tie.Need-block-at-requires
-block-at-requires c κs = search needs
+park-requires : tie.Need-park-requires
+park-requires c κs = search needs
 
-enum-told-3 : tie.Need-enum-told-3
-enum-told-3 c = search needs
-
-yield-at-requires : tie.Need-yield-at-requires
-yield-at-requires c κs = search needs
-
-enum-told-4 : tie.Need-enum-told-4
-enum-told-4 c = search needs
+enum-told-2 : tie.Need-enum-told-2
+enum-told-2 c = search needs
 
 release-requires-2 : tie.Need-release-requires-2
 release-requires-2 c κs = search needs
@@ -65,30 +50,21 @@ returns c =
 same-length-4 : tie.Need-same-length-4
 same-length-4 c = search needs
 
-returns-2 : tie.Need-returns-2
-unfolding settleOf
-returns-2 c =
-    let e1 = c .before .before .before .before .before .before .ready-after .ensures in
-    let h1 = c .before .before .before .before .enum-told2 .given .1 in
-    let e2 = c .before .before .before .idle-row .ensures in
-    let e3 = c .before .push-key .ensures in
-    simp (e1, e2, e3, h1)
-
 same-length-5 : tie.Need-same-length-5
 same-length-5 c = search needs
 
-same-length-6 : tie.Need-same-length-6
-same-length-6 c = search needs
-
-returns-3 : tie.Need-returns-3
+returns-2 : tie.Need-returns-2
 unfolding settleOf
-returns-3 c =
+returns-2 c =
     let e1 = c .before .before .before .before .before .before .before .before .ready-after .ensures in
     let h1 = c .before .before .before .before .before .before .step .given .1 in
-    let e2 = c .before .before .block-at .ensures in
+    let e2 = c .before .before .park .ensures in
     let e2-keys = ap (λ (s : Keyed). s .keys) e2 in
     let e2-actors = ap (λ (s : Keyed). s .actors) e2 in
     simp (e1, e2-keys, e2-actors, h1)
+
+same-length-6 : tie.Need-same-length-6
+same-length-6 c = search needs
 
 same-length-7 : tie.Need-same-length-7
 same-length-7 c = search needs
@@ -96,29 +72,10 @@ same-length-7 c = search needs
 same-length-8 : tie.Need-same-length-8
 same-length-8 c = search needs
 
-returns-4 : tie.Need-returns-4
+returns-3 : tie.Need-returns-3
 unfolding settleOf
-returns-4 c =
-    let e1 = c .before .before .before .before .before .before .before .ready-after .ensures in
-    let h1 = c .before .before .before .before .before .enum-told3 .given .1 in
-    let e2 = c .before .before .yield-at .ensures in
-    let e2-keys = ap (λ (s : Keyed). s .keys) e2 in
-    let e2-actors = ap (λ (s : Keyed). s .actors) e2 in
-    simp (e1, e2-keys, e2-actors, h1)
-
-same-length-9 : tie.Need-same-length-9
-same-length-9 c = search needs
-
-same-length-10 : tie.Need-same-length-10
-same-length-10 c = search needs
-
-same-length-11 : tie.Need-same-length-11
-same-length-11 c = search needs
-
-returns-5 : tie.Need-returns-5
-unfolding settleOf
-returns-5 c =
-    let h1 = c .before .before .before .before .before .before .enum-told4 .given .1 in
+returns-3 c =
+    let h1 = c .before .before .before .before .before .before .enum-told2 .given .1 in
     let e1 = c .before .before .release2 .ensures in
     let e1-links = ap (λ (s : Released). s .links) e1 in
     let e1-keys = ap (λ (s : Released). s .keys) e1 in
@@ -132,28 +89,18 @@ settle-spec =
     ready-after-requires
     enum-told
     release-requires
-    enum-told-2
-    idle-row-requires
-    push-key-requires
     enum-known-step
-    block-at-requires
-    enum-told-3
-    yield-at-requires
-    enum-told-4
+    park-requires
+    enum-told-2
     release-requires-2
     same-length
     same-length-2
     same-length-3
     returns
     same-length-4
-    returns-2
     same-length-5
+    returns-2
     same-length-6
-    returns-3
     same-length-7
     same-length-8
-    returns-4
-    same-length-9
-    same-length-10
-    same-length-11
-    returns-5)
+    returns-3)

@@ -207,19 +207,19 @@ returns-13 : tie.Need-returns-13
 unfolding goOf
 returns-13 c = simp (c .before .at11 .given .1)
 
-same-length-14 : tie.Need-same-length-14
-same-length-14 c = search needs
-
 returns-14 : tie.Need-returns-14
 unfolding goOf
 returns-14 c =
-    let h1 = c .before .before .before .at12 .given .1 in
+    let h1 = c .before .before .at12 .given .1 in
     let e1 = c .step-end .ensures in
     simp (e1, h1)
 
 returns-15 : tie.Need-returns-15
 unfolding goOf
 returns-15 c = simp (c .before .at13 .given .1)
+
+same-length-14 : tie.Need-same-length-14
+same-length-14 c = search needs
 
 same-length-15 : tie.Need-same-length-15
 same-length-15 c = search needs
@@ -230,9 +230,6 @@ same-length-16 c = search needs
 same-length-17 : tie.Need-same-length-17
 same-length-17 c = search needs
 
-same-length-18 : tie.Need-same-length-18
-same-length-18 c = search needs
-
 returns-16 : tie.Need-returns-16
 unfolding goOf
 returns-16 c =
@@ -240,11 +237,11 @@ returns-16 c =
     let e1 = c .before .before .before .go-settle .ensures in
     simp (h1) (ap (actorsGone _) e1)
 
+same-length-18 : tie.Need-same-length-18
+same-length-18 c = search needs
+
 same-length-19 : tie.Need-same-length-19
 same-length-19 c = search needs
-
-same-length-20 : tie.Need-same-length-20
-same-length-20 c = search needs
 
 returns-17 : tie.Need-returns-17
 unfolding goOf
@@ -265,14 +262,14 @@ returns-20 : tie.Need-returns-20
 unfolding goOf
 returns-20 c = simp (c .before .at18 .given .1)
 
+same-length-20 : tie.Need-same-length-20
+same-length-20 c = search needs
+
 same-length-21 : tie.Need-same-length-21
 same-length-21 c = search needs
 
 same-length-22 : tie.Need-same-length-22
 same-length-22 c = search needs
-
-same-length-23 : tie.Need-same-length-23
-same-length-23 c = search needs
 
 returns-21 : tie.Need-returns-21
 unfolding goOf
@@ -342,21 +339,20 @@ go-spec =
     returns-11
     returns-12
     returns-13
-    same-length-14
     returns-14
     returns-15
+    same-length-14
     same-length-15
     same-length-16
     same-length-17
-    same-length-18
     returns-16
+    same-length-18
     same-length-19
-    same-length-20
     returns-17
     returns-18
     returns-19
     returns-20
+    same-length-20
     same-length-21
     same-length-22
-    same-length-23
     returns-21)

@@ -32,9 +32,9 @@ returns c =
     let e3 = c .before .before .before .step-eval .ensures in
     let e3-links = ap (λ (s : EvalBoth). s .links) e3 in
     let e3-actors = ap (λ (s : EvalBoth). s .actors) e3 in
-    let e3-at = ap (λ (s : EvalBoth). s .at) e3 in
+    let e3-next = ap (λ (s : EvalBoth). s .next) e3 in
     let e4 = c .eval-after .ensures in
-    simp (e1, e2, e3-links, e3-actors, e3-at, e4)
+    simp (e1, e2, e3-links, e3-actors, e3-next, e4)
 
 pub eval-resumed-spec : {M : Type 1} → statement M
 eval-resumed-spec =

@@ -1,7 +1,5 @@
--- `step::mark_logged` meets its contract: by whether the message was logged; then what the log answered to its mark. Assumes nothing.
-use Rattle.turn.specs.Step.{markedLog, markLogged}
-use Rattle.log.specs.Log.{Did}
-use mathlib.Core.Path.{ap}
+-- `step::mark_logged` meets its contract: by whether the message was logged; then the mark of its id. Assumes nothing.
+use Rattle.turn.specs.Step.{markLogged}
 use borrow.Author.Needs.{needs}
 use Rattle.turn.proofs.step.mark_logged.Statement.{statement}
 use Rattle.turn.proofs.step.mark_logged.Tie as tie
@@ -9,11 +7,8 @@ use Rattle.turn.proofs.step.mark_logged.Tie as tie
 enum-known-id : tie.Need-enum-known-id
 enum-known-id c = search needs
 
-mark-requires : tie.Need-mark-requires
-mark-requires c κs = search needs
-
-marked-by-requires : tie.Need-marked-by-requires
-marked-by-requires c κs = search needs
+mark-id-requires : tie.Need-mark-id-requires
+mark-id-requires c κs = search needs
 
 enum-told : tie.Need-enum-told
 enum-told c = search needs
@@ -27,11 +22,9 @@ same-length-2 c = search needs
 returns : tie.Need-returns
 unfolding markLogged
 returns c =
-    let number = c .before .before .before .before .before .before .before .before .id .given .0 .0 in
-    let h1 = c .before .before .before .before .before .before .before .before .id .given .1 in
-    let e1 = c .before .before .before .before .mark .ensures in
-    let e2 = c .marked-by .ensures in
-    simp (e2, h1) (ap (λ (d : Did). markedLog d number) e1)
+    let h1 = c .before .before .before .before .before .before .before .id .given .1 in
+    let e1 = c .before .before .before .mark-id .ensures in
+    simp (e1, h1)
 
 returns-2 : tie.Need-returns-2
 unfolding markLogged
@@ -42,8 +35,7 @@ mark-logged-spec =
     tie.close
     (tie.spec
     enum-known-id
-    mark-requires
-    marked-by-requires
+    mark-id-requires
     enum-told
     same-length
     same-length-2

@@ -3,24 +3,18 @@ use borrow.Author.Needs.{needs}
 use Rattle.turn.proofs.step.marked_by.Statement.{statement}
 use Rattle.turn.proofs.step.marked_by.Tie as tie
 
-enum-known-answer : tie.Need-enum-known-answer
-enum-known-answer c = search needs
+enum-known-due : tie.Need-enum-known-due
+enum-known-due c = search needs
 
 enum-told : tie.Need-enum-told
 enum-told c = search needs
 
-enum-told-2 : tie.Need-enum-told-2
-enum-told-2 c = search needs
-
 returns : tie.Need-returns
-returns c = simp (c .before .answer .given .1)
+returns c = simp (c .before .due .given .1)
 
 returns-2 : tie.Need-returns-2
 returns-2 c = simp (c .enum-told .given .1)
 
-returns-3 : tie.Need-returns-3
-returns-3 c = simp (c .enum-told2 .given .1)
-
 pub marked-by-spec : {M : Type 1} → statement M
 marked-by-spec =
-    tie.close (tie.spec enum-known-answer enum-told enum-told-2 returns returns-2 returns-3)
+    tie.close (tie.spec enum-known-due enum-told returns returns-2)

@@ -1,0 +1,294 @@
+#!/usr/bin/env python3
+"""Writes the proof of a function whose every `returns` is answered mechanically.
+
+    tools/answers.py CRATE FN ..      FN as below crates/CRATE/proofs, with its module: roster/better
+
+Run it from the repository's root, on a function whose contract is an equation with a definition of specs/. Where
+crates/CRATE/proofs/FN/Proof.antt is missing it is written whole, from what the prover offers; in a file that is there
+the answers that still read `search needs` or `?` at a `returns` are replaced, and nothing else. Then run
+`rt dev CRATE`, say in the file's first line why the function holds, and run `rt fmt`.
+
+The answer to a `returns`, in the order of the code on the way there:
+
+    let e1 = PATH .CALL .ensures in                  for each call: what it ensures
+    let h1 = simp (e1, ..) at (PATH .TEST) in        for each test or match: what it says, in terms of the definitions
+    simp (e1, .., h1, ..)                            or `simp (..) e3`, where the last call gives the whole result
+
+All of it is read off what the prover generates for the function (target/generated/CRATE): the paths, the kinds of the
+tests (`==`, `<`, `<=` on numbers, or a bool), and which call's result goes into which test and into the result. The
+definitions that are unfolded are those of specs/ that the contract names and that are marked `unfoldable`.
+
+A line of tools/answers.txt says otherwise for one function, where that reading is not enough:
+
+    CRATE FN | unfold=Module.name,.. | if2=raw match=all
+
+`unfold=` (nothing behind it: none) in place of the contract's definitions; for a test or `match` (every match of the
+function) `raw` takes what it says as it stands, and `all` rewrites it by every call before it.
+
+What it cannot do: loops and what comes after them, an `if` whose branches join again, an index or a sum that must fit,
+and a call that ensures an equation of records of which only a part is wanted. It leaves those needs as the prover
+offers them, and says which. Nothing that it writes is trusted: the prover checks every proof.
+"""
+import os
+import re
+import subprocess
+import sys
+
+TESTS = {'<': ('lt-ltb', 'le-ltb'), '≤': ('le-leb', 'lt-leb'), '≡': ('eq-eqb', 'ne-eqb')}
+
+
+def generated(crate):
+    """The folder of what the prover generates for the crate, written anew where a file of the crate is newer."""
+    folder = os.path.join('target', 'generated', crate)
+    stamp = folder + '.made'
+    parts = [f'crates/{crate}/{part}' for part in ('src', 'specs', 'proofs')]
+    files = [os.path.join(top, f) for part in parts for top, dirs, fs in os.walk(part) for f in ['.'] + fs]
+    newest = max(os.path.getmtime(f) for f in files)
+    if not os.path.exists(stamp) or os.path.getmtime(stamp) < newest:
+        os.makedirs(folder, exist_ok=True)
+        subprocess.run(['rt', 'dev', crate, '--generated', os.path.abspath(folder)], capture_output=True)
+        open(stamp, 'w').close()
+    return f'{folder}/Rattle.{crate}.proofs/proofs'
+
+
+class Function:
+    """What was generated for a function: its places, its needs, and how values flow through its code."""
+
+    def __init__(self, text, packed=False):
+        # the contract is an equation of a record of the result and the lent slices
+        self.packed = packed
+        self.lines = text.split('\n')
+        self.records, self.calls, self.needs, self.blocks = {}, {}, {}, []
+        for at, line in enumerate(self.lines):
+            if m := re.match(r'^( *)pub record (\S+) : Type 0 where', line):
+                self.records[m.group(2)] = self.fields(at, len(m.group(1)))
+            elif m := re.match(r'^ *abbrev pub (\S+)·own : Type 0', line):
+                self.calls[m.group(1)] = self.body(at + 1)
+            elif m := re.match(r'^ *Need-(returns\S*) =', line):
+                self.needs[m.group(1)] = re.search(r'\(c : (\S+?)\)', self.body(at)).group(1)
+            elif re.match(r'^abbrev b\d+ : Syntax\.Body', line):
+                self.blocks.append(self.body(at + 1))
+        self.flow()
+
+    def body(self, at):
+        """The line and those below it that stand further in, as one line of text."""
+        indent = len(self.lines[at]) - len(self.lines[at].lstrip())
+        end = at + 1
+        while end < len(self.lines) and re.match(r' {%d}\s*\S' % (indent + 1), self.lines[end]):
+            end += 1
+        return ' '.join(' '.join(self.lines[at:end]).split())
+
+    def fields(self, at, indent):
+        """The fields of the record that begins at a line, in order, with their types."""
+        out, at = {}, at + 1
+        while at < len(self.lines) and (not self.lines[at].strip() or self.lines[at].startswith(' ' * (indent + 1))):
+            if m := re.match(r'^ {%d}pub (\S+) :' % (indent + 2), self.lines[at]):
+                out[m.group(1)] = self.body(at).split(' : ', 1)[-1]
+            at += 1
+        return out
+
+    def flow(self):
+        """For each local, the calls whose results it may hold or be made of."""
+        self.of, self.taken, self.changing, count, edges = {}, {}, set(), {}, []
+        for text in self.blocks:
+            places = [int(n) for n in re.findall(r'Syntax\.place (\d+)', text)]
+            if m := re.search(r'Syntax\.call "([^"]*)"', text):
+                base = m.group(1).split('::')[-1].replace('_', '-')
+                count[base] = count.get(base, 0) + 1
+                name = base if count[base] == 1 else f'{base}{count[base]}'
+                self.of.setdefault(places[-1], set()).add(name)
+                self.taken[name] = places[:-1]
+                edges.append((places[-1], places[:-1]))
+            elif 'Syntax.assign' in text and places:
+                edges.append((places[0], places[1:]))
+        changed = True
+        while changed:
+            changed = False
+            for to, sources in edges:
+                more = set().union(*(self.of.get(s, set()) for s in sources)) - self.of.setdefault(to, set())
+                self.of[to] |= more
+                changed |= bool(more)
+        for place, text in self.calls.items():
+            callee = re.search(r'Called\.Called (ps·?\d*)', text)
+            kinds = next((self.body(at + 1) for at, line in enumerate(self.lines)
+                          if callee and line.startswith(f'abbrev pub {callee.group(1)} :')), '')
+            if 'Mut' in kinds:
+                self.changing.add(place)
+
+    def chain(self, place):
+        """What was bound on the way to a place, first to last: its path, its name, its record's name."""
+        out, path = [], 'c'
+        while 'before' in self.records.get(place, {}):
+            name = next(field for field in self.records[place] if field != 'before')
+            out.append((path, name, place))
+            place, path = self.records[place]['before'].split()[0], path + ' .before'
+        return out[::-1]
+
+    def made_of(self, text):
+        """The calls that the locals of a type are made of."""
+        return set().union(*(self.of.get(int(n), set()) for n in re.findall(r'Row\.get (\d+)', text)))
+
+    def in_the_end(self, calls):
+        """Of the calls on the way, as (name, place), those that the result and the changed slices are made of."""
+        out = set(self.of.get(0, set()))
+        for name, place in calls:
+            if place in self.changing:
+                out |= {name}.union(*(self.of.get(local, set()) for local in self.taken.get(name, [])))
+        return out
+
+
+def answer(function, place, options):
+    """The lines of an answer, or None and the thing on the way that has no mechanical answer."""
+    calls, facts, matched = [], [], None
+    for path, name, place in function.chain(place):
+        own = function.records.get(place + '·own', {})
+        if place in function.calls:
+            calls.append((name, place, f'{path} .{name} .ensures'))
+        elif name.startswith('if') and len(own) == 1 and set(own) <= {'taken', 'left'}:
+            (side, type), = own.items()
+            facts.append((len(calls), test(f'{path} .{name} .{side}', side, type), function.made_of(type), name))
+        elif re.match(r'match\d*$', name):
+            matched = function.made_of(' '.join(own.values()))
+            continue
+        elif set(own) == {'given'}:
+            if matched is not None:
+                facts.append((len(calls), f'{path} .{name} .given .1', matched, 'match'))
+        else:
+            return None, name
+        matched = None
+    return lines(function, calls, facts, options), None
+
+
+def test(path, side, type):
+    """What a test says, as an equation of a bool."""
+    relation = re.match(r'\S*?_([<≤≡])_( \{A = Nat\.ℕ\})?', type)
+    if not relation or (relation.group(1) == '≡' and not relation.group(2)):
+        return path
+    # what is left of `<` is `≤`, the other way round
+    sign = relation.group(1) if side == 'taken' else {'<': '≤', '≤': '<', '≡': '≡'}[relation.group(1)]
+    return f'{TESTS[sign][side == "left"]} _ _ ({path})'
+
+
+def lines(function, calls, facts, options):
+    """The answer: calls and facts in their order, each call named only where it is used."""
+    through = []
+    for before, _, made_of, name in facts:
+        option = options.get(name)
+        takes = {'raw': lambda call: False, 'all': lambda call: True}.get(option, lambda call: call[0] in made_of)
+        through.append([at for at in range(before) if takes(calls[at])])
+    wanted = function.in_the_end([call[:2] for call in calls])
+    ends = [at for at, call in enumerate(calls) if call[0] in wanted]
+    used = sorted(set(ends).union(*through))
+    e = {at: f'e{number + 1}' for number, at in enumerate(used)}
+    out, shown = [], 0
+
+    def show(until):
+        return [f'let {e[at]} = {calls[at][2]} in' for at in used if shown <= at < until]
+
+    for number, (before, text, _, _) in enumerate(facts):
+        out, shown = out + show(before), before
+        if through[number]:
+            text = f'simp ({", ".join(e[at] for at in through[number])}) at ({text})'
+        out.append(f'let h{number + 1} = {text} in')
+    # the one call that changes something, if it is the last and gives the result too
+    changing = [at for at in ends if calls[at][1] in function.changing]
+    whole = function.packed and changing == [len(calls) - 1] and calls[-1][0] in function.of.get(0, set())
+    last = e[changing[0]] if whole else None
+    names = [e[at] for at in ends if e[at] != last] + [f'h{number + 1}' for number in range(len(facts))]
+    by = [f'simp ({", ".join(names)})'] if names else []
+    return out + show(len(calls)) + [' '.join(by + [last] if last else by) or 'refl']
+
+
+def contract(crate, fn):
+    """The text of what a function ensures."""
+    module, _, name = fn.rpartition('/')
+    source = next(path for path in (f'crates/{crate}/src/{module or "lib"}.rt', f'crates/{crate}/src/main.rt')
+                  if os.path.exists(path))
+    # from the function's name to its body, which the next function stands behind
+    whole = re.search(r'\bfn %s\b(?:(?!\bfn\b).)*' % name, open(source).read(), re.S)
+    ensures = re.search(r'\bensures\b(.*?\})\s*\{', whole.group(0), re.S) if whole else None
+    return ensures.group(1) if ensures else ''
+
+
+def definitions(crate, text):
+    """The definitions that a contract names and that are unfoldable, as (module, name)."""
+    known = {}
+    for top, _, files in os.walk(f'crates/{crate}/specs'):
+        for file in sorted(files):
+            path = os.path.join(top, file)
+            module = os.path.relpath(path, f'crates/{crate}/specs')[:-len('.antt')].replace('/', '.')
+            for name in re.findall(r'^unfoldable pub (\S+) :', open(path).read(), re.M):
+                known[name] = module
+    named = re.findall(r"[A-Za-z_][\w'·-]*", text)
+    return list(dict.fromkeys((known[n], n) for n in named if n in known))
+
+
+def overrides(crate, fn):
+    """The function's line of tools/answers.txt: the definitions to unfold, if it names them, and options."""
+    for line in open('tools/answers.txt'):
+        parts = [part.strip() for part in line.split('#')[0].split('|')]
+        if parts[0].split() == [crate, fn]:
+            words = dict(word.split('=', 1) for part in parts[1:] for word in part.split())
+            unfold = words.pop('unfold', None)
+            if unfold is not None:
+                unfold = [tuple(name.rsplit('.', 1)) for name in unfold.split(',') if name]
+            return unfold, words
+    return None, {}
+
+
+def offered(text):
+    """The file that the prover offers, without its notes and the names that no answer needs."""
+    text = re.sub(r'^-- .*\n', '', text, flags=re.M)
+    return re.sub(r'^use \S+ as (reads|lts|\S+-reads)\n', '', text, flags=re.M)
+
+
+def write(crate, fn, folder):
+    base = f'{folder}/{fn}'
+    path = f'crates/{crate}/proofs/{fn}/Proof.antt'
+    if not os.path.exists(f'{base}/Lts.antt'):
+        sys.exit(f'{fn}: the prover generates nothing for it; is it a function of {crate}, with its module?')
+    ensures = contract(crate, fn)
+    function = Function(open(f'{base}/Lts.antt').read(), packed='record {' in ensures.split('≡')[0])
+    unfold, options = overrides(crate, fn)
+    names = definitions(crate, ensures) if unfold is None else unfold
+    if os.path.exists(path):
+        text = open(path).read()
+    else:
+        text = f'-- `{fn.replace("/", "::")}` meets its contract: by its calls and its tests. Assumes nothing.\n'
+        text += offered(open(f'{base}/Proof.antt').read())
+    opened = ''.join(f'unfolding {" ".join(name for _, name in names)}\n' for _ in names[:1])
+    written = 0
+    for need, place in function.needs.items():
+        lines, what = answer(function, place, options)
+        if lines is None:
+            print(f'{fn}: {need} is left to you: {what} is on the way')
+            continue
+        head = f'{opened}{need} c =\n' + ''.join(f'    {line}\n' for line in lines)
+        pattern = rf'^{need} c(?: κs)? = (?:search needs|\?)\n'
+        text, times = re.subn(pattern, lambda _: head, text, count=1, flags=re.M)
+        written += times
+    lemmas = sorted({lemma for pair in TESTS.values() for lemma in pair if f'{lemma} _ _ (' in text})
+    uses = [f'use Rattle.{crate}.specs.{module}.{{{name}}}' for module, name in names]
+    uses += [f'use borrow.Author.Tests.{{{", ".join(lemmas)}}}'] if lemmas else []
+    lines = [line for line in text.split('\n') if not line.startswith('use borrow.Author.Tests.')]
+    if 'search needs' not in text:
+        lines = [line for line in lines if line != 'use borrow.Author.Needs.{needs}']
+    first = next(at for at, line in enumerate(lines) if line.startswith('use '))
+    lines[first:first] = [use for use in uses if use not in lines]
+    os.makedirs(os.path.dirname(path), exist_ok=True)
+    with open(path, 'w') as file:
+        file.write('\n'.join(lines))
+    print(f'{fn}: {written} of {len(function.needs)} answers written')
+
+
+def main():
+    if len(sys.argv) < 3:
+        sys.exit(__doc__)
+    crate, *functions = sys.argv[1:]
+    folder = generated(crate)
+    for fn in functions:
+        write(crate, fn, folder)
+
+
+if __name__ == '__main__':
+    main()
