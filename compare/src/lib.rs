@@ -35,6 +35,7 @@ pub mod cuts;
 pub mod differences;
 pub mod property;
 pub mod recorded;
+pub mod unloaded;
 
 #[cfg(test)]
 mod tests;

@@ -59,4 +59,6 @@ pub mod refusal {
     pub const TURN: u8 = 13;
     /// A store failed before.
     pub const FAILED: u8 = 14;
+    /// No group has the name, or its group has ceiling 0: the program is not loaded.
+    pub const UNLOADED: u8 = 17;
 }

@@ -1,6 +1,6 @@
 //! The lists of calls that are timed. A list begins with calls that set it up, which are not timed.
 use super::logs;
-use crate::limits::{ACTORS_MAX, BACKLOG_MAX, INBOX_MAX, LOG_MAX, STORE};
+use crate::limits::{ACTORS_MAX, BACKLOG_MAX, GROUPS_MAX, INBOX_MAX, LOG_MAX, NAME_MAX, STORE};
 use crate::model::log::CallerId;
 use crate::model::pool::{Call, GroupSetting, Question, Reply, Settings, Status};
 use crate::property::list::{List, Making, Opening};
@@ -45,13 +45,19 @@ pub fn all() -> Vec<Timed> {
     all.extend([1, 16, 128].map(yielding));
     all.extend([1, 16, 128].map(polled));
     all.extend([0, 190].map(admitted));
+    all.push(looked_up());
     all.extend([64, 256].map(marked));
     all.extend([2, 100].map(rewritten));
     all
 }
 
-/// Calls that are refused: what the port's reading and writing cost. The Rust has no such call.
-pub fn refused() -> Timed {
+/// Calls that are refused, which the Rust does not have: what the port's reading and writing cost, and what the search
+/// for a group costs that is not there.
+pub fn refused() -> [Timed; 2] {
+    [turned_away(), mistyped()]
+}
+
+fn turned_away() -> Timed {
     let mut making = begin(opening(vec![group("row", 1, false)], Vec::new()));
     making.call(Call::Turn);
     let setup = making.list.calls.len();
@@ -59,6 +65,25 @@ pub fn refused() -> Timed {
         making.call(Call::Turn);
     }
     timed("a refused call (turn in a turn)".into(), making, setup)
+}
+
+fn mistyped() -> Timed {
+    let mut making = begin(opening(alike(), Vec::new()));
+    let setup = making.list.calls.len();
+    for _ in 0..10 * ROUNDS {
+        making.call(admit(&long_name(GROUPS_MAX), None));
+    }
+    timed("a refused admit (17), 8 groups with names of 32 bytes that differ in the last".into(), making, setup)
+}
+
+/// As many groups as there may be, with names as long as they may be that differ in the last byte: a search looks at
+/// every byte of each.
+fn alike() -> Vec<GroupSetting> {
+    (0..GROUPS_MAX).map(|at| group(&long_name(at), 1, false)).collect()
+}
+
+fn long_name(at: usize) -> String {
+    format!("{}{at}", "n".repeat(NAME_MAX - 1))
 }
 
 fn group(name: &str, replicas: usize, eval: bool) -> GroupSetting {
@@ -99,7 +124,7 @@ fn turn(making: &mut Making, mut reply: impl FnMut(&Making, &Question) -> Reply)
         let reply = match question {
             Question::Store(_) => Reply::Stored,
             Question::Clock => Reply::Clock(0),
-            Question::Boot { .. } => Reply::Yes,
+            Question::Boot { g } => making.boot(g),
             Question::Sends { .. } => Reply::End,
             Question::Tell { .. } => Reply::Told,
             question => reply(making, &question),
@@ -192,12 +217,23 @@ fn polled(actors: usize) -> Timed {
 
 /// Records, with so many open before the first.
 fn admitted(open: u64) -> Timed {
-    let mut making = begin(opening(vec![group("row", 0, false)], logs::open(open)));
+    let making = begin(opening(vec![group("row", 1, false)], logs::open(open)));
+    records(format!("admit with a record of 50 bytes, {open} open before"), making, "row")
+}
+
+/// Records for the group that a search comes to last, since of two groups of one name the later counts.
+fn looked_up() -> Timed {
+    let what = "admit with a record of 77 bytes, 8 groups with names of 32 bytes that differ in the last";
+    records(what.into(), begin(opening(alike(), Vec::new())), &long_name(0))
+}
+
+/// As many records for a group as the inbox takes.
+fn records(what: String, mut making: Making, name: &str) -> Timed {
     let setup = making.list.calls.len();
     for _ in 0..INBOX_MAX {
-        making.done(admit("row", None));
+        making.done(admit(name, None));
     }
-    timed(format!("admit with a record of 50 bytes, {open} open before"), making, setup)
+    timed(what, making, setup)
 }
 
 /// One turn that marks all that is open.
@@ -220,13 +256,13 @@ fn rewritten(open: u64) -> Timed {
 
 /// So many messages stay, as many are marked in the first turn, and one in the last. Gives the log's size then.
 fn half_done(open: u64, compact_at: usize) -> (Making, usize) {
-    // The names of the first half are of no group.
+    // The names of the first half are of no group; the last message is for a group that does not boot.
     let file = String::from_utf8(logs::open(2 * open)).unwrap().replacen("\trow\t", "\tnot\t", open as usize);
-    let mut opening = opening(vec![group("row", 1, false)], file.into_bytes());
+    let mut opening = opening(vec![group("row", 1, false), group("off", 1, false)], file.into_bytes());
     opening.settings.compact_at = compact_at;
-    let mut making = begin(opening);
+    let mut making = begin(opening).unbooted(&[1]);
     turn(&mut making, receives);
-    making.done(admit("not", None));
+    making.done(admit("off", None));
     turn(&mut making, receives);
     let size = making.pool.counters.size;
     (making, size)

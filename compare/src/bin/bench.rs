@@ -43,7 +43,7 @@ fn run(runs: usize) {
     let scratch = Scratch::in_memory("bench");
     let path = scratch.file("log.wal");
     let mut rows: Vec<Row> = lists::all().iter().map(|timed| row(timed, runs, &path)).collect();
-    rows.push(refused(runs));
+    rows.extend(lists::refused().iter().map(|timed| refused(timed, runs)));
     table::lists(&rows);
     println!();
     let opened: Vec<Opened> = files().into_iter().map(|(what, file)| opened(what, file, runs, &path)).collect();
@@ -53,10 +53,9 @@ fn run(runs: usize) {
     println!("\nMedians of {runs} runs.");
 }
 
-/// What reading a call and writing its entry cost.
-fn refused(runs: usize) -> Row {
-    let timed = lists::refused();
-    let mut port = Calls::new(&timed);
+/// A list that the port alone has.
+fn refused(timed: &lists::Timed, runs: usize) -> Row {
+    let mut port = Calls::new(timed);
     let [port] = clock::medians(runs, [&mut || port.run()]);
     Row { what: timed.what.clone(), counted: timed.counted(), port, rust: None, writes: 0.0 }
 }

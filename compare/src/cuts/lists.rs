@@ -22,10 +22,9 @@ pub fn every() -> impl Iterator<Item = List> {
 }
 
 fn stepped(log_len: usize, compact_at: usize, steps: impl Iterator<Item = usize>) -> List {
-    let group =
-        |name: &[u8], replicas| GroupSetting { name: name.to_vec(), replicas, eval: false, timeout: 0, retry: 0 };
+    let group = |name: &[u8]| GroupSetting { name: name.to_vec(), replicas: 1, eval: false, timeout: 0, retry: 0 };
     let settings = Settings {
-        groups: vec![group(b"m", 0), group(b"s", 1)],
+        groups: vec![group(b"m"), group(b"s")],
         max_actors: 1,
         inbox: 8,
         backlog: 8,
@@ -33,7 +32,8 @@ fn stepped(log_len: usize, compact_at: usize, steps: impl Iterator<Item = usize>
         tick_ns: 1,
     };
     let opening = Opening { settings, log_len, store_len: STORE, file: b"0\tm\tx\n".to_vec() };
-    let mut making = Making::new(opening);
+    // The first group does not boot, so that its messages are marked.
+    let mut making = Making::new(opening).unbooted(&[0]);
     making.answered();
     for step in steps {
         making.done(match step {

@@ -47,7 +47,6 @@ fn crowded(run: &mut Run) {
     // A group that keeps its messages: an actor that yields.
     let mut opening = opening(AMPLE, AMPLE, b"");
     opening.settings.backlog = 256;
-    opening.settings.groups[0].replicas = 1;
     let mut making = Making::new(opening);
     making.answered();
     let admit = || Call::Admit { name: Vec::new(), body: Vec::new(), caller: Some(CallerId(7)) };

@@ -15,6 +15,7 @@ use crate::trace::{Event, Trace};
 
 pub fn run(run: &mut Run) {
     closed(run);
+    unloaded(run);
     long_send(run);
     late_clock(run);
     squeezed(run);
@@ -41,31 +42,80 @@ fn closed(run: &mut Run) {
     drop(intake);
     let down = if inbox.admit(Message::new("row".into(), "x".into())).is_ok() { "taken" } else { "down" };
     let found = format!("{down}; {}; opened again: {}", rust.says(), rust.reopened());
-    let list = on(opening(AMPLE, AMPLE, b""), &[Call::Close, record(b"row", b"x")]);
-    let port = format!("{}; opened again: {}", port::last(&list, port::says), port::reopens(&list));
+    let list = on(named(b"row", 1), &[Call::Close, record(b"row", b"x")]);
     run.differ(
         "a record for a closed pool",
         r#"close; admit "row" "x""#,
         says(found, r#"down; live 8, size 8, file "0\trow\tx\n"; opened again: left [0 "row" "x"], next 1"#),
-        says(port, "refused 7; opened again: left [], next 0"),
+        says(said_and_left(&list), "refused 7; opened again: left [], next 0"),
     );
+}
+
+/// One group of this name.
+fn named(name: &[u8], replicas: usize) -> Opening {
+    let mut opening = opening(AMPLE, AMPLE, b"");
+    opening.settings.groups[0].name = name.to_vec();
+    opening.settings.groups[0].replicas = replicas;
+    opening
+}
+
+/// What the port says at a list's end, and what its log then leaves.
+fn said_and_left(list: &List) -> String {
+    format!("{}; opened again: {}", port::last(list, port::says), port::reopens(list))
+}
+
+/// A program that is not loaded: no group has the name, or its group has ceiling 0.
+fn unloaded(run: &mut Run) {
+    let refused = "refused 17; opened again: left [], next 0";
+    let mistyped = named(b"row", 1);
+    let rust = taken_and_marked(run, &mistyped, b"rwo");
+    run.differ(
+        "a record for a name that no group has",
+        r#"group "row"; admit "rwo" "x"; turn"#,
+        says(rust, r#"taken, file "0\trwo\tx\n"; marked, file "0\trwo\tx\n0\n""#),
+        says(said_and_left(&on(mistyped, &[record(b"rwo", b"x")])), refused),
+    );
+    let ceiling_0 = named(b"row", 0);
+    let rust = taken_and_marked(run, &ceiling_0, b"row");
+    run.differ(
+        "a record for a group with ceiling 0",
+        r#"group "row", replicas 0; admit "row" "x"; turn"#,
+        says(rust, r#"taken, file "0\trow\tx\n"; marked, file "0\trow\tx\n0\n""#),
+        says(said_and_left(&on(ceiling_0, &[record(b"row", b"x")])), refused),
+    );
+}
+
+/// The Rust over an admit that the port refuses, and a turn. The plain program that says what it must do takes the
+/// message while a group of its name is loaded, and has the opening's settings from then on.
+fn taken_and_marked(run: &Run, opening: &Opening, name: &[u8]) -> String {
+    let mut making = Making::new(named(name, 1)).unbooted(&[0]);
+    let mut pool = making.pool.clone();
+    making.answered();
+    making.done(record(name, b"x"));
+    let taken = making.list.calls.len();
+    making.pool.settings = opening.settings.clone();
+    making.done(Call::Turn);
+    let (admit, turn) = making.list.calls.split_at(taken);
+    let mut trace = beside::trace(&mut pool, admit).expect("calls that the Rust has");
+    // The list does not stop here.
+    trace.events.pop();
+    pool.settings = opening.settings.clone();
+    trace.events.extend(beside::trace(&mut pool, turn).expect("calls that the Rust has").events);
+    let files = trace.events.iter().filter_map(|event| match event {
+        Event::Admit { log, .. } => Some(format!("taken, file \"{}\"", log.bytes.escape_ascii())),
+        Event::TurnEnd { log, .. } => Some(format!("marked, file \"{}\"", log.bytes.escape_ascii())),
+        _ => None,
+    });
+    let words = files.collect::<Vec<_>>().join("; ");
+    held_to(run, opening, &trace, &words)
 }
 
 /// An actor at its first step's Sends.
 fn at_sends() -> Making {
-    let mut opening = opening(AMPLE, AMPLE, b"");
-    opening.settings.groups[0].replicas = 1;
-    let mut making = Making::new(opening);
+    let mut making = Making::new(opening(AMPLE, AMPLE, b""));
     making.answered();
     making.call(Call::Turn);
-    while !matches!(making.pool.open_question(), Some(Question::Sends { .. })) {
-        making.call(Call::Reply(match making.pool.open_question() {
-            Some(Question::Clock) => Reply::Clock(0),
-            Some(Question::Run { .. }) => Reply::Ran(Status::Preempted),
-            Some(Question::Store(_)) => Reply::Stored,
-            _ => Reply::Yes,
-        }));
-    }
+    making.answered_up_to(|question| matches!(question, Question::Sends { .. }));
     making
 }
 
@@ -96,7 +146,8 @@ fn long_send(run: &mut Run) {
 }
 
 fn late_clock(run: &mut Run) {
-    let mut making = Making::new(opening(AMPLE, AMPLE, b""));
+    // With ceiling 0 the turn asks Clock alone.
+    let mut making = Making::new(named(b"", 0));
     making.answered();
     making.call(Call::Turn);
     let mut list = making.list.clone();
@@ -170,7 +221,8 @@ pub fn seeded(run: &Run, wide: &Opening) -> String {
     let mut pool = opening(AMPLE, AMPLE, b"").model().expect("an accepted opening");
     pool.settings = wide.settings.clone();
     pool.groups = vec![Group::default(); wide.settings.groups.len()];
-    let mut making = Making { list: List { opening: wide.clone(), calls: Vec::new() }, pool: pool.clone() };
+    let list = List { opening: wide.clone(), calls: Vec::new() };
+    let mut making = Making { list, pool: pool.clone(), unbooted: Vec::new() };
     making.answered();
     making.done(Call::Turn);
     let actors: usize = making.pool.groups.iter().map(|group| group.actors.len()).sum();

@@ -1,9 +1,9 @@
-//! What the port says, in words. A record is an admit; a mark is the next turn, since the group's ceiling is 0 and one
+//! What the port says, in words. A record is an admit; a mark is the next turn, since the group does not boot and one
 //! message is taken in at a time.
 use crate::lent::Lent;
 use crate::limits::{BODY_MAX, STORE};
 use crate::model::log::{self, Left};
-use crate::model::pool::{Call, GroupSetting, Settings};
+use crate::model::pool::{Call, GroupSetting, Question, Settings};
 use crate::output::{Answer, Entry};
 use crate::property::list::{List, Making, Opening};
 use crate::script::SHOW_STORE;
@@ -11,9 +11,9 @@ use crate::script::SHOW_STORE;
 /// A lent log and a compact_at that nothing here reaches.
 pub const AMPLE: usize = 65_536;
 
-/// One group with an empty name and ceiling 0.
+/// One group with an empty name and ceiling 1.
 pub fn opening(log_len: usize, compact_at: usize, file: &[u8]) -> Opening {
-    let group = GroupSetting { name: Vec::new(), replicas: 0, eval: false, timeout: 0, retry: 0 };
+    let group = GroupSetting { name: Vec::new(), replicas: 1, eval: false, timeout: 0, retry: 0 };
     let settings = Settings { groups: vec![group], max_actors: 1, inbox: 64, backlog: 1, compact_at, tick_ns: 1 };
     Opening { settings, log_len, store_len: STORE, file: file.to_vec() }
 }
@@ -22,13 +22,14 @@ pub fn record(name: &[u8], body: &[u8]) -> Call {
     Call::Admit { name: name.to_vec(), body: body.to_vec(), caller: None }
 }
 
-/// The calls on a log, all but the last with their orders stored.
+/// The calls on a log, whose group does not boot: all but the last with their orders stored, the last up to its order.
 pub fn on(opening: Opening, calls: &[Call]) -> List {
-    let mut making = Making::new(opening);
+    let mut making = Making::new(opening).unbooted(&[0]);
     for call in calls {
         making.answered();
         making.call(call.clone());
     }
+    making.answered_up_to(|question| matches!(question, Question::Store(_)));
     making.list
 }
 

@@ -359,7 +359,11 @@ fn any_call(rng: &mut Rng, settings: &Settings) -> Call {
     match rng.below(12) {
         0..=3 => {
             let caller = rng.chance(3).then(|| CallerId(rng.number()));
-            let name = if rng.chance(2) { texts::any(rng, NAME_MAX) } else { rng.pick(&settings.groups).name.clone() };
+            let name = match rng.below(6) {
+                0 | 1 => texts::any(rng, NAME_MAX),
+                2 => texts::near(rng, settings),
+                _ => rng.pick(&settings.groups).name.clone(),
+            };
             Call::Admit { name, body: texts::any(rng, BODY_MAX), caller }
         }
         4..=6 => Call::Turn,

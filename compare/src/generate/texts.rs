@@ -23,9 +23,30 @@ pub fn text(rng: &mut Rng, most: usize) -> Vec<u8> {
     text.into_bytes()
 }
 
-/// A name inside the domain: mostly that of a group.
+/// A name inside the domain: mostly that of a group, now and then one near it.
 pub fn name(rng: &mut Rng, settings: &Settings) -> Vec<u8> {
-    if rng.chance(12) { text(rng, NAME_MAX) } else { rng.pick(&settings.groups).name.clone() }
+    match rng.below(12) {
+        0 => text(rng, NAME_MAX),
+        1 => String::from_utf8(near(rng, settings)).map_or_else(|_| text(rng, NAME_MAX), String::into_bytes),
+        _ => rng.pick(&settings.groups).name.clone(),
+    }
+}
+
+/// A group's name mistyped: its last byte dropped, a byte or a NUL behind it, or one byte changed. It may be the name
+/// of another group, and one byte too long.
+pub fn near(rng: &mut Rng, settings: &Settings) -> Vec<u8> {
+    let mut name = rng.pick(&settings.groups).name.clone();
+    match rng.below(4) {
+        0 => drop(name.pop()),
+        1 => name.push(*rng.pick(b"abrowx")),
+        2 => name.push(0),
+        _ if name.is_empty() => {}
+        _ => {
+            let at = rng.below(name.len() as u64) as usize;
+            name[at] ^= 1 << rng.below(7);
+        }
+    }
+    name
 }
 
 /// Any bytes, now and then at the limit or past it.

@@ -1,5 +1,6 @@
 //! The next call of a random list. A list has a mood: how often replies fit, what programs do, what the disk does.
 use super::texts;
+use crate::generate::texts::near;
 use crate::limits::CLOCK_MAX;
 use crate::model::log::CallerId;
 use crate::model::pool::{Call, Pool, Question, Reply, Status};
@@ -200,7 +201,11 @@ fn count(rng: &mut Rng, above: u64) -> Reply {
     Reply::Count(if above { 1 + (rng.number() >> 1 >> rng.below(63)) } else { 0 })
 }
 
-/// Most often a group's.
+/// Most often a group's, now and then one near it.
 fn name(rng: &mut Rng, pool: &Pool) -> Vec<u8> {
-    if rng.chance(12) { texts::name(rng) } else { rng.pick(&pool.settings.groups).name.clone() }
+    match rng.below(12) {
+        0 => texts::name(rng),
+        1 => near(rng, &pool.settings),
+        _ => rng.pick(&pool.settings.groups).name.clone(),
+    }
 }

@@ -9,12 +9,13 @@ use crate::output::{Answer, Entry, Output, Shown};
 use crate::tables::{Tables, list};
 use crate::tally::{Tally, same};
 use crate::wire::NUMBER;
+use std::collections::BTreeMap;
 
 /// What was met, for the report.
 #[derive(Default)]
 pub struct Seen {
     calls: u64,
-    refused: [u64; 15],
+    refused: BTreeMap<u64, u64>,
     answers: [u64; 17],
     squeezed: u64,
     lacked_space: u64,
@@ -23,7 +24,7 @@ pub struct Seen {
 impl Seen {
     fn see(&mut self, entry: &Entry) {
         if let Answer::Refused(number) = entry.answer {
-            self.refused[number as usize] += 1;
+            *self.refused.entry(number).or_default() += 1;
         }
         // The lowest byte of the answer's number.
         self.answers[usize::from(entry.raw[0])] += 1;
@@ -31,7 +32,7 @@ impl Seen {
 
     pub fn note(&self, tally: &mut Tally) {
         tally.note("calls", self.calls);
-        for (number, times) in self.refused.iter().enumerate().skip(1) {
+        for (number, times) in &self.refused {
             tally.note(&format!("refused {number}"), *times);
         }
         const NAMES: [&str; 17] = [

@@ -79,12 +79,22 @@ impl Opening {
 pub struct Making {
     pub list: List,
     pub pool: Pool,
+    /// Groups whose Boot is answered no.
+    pub unbooted: Vec<usize>,
 }
 
 impl Making {
+    /// Every group boots.
     pub fn new(opening: Opening) -> Making {
         let pool = opening.model().expect("an accepted opening");
-        Making { list: List { opening, calls: Vec::new() }, pool }
+        Making { list: List { opening, calls: Vec::new() }, pool, unbooted: Vec::new() }
+    }
+
+    /// These fixed groups do not boot: no message of theirs finds an actor, so that the turn that takes one in marks
+    /// it.
+    pub fn unbooted(mut self, groups: &[usize]) -> Making {
+        self.unbooted = groups.to_vec();
+        self
     }
 
     pub fn call(&mut self, call: Call) -> pool::Answer {
@@ -100,9 +110,15 @@ impl Making {
     }
 
     pub fn answered(&mut self) {
-        while let Some(question) = self.pool.open_question() {
+        self.answered_up_to(|_| false);
+    }
+
+    /// The same up to the first order or question of which this is true: it stays open.
+    pub fn answered_up_to(&mut self, is: impl Fn(&Question) -> bool) {
+        while let Some(question) = self.pool.open_question().filter(|question| !is(question)) {
             self.call(Call::Reply(match question {
                 Question::Store(_) => Reply::Stored,
+                Question::Boot { g } => self.boot(g),
                 Question::Clock => Reply::Clock(0),
                 Question::Run { .. } => Reply::Ran(Status::Preempted),
                 Question::Sends { .. } => Reply::End,
@@ -111,6 +127,11 @@ impl Making {
                 _ => Reply::Yes,
             }));
         }
+    }
+
+    /// What a Boot of this group is answered.
+    pub fn boot(&self, g: usize) -> Reply {
+        if self.unbooted.contains(&g) { Reply::No } else { Reply::Yes }
     }
 }
 

@@ -1,14 +1,16 @@
-//! The other scripts: openings, records, marks, rewrites and flushes of the log, each message for a group whose
-//! ceiling is 0, so that the next turn marks it; and random lists, small, inside the domain of equality.
+//! The other scripts: openings, records, marks, rewrites and flushes of the log; and random lists, small, inside the
+//! domain of equality. In the former every message is marked in the turn that takes it in: its group does not boot,
+//! or there is none, or where nothing is admitted the group has ceiling 0.
 use super::rows::{group, opening};
 use crate::limits::refusal;
-use crate::model::pool::{self, Answer, Call, Reply};
+use crate::model::pool::{self, Answer, Call, GroupSetting, Reply};
 use crate::property::calls::Mood;
 use crate::property::list::{List, Making, Opening};
 use crate::property::{case, settings};
 use crate::rng::Rng;
 
-/// What is done to a log: a record for the group; one with any name; a flush; a turn, which marks what is pending.
+/// What is done to a log: a record for the group `row`; one for a group of any name; a flush; a turn, which marks what
+/// is pending.
 enum Do {
     Row(&'static [u8]),
     Text(Vec<u8>, Vec<u8>),
@@ -64,12 +66,16 @@ fn logs() -> Vec<Chosen> {
 }
 
 fn made(log_len: usize, compact_at: usize, file: &[u8], todo: &[Do]) -> List {
-    let mut opening = opening(group(0, false, 0, 0), 1, file);
+    let group = match name_admitted(todo) {
+        Some(name) => GroupSetting { name, ..group(1, false, 0, 0) },
+        None => group(0, false, 0, 0),
+    };
+    let mut opening = opening(group, 1, file);
     opening.log_len = log_len;
     opening.settings.compact_at = compact_at;
     opening.settings.inbox = 8;
     opening.settings.backlog = 8;
-    let mut making = Making::new(opening);
+    let mut making = Making::new(opening).unbooted(&[0]);
     making.answered();
     for one in todo {
         making.done(match one {
@@ -82,7 +88,18 @@ fn made(log_len: usize, compact_at: usize, file: &[u8], todo: &[Do]) -> List {
     making.list
 }
 
+/// The name that a list admits messages for; None where it admits none.
+fn name_admitted(todo: &[Do]) -> Option<Vec<u8>> {
+    todo.iter().find_map(|one| match one {
+        Row(_) => Some(b"row".to_vec()),
+        Text(name, _) => Some(name.clone()),
+        Sync | Turn => None,
+    })
+}
+
 const SEED: u64 = 20_261_115;
+/// Calls of a random list, at least and at most.
+const FEWEST: u64 = 35;
 const CALLS: u64 = 60;
 /// Bytes that a random list's log may reach, so that the text stays short.
 const LOG: usize = 140;
@@ -135,23 +152,28 @@ fn inside(rng: &mut Rng) -> Option<(List, Asked)> {
     }
     let file = b"0\ta\tx\n1\tb\t\n0\n".repeat(rng.below(2) as usize);
     let opening = Opening { settings, log_len: 4_096, store_len: crate::limits::STORE, file };
-    let length = rng.range(35, CALLS);
+    let length = rng.range(FEWEST, CALLS);
     let mood = Mood::random(rng);
-    let list = List::made(rng, opening, mood, length);
-    let mut pool = list.opening.model().ok()?;
+    let List { opening, calls } = List::made(rng, opening, mood, length);
+    let mut making = Making::new(opening);
     let mut asked = Asked::default();
-    for call in &list.calls {
-        if !plain(call) {
+    for call in calls {
+        // The Rust has no refusal 17. Such an admit changes nothing, and is left out.
+        if making.pool.refusal(&call) == Some(refusal::UNLOADED) {
+            continue;
+        }
+        if !plain(&call) {
             return None;
         }
-        let answer = pool.call(call);
+        let answer = making.call(call);
+        let pool = &making.pool;
         let refused = matches!(answer, pool::Answer::Refused(number) if number != refusal::INBOX);
         if refused || pool.failed || pool.closed || pool.outside_domain() || pool.counters.size > LOG {
             return None;
         }
         asked.see(&answer);
     }
-    Some((list, asked))
+    (making.list.calls.len() as u64 >= FEWEST).then_some((making.list, asked))
 }
 
 /// Texts that are UTF-8, short, and without a final CR.

@@ -9,7 +9,7 @@ const CALLER: u64 = 7;
 /// Titles and lists, the example of docs/PROTOCOL.md first.
 pub fn rows() -> Vec<(&'static str, List)> {
     vec![
-        ("row end 10: ceiling 0, the message is marked done", ceiling_0()),
+        ("row end 10: ceiling 0, a message handed back is marked done", ceiling_0()),
         ("row end 8: at the deadline the run ends", deadline(900_000_100, true)),
         ("row end 8: one before it, the run resumes", deadline(900_000_099, false)),
         ("row end 9: retry 0, the first crash is dead", crashes(0)),
@@ -48,9 +48,8 @@ fn count(count: u64) -> Call {
 
 /// The example of docs/PROTOCOL.md.
 fn ceiling_0() -> List {
-    let admit = Call::Admit { name: b"row".to_vec(), body: b"x".to_vec(), caller: None };
-    let calls = vec![STORED, admit, STORED, Call::Turn, STORED, clock(5)];
-    List { opening: opening(group(0, false, 0, 0), 1, b""), calls }
+    let calls = vec![STORED, Call::Turn, STORED, clock(5)];
+    List { opening: opening(group(0, false, 0, 0), 1, b"0\trow\tx\n"), calls }
 }
 
 /// An eval run that began at 100, of 1 second, in ticks of 300,000,000: its caller is told it was late, or it goes on.

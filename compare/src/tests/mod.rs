@@ -12,10 +12,17 @@ mod texts;
 use crate::limits::STORE;
 use crate::model::pool::{self, Call, GroupSetting, Pool, Reply, Settings};
 
-/// Settings with one group, `row`, whose ceiling is 0, so that a turn asks for its clock alone.
+/// Settings with one group, `row`, of one actor.
 fn settings(inbox: usize, compact_at: usize) -> Settings {
-    let group = GroupSetting { name: b"row".to_vec(), replicas: 0, eval: false, timeout: 0, retry: 0 };
+    let group = GroupSetting { name: b"row".to_vec(), replicas: 1, eval: false, timeout: 0, retry: 0 };
     Settings { groups: vec![group], max_actors: 1, inbox, backlog: 256, compact_at, tick_ns: 1 }
+}
+
+/// The same with ceiling 0, so that a turn asks for its clock alone.
+fn ceiling_0(inbox: usize, compact_at: usize) -> Settings {
+    let mut settings = settings(inbox, compact_at);
+    settings.groups[0].replicas = 0;
+    settings
 }
 
 /// A lent log of `log_len` bytes that has the file in front.

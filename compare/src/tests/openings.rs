@@ -120,7 +120,7 @@ fn of_1_to_4_the_lowest_refuses() {
 
 #[test]
 fn the_first_turn_of_an_opening_marks_what_has_no_actor() {
-    let mut pool = super::running(&settings(1, 64), 64, b"0\trow\tx\n");
+    let mut pool = super::running(&super::ceiling_0(1, 64), 64, b"0\trow\tx\n");
     let order = Order::Append(8, 10);
     assert_eq!(pool.call(&pool::Call::Turn), Answer::Open(Some(Question::Store(order))));
     assert_eq!(&pool.log[..10], b"0\trow\tx\n0\n");

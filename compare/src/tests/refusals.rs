@@ -1,24 +1,33 @@
 //! What turns a call away, and in which order (docs/RULES.md, section 8). Those of an opening are in `openings`.
-use super::{STORED, admit, running, settings};
+use super::{STORED, admit, ceiling_0, running, settings};
 use crate::limits::{CLOCK_MAX, refusal};
 use crate::model::log::CallerId;
 use crate::model::pool::{Answer, Call, Pool, Question, Reply};
+use crate::output;
+use crate::unloaded::{self, End, Stated};
+
+fn answered(pool: &mut Pool, call: &Call) -> Answer {
+    let before = pool.clone();
+    let answer = pool.call(call);
+    if let Answer::Refused(_) = answer {
+        pool.events = before.events.clone();
+        assert_eq!(*pool, before, "a refused call changes nothing");
+    }
+    answer
+}
 
 fn refused(pool: &mut Pool, call: &Call) -> Option<u8> {
-    let before = pool.clone();
-    match pool.call(call) {
-        Answer::Refused(number) => {
-            pool.events = before.events.clone();
-            assert_eq!(*pool, before, "a refused call changes nothing");
-            Some(number)
-        }
+    match answered(pool, call) {
+        Answer::Refused(number) => Some(number),
         _ => None,
     }
 }
 
 #[test]
 fn refusal_5_a_name_or_a_body_too_long() {
-    let mut pool = running(&settings(1, 64), 1_000, b"");
+    let mut settings = settings(1, 64);
+    settings.groups[0].name = vec![b'x'; 32];
+    let mut pool = running(&settings, 1_000, b"");
     assert_eq!(refused(&mut pool, &admit(b"row", &[b'x'; 129])), Some(refusal::TEXT));
     assert_eq!(refused(&mut pool, &admit(&[b'x'; 33], b"")), Some(refusal::TEXT));
     assert_eq!(refused(&mut pool, &admit(&[b'x'; 32], &[b'x'; 128])), None);
@@ -78,7 +87,7 @@ fn refusal_11_a_call_while_an_order_waits() {
 
 #[test]
 fn refusal_12_a_reply_to_nothing_or_one_that_does_not_fit() {
-    let mut pool = running(&settings(1, 64), 64, b"");
+    let mut pool = running(&ceiling_0(1, 64), 64, b"");
     assert_eq!(refused(&mut pool, &STORED), Some(refusal::REPLY));
     assert_eq!(pool.call(&Call::Turn), Answer::Open(Some(Question::Clock)));
     let clock = |clock| Call::Reply(Reply::Clock(clock));
@@ -105,6 +114,19 @@ fn refusal_14_everything_after_a_failed_store() {
 }
 
 #[test]
+fn refusal_17_a_program_that_is_not_loaded() {
+    for Stated { what, list, end } in unloaded::lists() {
+        let mut pool = list.opening.model().expect("an accepted opening");
+        let (before, last) = list.calls.split_at(list.calls.len() - end.answers.len());
+        before.iter().for_each(|call| assert_eq!(refused(&mut pool, call), None, "{what}"));
+        let answers = last.iter().map(|call| output::Answer::of(&answered(&mut pool, call))).collect();
+        let log = pool.log[..pool.counters.size].to_vec();
+        let found = End { answers, next: pool.counters.next, log, live: pool.live_messages() };
+        assert_eq!(found, end, "{what}");
+    }
+}
+
+#[test]
 fn the_order_of_refusals() {
     let long = admit(b"row", &[b'x'; 129]);
     // An order waits before the text is looked at; a turn inside a turn waits for the order too.
@@ -114,16 +136,17 @@ fn the_order_of_refusals() {
     assert_eq!(refused(&mut pool, &long), Some(refusal::WAITS));
     assert_eq!(refused(&mut pool, &Call::Turn), Some(refusal::WAITS));
     // The question beneath the order is not the one that is open.
-    assert_eq!(refused(&mut pool, &Call::Reply(Reply::Clock(0))), Some(refusal::REPLY));
+    let no = Call::Reply(Reply::No);
+    assert_eq!(refused(&mut pool, &no), Some(refusal::REPLY));
     pool.call(&STORED);
     // A text too long, then a full inbox, then a closed one, then no room.
     pool.call(&Call::Close);
     assert_eq!(refused(&mut pool, &long), Some(refusal::TEXT));
     assert_eq!(refused(&mut pool, &admit(b"row", b"xyz")), Some(refusal::INBOX));
-    pool.call(&Call::Reply(Reply::Clock(0)));
-    // The turn that takes the message in and marks it empties the inbox.
-    pool.call(&Call::Turn);
-    pool.call(&STORED);
+    // No actor boots, neither as the seed nor for the message, which is taken in and marked: the inbox is empty.
+    for call in [&no, &no, &STORED] {
+        pool.call(call);
+    }
     assert_eq!(refused(&mut pool, &admit(b"row", &[b'x'; 100])), Some(refusal::CLOSED));
 }
 

@@ -1,5 +1,5 @@
 //! Scripts and outputs as bytes (docs/PROTOCOL.md), and the recorded answers beside the plain program.
-use super::{STORED, admit, settings};
+use super::{STORED, admit, ceiling_0};
 use crate::limits::STORE;
 use crate::model::log::CallerId;
 use crate::model::pool::{Call, Reply, Status};
@@ -10,11 +10,11 @@ use crate::recorded::{LIST, text};
 use crate::script::{SHOW_LOG, Script};
 use crate::wire::{NUMBER, Reader, put};
 
-/// A script as the example of docs/PROTOCOL.md has it: its opening, then calls.
+/// A script as the example of docs/PROTOCOL.md has it: its opening on a record for a group with ceiling 0, then calls.
 fn script(calls: &[Call]) -> Script {
-    let mut settings = settings(1, 64);
+    let mut settings = ceiling_0(1, 64);
     settings.backlog = 1;
-    let mut script = Script::new(&settings, 64, STORE, b"", SHOW_LOG);
+    let mut script = Script::new(&settings, 64, STORE, b"0\trow\tx\n", SHOW_LOG);
     calls.iter().for_each(|call| script.call(call));
     script
 }
@@ -27,7 +27,7 @@ fn run(script: &[u8], log_len: usize, room: usize) -> (u64, Vec<u8>) {
 
 fn example() -> Script {
     let clock = Call::Reply(Reply::Clock(5));
-    script(&[STORED, admit(b"row", b"x"), STORED, Call::Turn, STORED, clock])
+    script(&[STORED, Call::Turn, STORED, clock])
 }
 
 #[test]
@@ -60,17 +60,16 @@ fn every_call_and_reply_comes_back_from_its_bytes() {
 #[test]
 fn the_example_of_the_protocol() {
     let script = example();
-    assert_eq!(script.bytes().len(), 628);
+    assert_eq!(script.bytes().len(), 552);
     let (code, out) = run(script.bytes(), 64, usize::MAX);
-    assert_eq!((code, out.len()), (OK, NUMBER + 774));
+    assert_eq!((code, out.len()), (OK, NUMBER + 566));
     let output = Output::read(&out, SHOW_LOG, STORE).expect("entries");
     let answers: Vec<Answer> = output.entries.iter().map(|entry| entry.answer).collect();
     let end = Answer::TurnEnd { busy: false, waiters: false };
-    let (record, mark) = (Answer::Append(0, 8), Answer::Append(8, 10));
-    let nothing = Answer::Nothing;
-    assert_eq!(answers, [Answer::Replace(0), nothing, record, nothing, mark, Answer::Clock, end]);
-    assert_eq!(output.entries[6].log, Some(&b"0\trow\tx\n0\n"[..]));
-    assert_eq!((output.entries[6].next, output.entries[6].open), (1, 0));
+    let mark = Answer::Append(8, 10);
+    assert_eq!(answers, [Answer::Replace(8), Answer::Nothing, mark, Answer::Clock, end]);
+    assert_eq!(output.entries[4].log, Some(&b"0\trow\tx\n0\n"[..]));
+    assert_eq!((output.entries[4].next, output.entries[4].open), (1, 0));
     assert!(out.len() <= script.output_bound());
 }
 
@@ -82,9 +81,9 @@ fn scripts_that_are_cut_short_have_another_length_or_no_room() {
     assert_eq!(run(&bytes[..80], 64, usize::MAX), (MALFORMED, vec![0; NUMBER]));
     assert_eq!(run(bytes, 63, usize::MAX), (LENGTHS, vec![0; NUMBER]));
     assert_eq!(run(bytes, 64, 7), (NO_ROOM, vec![]));
-    let (code, out) = run(bytes, 64, NUMBER + 773);
+    let (code, out) = run(bytes, 64, NUMBER + 565);
     assert_eq!(code, NO_ROOM);
-    assert!(out.len() < NUMBER + 774);
+    assert!(out.len() < NUMBER + 566);
 }
 
 #[test]

@@ -1,2 +1,4 @@
 -- Laws of the door.
 pub mod AdmitLaws
+pub mod Checks
+pub mod Names

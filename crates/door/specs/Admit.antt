@@ -1,5 +1,5 @@
--- Admit: 14, 11, then 5 to 10; else the message is logged under the next id, unless a caller waits for its outcome,
--- and queued in the inbox.
+-- Admit: 14, 11, 5, 17, then 6 to 10; else the message is logged under the next id, unless a caller waits for its
+-- outcome, and queued in the inbox.
 use mathlib.Core.Bool.{Bool, true, false}
 use mathlib.Core.List.{List}
 use Prim.Native.Nat.{ℕ}
@@ -15,6 +15,7 @@ use Rattle.log.specs.Log.{state, Did, appendOf}
 use Rattle.actor.specs.declared.message.Caller.{Caller}
 use Rattle.actor.specs.declared.message.Caller.the-variants as caller
 use Rattle.actor.specs.declared.message.Logged.the-variants as id
+use Rattle.group.specs.Settings.{loadedIn}
 use Rattle.setup.specs.Entry.{Kept, keepOf}
 use Rattle.turn.specs.declared.state.What.the-variants as what
 use Rattle.turn.specs.declared.state.Disk.{Disk}
@@ -38,6 +39,11 @@ pub record Admitted : Type 0 where
   pub rows : Table
   pub told : Told
 
+-- 17: the program of the name is not loaded
+abbrev pub loadedCheck : Bool → Check → Check
+loadedCheck isLoaded (check.Refuse r) = check.Refuse r
+loadedCheck isLoaded check.Fine = pick isLoaded check.Fine (check.Refuse refusal.NotLoaded)
+
 -- 6: inbox holds its limit; 7: closed; 8: 256 messages live
 abbrev pub roomCheck : Pool → Table → Check → Check
 roomCheck p t (check.Refuse r) = check.Refuse r
@@ -46,8 +52,9 @@ roomCheck p t check.Fine =
     (pick (p .closed) (check.Refuse refusal.Closed) (pick (eqb (lenOf t FREE) 0) (check.Refuse refusal.TooMany)
     check.Fine))
 
-unfoldable pub admitCheck : Pool → Table → ℕ → ℕ → Check
-admitCheck p t name body = roomCheck p t (lengthCheck name body)
+-- 5, 17, 6, 7, 8, in this order
+unfoldable pub admitCheck : Pool → Table → Bool → ℕ → ℕ → Check
+admitCheck p t isLoaded name body = roomCheck p t (loadedCheck isLoaded (lengthCheck name body))
 
 abbrev pub admittedBy : List ℕ → Table → Kept → Told → Admitted
 admittedBy bytes records k told = record {
@@ -133,16 +140,22 @@ admitChecked p bytes records store t rows name body who (check.Refuse r) = turne
 admitChecked p bytes records store t rows name body who check.Fine = admitFit p bytes records store t rows name body
     who
 
-unfoldable pub admitFree : Pool → List ℕ → Table → List ℕ → Table → Table → List ℕ → List ℕ → Caller → Admitted
-admitFree p bytes records store t rows name body who =
-    admitChecked p bytes records store t rows name body who (admitCheck p t (length name) (length body))
+unfoldable pub admitFree : Pool → List ℕ → Table → List ℕ → Table → Table → Table → List ℕ → List ℕ → Caller
+    → Admitted
+admitFree p bytes records store groups t rows name body who =
+    admitChecked p bytes records store t rows name body who
+    (admitCheck p t (loadedIn groups name (p .limits .groups)) (length name) (length body))
 
-abbrev pub admitIn : Pool → List ℕ → Table → List ℕ → Table → Table → List ℕ → List ℕ → Caller → Disk → Admitted
-admitIn p bytes records store t rows name body who disk.Free = admitFree p bytes records store t rows name body who
-admitIn p bytes records store t rows name body who (disk.Waits o w) = turnedAway p bytes records store t rows
-    refusal.OrderWaits
-admitIn p bytes records store t rows name body who disk.Failed = turnedAway p bytes records store t rows
-    refusal.StoreFailed
+abbrev pub admitIn : Pool → List ℕ → Table → List ℕ → Table → Table → Table → List ℕ → List ℕ → Caller → Disk
+    → Admitted
+admitIn p bytes records store groups t rows name body who disk.Free =
+    admitFree p bytes records store groups t rows name body who
+admitIn p bytes records store groups t rows name body who (disk.Waits o w) =
+    turnedAway p bytes records store t rows refusal.OrderWaits
+admitIn p bytes records store groups t rows name body who disk.Failed =
+    turnedAway p bytes records store t rows refusal.StoreFailed
 
-unfoldable pub admitOf : Pool → List ℕ → Table → List ℕ → Table → Table → List ℕ → List ℕ → Caller → Admitted
-admitOf p bytes records store t rows name body who = admitIn p bytes records store t rows name body who (p .turn .disk)
+unfoldable pub admitOf : Pool → List ℕ → Table → List ℕ → Table → Table → Table → List ℕ → List ℕ → Caller
+    → Admitted
+admitOf p bytes records store groups t rows name body who =
+    admitIn p bytes records store groups t rows name body who (p .turn .disk)

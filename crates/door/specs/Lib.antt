@@ -1,3 +1,4 @@
 -- Definitions and statements.
 pub mod Open
 pub mod Admit
+pub mod Loaded

@@ -1,4 +1,5 @@
-// A message from outside: logged if nobody waits for its outcome, then queued in the inbox.
+// A message from outside, for a program that is loaded: logged if nobody waits for its outcome, then queued in the
+// inbox.
 ghost use mathlib.Core.Path.{_≡_};
 ghost use Rattle.door.specs.Admit.{admitCheck, answeredOf, admitLogged, admitFit, admitFree, admitOf};
 use actor::message::Caller;
@@ -8,6 +9,7 @@ use front::state::Check;
 use front::state::Pool;
 use front::state::Refusal;
 use front::state::Told;
+use group::settings;
 use log::Counters;
 use log::LogId;
 use log::wal;
@@ -15,9 +17,9 @@ use setup::entry;
 use turn::state::Disk;
 use turn::state::What;
 
-// 5 to 8, in this order.
-fn admit_check(pool: Pool, links: &[[u64; 4]], name: usize, body: usize) -> Check
-    ensures { λ r. ⌜ r ≡ admitCheck pool (now (links .entry)) name body ⌝ }
+// 5, 17, 6, 7 and 8, in this order; `loaded`: the program of the name is.
+fn admit_check(pool: Pool, links: &[[u64; 4]], loaded: bool, name: usize, body: usize) -> Check
+    ensures { λ r. ⌜ r ≡ admitCheck pool (now (links .entry)) loaded name body ⌝ }
 {
     let long = state::length_check(name, body);
     match long {
@@ -27,6 +29,9 @@ fn admit_check(pool: Pool, links: &[[u64; 4]], name: usize, body: usize) -> Chec
             let closed = pool.closed;
             let waiting = lists::length_of(links, lists::INBOX);
             let free = lists::length_of(links, lists::FREE);
+            if !loaded {
+                return Check::Refuse(Refusal::NotLoaded);
+            }
             if most <= waiting {
                 return Check::Refuse(Refusal::InboxFull);
             }
@@ -162,6 +167,7 @@ fn admit_free(
     log: &mut [u8],
     records: &mut [[u64; 3]],
     store: &mut [u8],
+    groups: &[[u64; 37]],
     links: &mut [[u64; 4]],
     rows: &mut [[u64; 7]],
     name: &[u8],
@@ -178,23 +184,26 @@ fn admit_free(
           told = r;
         }
         ≡ admitFree
-        pool (now (log .entry)) (now (records .entry)) (now (store .entry)) (now (links .entry))
-        (now (rows .entry)) (now (name .entry)) (now (body .entry)) caller
+        pool (now (log .entry)) (now (records .entry)) (now (store .entry)) (now (groups .entry))
+        (now (links .entry)) (now (rows .entry)) (now (name .entry)) (now (body .entry)) caller
         ⌝ }
 {
-    let check = admit_check(pool, links, name.len(), body.len());
+    let count = pool.limits.groups;
+    let loaded = settings::loaded(groups, count, name);
+    let check = admit_check(pool, links, loaded, name.len(), body.len());
     match check {
         Check::Refuse(r) => state::refused(pool, r),
         Check::Fine => admit_fit(pool, log, records, store, links, rows, name, body, caller),
     }
 }
 
-// A message for a group, which need not exist.
+// A message for the program of a group.
 pub fn admit(
     pool: Pool,
     log: &mut [u8],
     records: &mut [[u64; 3]],
     store: &mut [u8],
+    groups: &[[u64; 37]],
     links: &mut [[u64; 4]],
     rows: &mut [[u64; 7]],
     name: &[u8],
@@ -211,14 +220,25 @@ pub fn admit(
           told = r;
         }
         ≡ admitOf
-        pool (now (log .entry)) (now (records .entry)) (now (store .entry)) (now (links .entry))
-        (now (rows .entry)) (now (name .entry)) (now (body .entry)) caller
+        pool (now (log .entry)) (now (records .entry)) (now (store .entry)) (now (groups .entry))
+        (now (links .entry)) (now (rows .entry)) (now (name .entry)) (now (body .entry)) caller
         ⌝ }
 {
     let turn = pool.turn;
     let disk = turn.disk;
     match disk {
-        Disk::Free => admit_free(pool, log, records, store, links, rows, name, body, caller),
+        Disk::Free => admit_free(
+            pool,
+            log,
+            records,
+            store,
+            groups,
+            links,
+            rows,
+            name,
+            body,
+            caller,
+        ),
         Disk::Waits(_, _) => state::refused(pool, Refusal::OrderWaits),
         Disk::Failed => state::refused(pool, Refusal::StoreFailed),
     }

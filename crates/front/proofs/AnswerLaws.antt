@@ -60,7 +60,9 @@ refusalFrom n =
     (case n 8 refusal.TooMany
     (case n 9 refusal.NoId
     (case n 10 refusal.NoRoom
-    (case n 11 refusal.OrderWaits (case n 12 refusal.NoFit (case n 13 refusal.InTurn refusal.StoreFailed))))))))))))
+    (case n 11 refusal.OrderWaits
+    (case n 12 refusal.NoFit
+    (case n 13 refusal.InTurn (case n 14 refusal.StoreFailed refusal.NotLoaded)))))))))))))
 
 refusal-back : (r : Refusal) → refusalFrom (numberOf r) ≡ r
 unfolding refusalFrom
@@ -78,6 +80,7 @@ refusal-back refusal.OrderWaits = refl
 refusal-back refusal.NoFit = refl
 refusal-back refusal.InTurn = refl
 refusal-back refusal.StoreFailed = refl
+refusal-back refusal.NotLoaded = refl
 
 flagFrom : ℕ → Bool
 flagFrom n = pick (eqb n 1) true false

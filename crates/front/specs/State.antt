@@ -35,6 +35,7 @@ numberOf refusal.OrderWaits = 11
 numberOf refusal.NoFit = 12
 numberOf refusal.InTurn = 13
 numberOf refusal.StoreFailed = 14
+numberOf refusal.NotLoaded = 17
 
 -- a refusal of the log, as the pool's own
 abbrev pub logRefusal : of-log.Refusal → Refusal

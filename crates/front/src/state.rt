@@ -43,6 +43,7 @@ pub enum Refusal {
     NoFit,
     InTurn,
     StoreFailed,
+    NotLoaded,
 }
 
 pub enum Answer {
@@ -78,6 +79,7 @@ pub fn number(r: Refusal) -> u64
         Refusal::NoFit => 12,
         Refusal::InTurn => 13,
         Refusal::StoreFailed => 14,
+        Refusal::NotLoaded => 17,
     }
 }
 

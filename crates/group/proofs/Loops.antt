@@ -15,7 +15,7 @@ use Rattle.lists.specs.KeyLists.{lastOf, popEnd}
 use Rattle.lists.specs.Slabs.{containsOf}
 use Rattle.steps.specs.Steps.{overFirst}
 use Rattle.group.specs.declared.settings.Named.the-variants as found
-use Rattle.group.specs.Settings.{agrees, named, groupFor}
+use Rattle.group.specs.Settings.{agrees, named, groupFor, hasName, groupNamed}
 use Rattle.group.specs.Roster.{idleKey, popped, popIdleRow, betterOf, leastFrom, overAll}
 
 before : (n : ℕ) → suc n - 1 ≡ n
@@ -46,6 +46,16 @@ pub for-end : (groups : Table) (store : List ℕ) (entry len g : ℕ) → g ≤ 
     ≡ found.Nothing
 unfolding groupFor
 for-end groups store entry len g out = let none : g ≡ 0 = omega arith in rw none
+
+pub named-more : (groups : Table) (name : List ℕ) (g : ℕ) → 0 < g → groupNamed groups name g
+    ≡ pick (hasName (getD groups (g - 1) []) name) (found.Group (g - 1)) (groupNamed groups name (g - 1))
+unfolding groupNamed
+named-more groups name zero some = absurd (not-suc-le-zero some)
+named-more groups name (suc g) some = rw (before g)
+
+pub named-end : (groups : Table) (name : List ℕ) (g : ℕ) → g ≤ 0 → groupNamed groups name g ≡ found.Nothing
+unfolding groupNamed
+named-end groups name g out = let none : g ≡ 0 = omega arith in rw none
 
 -- ---- an idle list, from its end
 

@@ -1,9 +1,10 @@
--- A group's settings as cells, and the group of a message's name.
+-- A group's settings as cells; the group of a message's name, in an entry of the body store or as bytes; and whether
+-- the program of a name is loaded.
 use mathlib.Core.Bool.{Bool, true, false}
 use mathlib.Core.List.{List, []}
 use Prim.Native.Nat.{ℕ, zero, suc, _+_, _*_}
 use lib.Dec.{eqb, ltb, leb}
-use lib.ListN.{getD}
+use lib.ListN.{length, getD}
 use Rattle.lists.specs.Links.{pick, Table}
 use Rattle.actor.specs.Actors.{flagOf}
 use Rattle.group.specs.declared.settings.Group.{Group}
@@ -40,3 +41,23 @@ unfoldable pub groupFor : Table → List ℕ → ℕ → ℕ → ℕ → Named
 groupFor groups store entry len zero = found.Nothing
 groupFor groups store entry len (suc g) =
     pick (named (getD groups g []) store entry len) (found.Group g) (groupFor groups store entry len g)
+
+-- the group of this row has this name, given as bytes: the names are the same
+unfoldable pub hasName : List ℕ → List ℕ → Bool
+hasName row name =
+    pick (ltb 32 (length name)) false
+    (pick (eqb (getD row 4 0) (length name)) (agrees row name 0 0 (length name)) false)
+
+-- The group of a name given as bytes: of two groups of one name the later one, which gets the messages.
+unfoldable pub groupNamed : Table → List ℕ → ℕ → Named
+groupNamed groups name zero = found.Nothing
+groupNamed groups name (suc g) = pick (hasName (getD groups g []) name) (found.Group g) (groupNamed groups name g)
+
+-- a group may have an actor: its ceiling is above 0
+abbrev pub mayRun : Table → Named → Bool
+mayRun groups (found.Group g) = ltb 0 (groupAt groups g .ceiling)
+mayRun groups found.Nothing = false
+
+-- The program of a name is loaded: a group has the name, and the one that gets its messages may have an actor.
+unfoldable pub loadedIn : Table → List ℕ → ℕ → Bool
+loadedIn groups name count = mayRun groups (groupNamed groups name count)

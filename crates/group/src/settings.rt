@@ -2,10 +2,19 @@
 // name, and the name's 32 bytes.
 ghost use mathlib.Core.Path.{_≡_};
 ghost use mathlib.Core.List.{[]};
-ghost use Prim.Native.Nat.{_+_, _*_, _<_};
+ghost use Prim.Native.Nat.{_+_, _*_, _<_, _≤_};
 ghost use lib.ListN.{getD};
 ghost use Rattle.actor.specs.Actors.{flagOf};
-ghost use Rattle.group.specs.Settings.{groupOf, groupAt, agrees, named, groupFor};
+ghost use Rattle.group.specs.Settings.{
+  groupOf,
+  groupAt,
+  agrees,
+  named,
+  groupFor,
+  hasName,
+  groupNamed,
+  loadedIn,
+};
 
 pub struct Group {
     // the most actors: the lesser of its replicas and max_actors
@@ -74,28 +83,17 @@ fn byte_at(store: &[u8], i: usize) -> u8
     if i < store.len() { store[i] } else { 0 }
 }
 
-// A cell of a row, past its end 0.
-fn cell_of(row: [u64; 37], i: usize) -> u64
-    ensures { λ r. ⌜ r ≡ getD row i 0 ⌝ }
-{
-    if i < 37 { row[i] } else { 0 }
-}
-
-// A cell of a group's row, past the table's end 0.
+// A cell of a group's row, past the table's end 0. It is read where it stands: a row has 296 bytes.
 fn cell_at(groups: &[[u64; 37]], g: usize, i: usize) -> u64
+    requires { ⌜ i < 37 ⌝ }
     ensures { λ r. ⌜ r ≡ getD (getD (now (groups .entry)) g []) i 0 ⌝ }
 {
-    if g < groups.len() {
-        let c = groups[g];
-        cell_of(c, i)
-    } else {
-        0
-    }
+    if g < groups.len() { groups[g][i] } else { 0 }
 }
 
 // Whether a group's name has the n bytes of the store from `from` on.
 fn same_name(groups: &[[u64; 37]], g: usize, store: &[u8], from: usize, n: usize) -> bool
-    requires { ⌜ (from < 65536) × (n < 65536) ⌝ }
+    requires { ⌜ (from < 65536) × (n ≤ 32) ⌝ }
     ensures { λ r. ⌜ r ≡ agrees (getD (now (groups .entry)) g []) (now (store .entry)) from 0 n ⌝ }
 {
     let mut i: usize = 0;
@@ -141,4 +139,49 @@ pub fn group_for(groups: &[[u64; 37]], count: usize, store: &[u8], entry: usize,
         }
     }
     Named::Nothing
+}
+
+// Whether a group has this name.
+fn has_name(groups: &[[u64; 37]], g: usize, name: &[u8]) -> bool
+    ensures { λ r. ⌜ r ≡ hasName (getD (now (groups .entry)) g []) (now (name .entry)) ⌝ }
+{
+    let len = name.len();
+    let long = cell_at(groups, g, 4);
+    if 32 < len {
+        return false;
+    }
+    if long == len as u64 {
+        same_name(groups, g, name, 0, len)
+    } else {
+        false
+    }
+}
+
+// The group of a name given as bytes, of two groups of one name the later one.
+pub fn group_named(groups: &[[u64; 37]], count: usize, name: &[u8]) -> Named
+    ensures { λ r. ⌜ r ≡ groupNamed (now (groups .entry)) (now (name .entry)) count ⌝ }
+{
+    let mut g = count;
+    while 0 < g {
+        g -= 1;
+        let found = has_name(groups, g, name);
+        if found {
+            return Named::Group(g);
+        }
+    }
+    Named::Nothing
+}
+
+// Whether the program of a name is loaded: the group that gets the messages of this name may have an actor.
+pub fn loaded(groups: &[[u64; 37]], count: usize, name: &[u8]) -> bool
+    ensures { λ r. ⌜ r ≡ loadedIn (now (groups .entry)) (now (name .entry)) count ⌝ }
+{
+    let named = group_named(groups, count, name);
+    match named {
+        Named::Group(g) => {
+            let ceiling = cell_at(groups, g, 0);
+            0 < ceiling
+        }
+        Named::Nothing => false,
+    }
 }

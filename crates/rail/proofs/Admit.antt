@@ -33,6 +33,7 @@ use Rattle.steps.specs.declared.fixed.FixedAsk.the-variants as fixed
 use Rattle.steps.specs.Steps.{HAND}
 use Rattle.group.specs.declared.at.At.{At}
 use Rattle.group.specs.declared.at.At.the-variants as at
+use Rattle.group.specs.Settings.{loadedIn}
 use Rattle.setup.specs.Entry.{Kept, newRow, keepAt, keepFound, keepOf}
 use Rattle.places.specs.Places.{Sound, Desk, Comes}
 use Rattle.places.proofs.Moves.{desk-inbox, comes}
@@ -48,38 +49,12 @@ use Rattle.front.specs.declared.state.Check.{Check}
 use Rattle.front.specs.declared.state.Check.the-variants as check
 use Rattle.front.specs.State.{lengthCheck, logRefusal, withDisk, shown}
 use Rattle.door.specs.Admit as one
-use Rattle.door.specs.Admit.{INBOX, roomCheck}
+use Rattle.door.specs.Admit.{INBOX}
+use Rattle.door.proofs.Checks.{fine-check}
 use Rattle.rail.specs.Rail.{Call, admit, State, didAdmit, callOf, World, walOf, orderedFor, ordersIn, ofRecord}
 use Rattle.rail.proofs.Invariant.{Agrees, Ledger, Working, workIn, Steady}
 use Rattle.rail.proofs.Ids.{count-snoc, now-count}
 use Rattle.rail.proofs.After.{orderOf, Ends, turned, took, rest-steady, call-sound, shown-rule}
-
--- ---- the checks
-
--- a name and a body that pass fit
-fine-lengths : (n m : ℕ) → lengthCheck n m ≡ check.Fine → (n ≤ 32) × (m ≤ 128)
-unfolding lengthCheck
-fine-lengths n m fine = go (ltb 32 n) refl (ltb 128 m) refl
-  where
-    go : (a : Bool) → ltb 32 n ≡ a → (b : Bool) → ltb 128 m ≡ b → (n ≤ 32) × (m ≤ 128)
-    go true e b f = let z : _≡_ {A = ℕ} 0 1 = cc in absurd (omega arith)
-    go false e true f = let z : _≡_ {A = ℕ} 0 1 = cc in absurd (omega arith)
-    go false e false f = (ltb-false 32 n e, ltb-false 128 m f)
-
--- and there is an entry for it
-fine-room : (p : Pool) (t : Table) (c : Check) → roomCheck p t c ≡ check.Fine → (c ≡ check.Fine)
-    × (eqb (lenOf t FREE) 0 ≡ false)
-fine-room p t (check.Refuse r) fine = let z : _≡_ {A = ℕ} 0 1 = cc in absurd (omega arith)
-fine-room p t check.Fine fine = go (leb (p .limits .inbox) (lenOf t INBOX)) refl (p .closed) refl
-    (eqb (lenOf t FREE) 0) refl
-  where
-    go : (a : Bool) → leb (p .limits .inbox) (lenOf t INBOX) ≡ a → (b : Bool) → p .closed ≡ b → (c : Bool)
-        → eqb (lenOf t FREE) 0 ≡ c
-        → (_≡_ {A = Check} check.Fine check.Fine) × (eqb (lenOf t FREE) 0 ≡ false)
-    go true e b f c g = let z : _≡_ {A = ℕ} 0 1 = cc in absurd (omega arith)
-    go false e true f c g = let z : _≡_ {A = ℕ} 0 1 = cc in absurd (omega arith)
-    go false e false f true g = let z : _≡_ {A = ℕ} 0 1 = cc in absurd (omega arith)
-    go false e false f false g = (refl, g)
 
 -- ---- a message comes
 
@@ -380,21 +355,24 @@ module _ (long : ℕ) (limits : Limits) (w : World) (steady : Steady long limits
       fit-ends caller.Nobody = logged-ends
 
   module _ (who : Caller) where
-    checked-ends : p .turn .disk ≡ order.Free → (k : Check) → one.admitCheck p (s .links) (length name) (length body)
-        ≡ k
+    abbrev isLoaded : Bool
+    isLoaded = loadedIn (s .groups) name (p .limits .groups)
+
+    checked-ends : p .turn .disk ≡ order.Free → (k : Check)
+        → one.admitCheck p (s .links) isLoaded (length name) (length body) ≡ k
         → Ends long limits w (admit name body who) (didAdmit s (one.admitChecked p (s .bytes) (s .records) (s .store)
         (s .links) (s .rows) name body who k))
-    unfolding one.admitCheck
     checked-ends free (check.Refuse r) is = turned r refl
     checked-ends free check.Fine is =
-        let fine = fine-room p (s .links) (lengthCheck (length name) (length body)) is in
-        fit-ends free (fine .1) (fine-lengths (length name) (length body) (fine .0)) who
+        let fine = fine-check p (s .links) isLoaded (length name) (length body) is in
+        fit-ends free (fine .room) (fine .short-name, fine .short-body) who
 
     in-ends : (q : Disk) → p .turn .disk ≡ q
         → Ends long limits w (admit name body who) (didAdmit s (one.admitIn p (s .bytes) (s .records) (s .store)
-        (s .links) (s .rows) name body who q))
+        (s .groups) (s .links) (s .rows) name body who q))
     unfolding one.admitFree
-    in-ends order.Free is = checked-ends is (one.admitCheck p (s .links) (length name) (length body)) refl
+    in-ends order.Free is =
+        checked-ends is (one.admitCheck p (s .links) isLoaded (length name) (length body)) refl
     in-ends (order.Waits o for) is = turned refusal.OrderWaits refl
     in-ends order.Failed is = turned refusal.StoreFailed refl
 

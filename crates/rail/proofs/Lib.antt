@@ -10,6 +10,7 @@ pub mod Replies
 pub mod Shown
 pub mod Refused
 pub mod Calls
+pub mod Loaded
 pub mod Opened
 pub mod Opening
 pub mod Instance

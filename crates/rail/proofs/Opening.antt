@@ -23,6 +23,7 @@ use Rattle.log.specs.Recovery as disk
 use Rattle.log.specs.Stands.{Stands}
 use Rattle.log.proofs.OpeningLaws.{and-right, judge-opened, readLines-in-order}
 use Rattle.log.proofs.TabledLaws.{small-few}
+use Rattle.log.proofs.StoreLaws.{stored-long}
 use Rattle.log.proofs.OpenLaws.{Sized, sized-all, sized-true, open-accepts, opened-stands}
 use Rattle.log.proofs.Recovery.{open-tail}
 use Rattle.log.proofs.RecoveryLaws.{ReadBack, sound-reads}
@@ -157,6 +158,14 @@ module _ (l : Lent) (t : Taken l) where
 
   pub hands-back : handedBack (opens l) ≡ left
   hands-back = ap handedBack (opens-as l t) ∙ given-back .back
+
+  -- the body store is as long as it was lent
+  pub opens-long : length (opens l .store) ≡ 40960
+  opens-long =
+      ap (λ (o : PoolOpened). length (o .store)) (opens-as l t)
+      ∙ (stored-long left 0 (l .store) (and-right (leb (length left) 256) (allFit left) (stands .small))
+      (omega (arith, lent .store-is, small-few left (stands .small)))
+      ∙ lent .store-is)
 
   -- its order is a replace
   pub opens-replacing : orderIn (opens l .told .answer) ≡ shows (Replace (length (image left)))

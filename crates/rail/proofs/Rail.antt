@@ -1,6 +1,6 @@
 -- THE THEOREM OF THE WHOLE RAIL, and what holds of every call of every list (statements: specs/Rail.antt).
 -- Assumes nothing.
-use mathlib.Core.Path.{_≡_, refl}
+use mathlib.Core.Path.{_≡_, refl, _∙_}
 use mathlib.Core.Logic.{_⊎_, inl, inr}
 use mathlib.Core.Bool.{Bool, true, false}
 use Prim.Native.Nat.{ℕ, _+_, _*_, _≤_, _<_}
@@ -18,12 +18,13 @@ use Rattle.lists.proofs.Family.{length-view}
 use Rattle.keeping.specs.Living.{given, Lives}
 use Rattle.keeping.proofs.LivingTurn.{few-hand}
 use Rattle.rail.specs.Rail.{Call, World, Lent, Accepts, opens, fileIn, begin, after, mailboxAt, handAt, Living}
-use Rattle.rail.specs.Rail.{Reopens, Holds, WholeRail, TailsKept, RefusedSame, OrdersFit}
+use Rattle.rail.specs.Rail.{Reopens, Holds, WholeRail, TailsKept, RefusedSame, OrdersFit, AdmitsLoaded}
 use Rattle.rail.proofs.Invariant.{Steady}
 use Rattle.rail.proofs.Calls.{run-steady, size-is, tail-kept, order-fits}
 use Rattle.rail.proofs.Refused.{refused-stays}
 use Rattle.rail.proofs.Opened.{accepted-taken, refused-untouched}
-use Rattle.rail.proofs.Opening.{limitsOf, opens-replacing, opens-tail, open-steady, reopens}
+use Rattle.rail.proofs.Opening.{limitsOf, opens-long, opens-replacing, opens-tail, open-steady, reopens}
+use Rattle.rail.proofs.Loaded.{run-long, admit-comes}
 
 -- an id that was logged is done and nowhere, or stands once
 placed-by : (n d l s : ℕ) → n + d ≡ l → l ≤ 1 → s ≡ n → 0 < l → ((0 < d) × (s ≡ 0)) ⊎ ((d ≡ 0) × (s ≡ 1))
@@ -113,3 +114,9 @@ orders-fit = record {
   calls = λ l ok before c.
       order-fits (length (l .bytes)) (limitsOf l) (after l before) c (after-steady l ok before);
 }
+
+pub admits-loaded : AdmitsLoaded
+admits-loaded l ok before name body who =
+    admit-comes (after l before .state) (after l before .state .pool .turn .counts .queued)
+    (after-steady l ok before .works .sound)
+    (run-long before (begin (opens l) (l .actors) (fileIn l)) ∙ opens-long l (accepted-taken l ok)) name body who

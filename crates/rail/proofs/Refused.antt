@@ -15,6 +15,7 @@ use Rattle.actor.specs.declared.question.Asked.{Asked}
 use Rattle.actor.specs.declared.question.Asked.the-variants as asked
 use Rattle.actor.specs.declared.question.Reply.{Reply}
 use Rattle.actor.specs.Questions.{fitsOf}
+use Rattle.group.specs.Settings.{loadedIn}
 use Rattle.places.proofs.Steps.{pick-rule}
 use Rattle.turn.specs.declared.state.Disk.{Disk}
 use Rattle.turn.specs.declared.state.Disk.the-variants as order
@@ -90,9 +91,13 @@ module _ (s : State) where
     checked-stays who check.Fine = fit-stays who
 
     admit-stays : (who : Caller) (d : Disk)
-        → Stays (didAdmit s (door.admitIn p (s .bytes) (s .records) (s .store) (s .links) (s .rows) name body who d))
+        → Stays
+        (didAdmit s
+        (door.admitIn p (s .bytes) (s .records) (s .store) (s .groups) (s .links) (s .rows) name body who d))
     unfolding door.admitFree
-    admit-stays who order.Free = checked-stays who (door.admitCheck p (s .links) (length name) (length body))
+    admit-stays who order.Free =
+        checked-stays who
+        (door.admitCheck p (s .links) (loadedIn (s .groups) name (p .limits .groups)) (length name) (length body))
     admit-stays who (order.Waits o for) = same-stays _
     admit-stays who order.Failed = same-stays _
 

@@ -50,6 +50,7 @@ use Rattle.steps.specs.declared.eval.EvalAsk.the-variants as eval
 use Rattle.steps.specs.StepFixed.{fixedAsks}
 use Rattle.steps.specs.StepEval.{askTell, evalAsks}
 use Rattle.group.specs.At.{whoOf}
+use Rattle.group.specs.Settings.{loadedIn}
 use Rattle.rail.proofs.After.{orderOf}
 use Rattle.rail.specs.Rail.{nothing, orderOpen, orderIn, accepted, State, Call, admit, turn, reply, sync, close}
 use Rattle.rail.specs.Rail.{Did, callOf}
@@ -228,10 +229,11 @@ module _ (p : Pool) (bytes : List ℕ) (records : Table) (store : List ℕ) (gro
   checked-shows name body who check.Fine = fit-shows name body who
 
   admit-in-shows : (name body : List ℕ) (who : Caller) (d : Disk)
-      → Shows (door.admitIn p bytes records store t rows name body who d .told)
+      → Shows (door.admitIn p bytes records store groups t rows name body who d .told)
   unfolding door.admitFree
-  admit-in-shows name body who order.Free = checked-shows name body who (door.admitCheck p t (length name)
-      (length body))
+  admit-in-shows name body who order.Free =
+      checked-shows name body who
+      (door.admitCheck p t (loadedIn groups name (p .limits .groups)) (length name) (length body))
   admit-in-shows name body who (order.Waits o w) = refused-shows _ _
   admit-in-shows name body who order.Failed = refused-shows _ _
 

@@ -39,6 +39,7 @@ use Rattle.pool.specs.declared.calls.StoredIn.{StoredIn}
 use Rattle.pool.specs.declared.calls.StoredIn.the-variants as stored
 use Rattle.door.specs.Open.{PoolOpened, openOf}
 use Rattle.door.specs.Admit.{Admitted, admitOf}
+use Rattle.door.specs.Loaded.{LoadedAt}
 use Rattle.pool.specs.Run.{Ran}
 use Rattle.pool.specs.Calls.{Replied, turnOf, storedIn, replyOf, syncOf, closeOf}
 
@@ -138,7 +139,7 @@ didTell s t = record {
 unfoldable pub callOf : State → Call → Did
 callOf s (admit name body who) =
     didAdmit s
-    (admitOf (s .pool) (s .bytes) (s .records) (s .store) (s .links) (s .rows) name body who)
+    (admitOf (s .pool) (s .bytes) (s .records) (s .store) (s .groups) (s .links) (s .rows) name body who)
 callOf s turn =
     didRun s
     (turnOf (s .pool) (s .bytes) (s .records) (s .store) (s .groups) (s .links) (s .rows) (s .keys) (s .actors))
@@ -549,3 +550,17 @@ CallOrderFits w c =
 pub record OrdersFit : Type 0 where
   pub openings : (l : Lent) → Accepts l → (size : ℕ) × (orderIn (opens l .told .answer) ≡ shows (Replace size))
   pub calls : EveryCall CallOrderFits
+
+-- Whom an accepted admission is for. Its message comes to the inbox's end, and its program is loaded: the group that
+-- routing finds for it may have an actor. So the rule that a message without a group, or for a group with ceiling 0, is
+-- over in the next turn is left for messages that were handed back or sent (docs/RULES.md, 6).
+pub record ComesLoaded (s s′ : State) : Type 0 where
+  pub entry : ℕ
+  pub last : view (s′ .links) 1 ≡ view (s .links) 1 ++ (entry ∷ [])
+  pub loaded : LoadedAt (s′ .groups) (s′ .pool .limits .groups) (s′ .store) (s′ .rows) entry
+
+abbrev pub AdmitsLoaded : Type 0
+AdmitsLoaded =
+    (l : Lent) → Accepts l → (before : List Call) (name body : List ℕ) (who : Caller)
+    → accepted (callOf (after l before .state) (admit name body who) .answer) ≡ true
+    → ComesLoaded (after l before .state) (callOf (after l before .state) (admit name body who) .state)

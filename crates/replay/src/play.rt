@@ -76,6 +76,7 @@ fn step(
             log,
             records,
             store,
+            groups,
             links,
             rows,
             &script[from..mid],

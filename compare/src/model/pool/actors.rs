@@ -5,6 +5,14 @@ use crate::met;
 use crate::model::log::{CallerId, LogId};
 use std::collections::VecDeque;
 
+/// Where a message came from.
+#[derive(Clone, Copy, PartialEq, Eq, Debug)]
+pub enum Source {
+    Admitted,
+    HandedBack,
+    Sent,
+}
+
 #[derive(Clone, PartialEq, Eq, Debug)]
 pub struct Message {
     pub name_len: usize,
@@ -12,6 +20,8 @@ pub struct Message {
     pub attempts: u64,
     pub caller: Option<CallerId>,
     pub id: Option<LogId>,
+    /// For the named points alone.
+    pub source: Source,
 }
 
 /// An eval run between or inside steps.

@@ -1,5 +1,5 @@
 //! The calls: what refuses them, and what each does before a turn runs on.
-use super::{Answer, At, CLOCK_MAX, Call, Event, Pool, Question, Reply};
+use super::{Answer, At, CLOCK_MAX, Call, Event, Pool, Question, Reply, Source};
 use crate::limits::{BODY_MAX, MESSAGES, NAME_MAX, refusal};
 use crate::met;
 use crate::model::log::{self, CallerId, LogId, Order};
@@ -33,6 +33,7 @@ impl Pool {
             Call::Reply(reply) if !self.fits(reply) => Some(refusal::REPLY),
             Call::Reply(Reply::Send(name, body)) => too_long(name, body).or(self.too_many()),
             Call::Admit { name, body, caller } => too_long(name, body)
+                .or((!self.settings.loaded(name)).then_some(refusal::UNLOADED))
                 .or((self.inbox.len() >= self.settings.inbox).then_some(refusal::INBOX))
                 .or(self.closed.then_some(refusal::CLOSED))
                 .or(self.too_many())
@@ -116,7 +117,7 @@ impl Pool {
         } else {
             met!("admit: a caller waits, not logged");
         }
-        let e = self.keep(name, body, caller, id);
+        let e = self.keep(name, body, Source::Admitted, caller, id);
         self.inbox.push_back(e);
         Answer::Open(self.open_question())
     }
@@ -231,6 +232,10 @@ impl Pool {
         match (number, call) {
             (refusal::TEXT, Call::Admit { .. }) => met!("refused 5: admit"),
             (refusal::TEXT, _) => met!("refused 5: Sends"),
+            (refusal::UNLOADED, Call::Admit { name, .. }) => match self.settings.group_of(name) {
+                None => met!("refused 17: no such group"),
+                Some(_) => met!("refused 17: ceiling 0"),
+            },
             (refusal::INBOX, _) => met!("refused 6"),
             (refusal::CLOSED, _) => met!("refused 7"),
             (refusal::MESSAGES, Call::Admit { .. }) => met!("refused 8: admit"),

@@ -18,7 +18,7 @@ mod ticking;
 mod turn;
 
 pub use crate::limits::{CLOCK_MAX, KEYS, STORE, STORE_ENTRY as ENTRY};
-pub use actors::{Actor, EvalRun, Group, KeyList, Message, Slab};
+pub use actors::{Actor, EvalRun, Group, KeyList, Message, Slab, Source};
 pub use at::{At, Cursor, Event, Step};
 pub use eval::deadline;
 pub use places::Place;
@@ -102,7 +102,7 @@ pub fn open(settings: &Settings, log: &[u8], n: usize, store: &[u8]) -> Result<P
     };
     for message in &reading.left {
         met!("opening: a message left");
-        let e = pool.keep(&message.name, &message.body, None, Some(message.id));
+        let e = pool.keep(&message.name, &message.body, Source::HandedBack, None, Some(message.id));
         pool.pending.push_back(e);
     }
     Ok(pool)
@@ -131,11 +131,18 @@ impl Pool {
     }
 
     /// Takes a free entry (which one is free; here the first).
-    fn keep(&mut self, name: &[u8], body: &[u8], caller: Option<CallerId>, id: Option<LogId>) -> Entry {
+    fn keep(
+        &mut self,
+        name: &[u8],
+        body: &[u8],
+        source: Source,
+        caller: Option<CallerId>,
+        id: Option<LogId>,
+    ) -> Entry {
         let e = self.table.iter().position(|message| message.is_none()).unwrap();
         self.store[e * ENTRY..][..name.len()].copy_from_slice(name);
         self.store[e * ENTRY + STORE_BODY..][..body.len()].copy_from_slice(body);
-        self.table[e] = Some(Message { name_len: name.len(), body_len: body.len(), attempts: 0, caller, id });
+        self.table[e] = Some(Message { name_len: name.len(), body_len: body.len(), attempts: 0, caller, id, source });
         e
     }
 

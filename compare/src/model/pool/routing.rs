@@ -1,5 +1,5 @@
 //! Seeding, intake and routing: the part of a turn before its tick.
-use super::{Actor, At, Event, Key, Pool};
+use super::{Actor, At, Event, Key, Pool, Source};
 use crate::met;
 
 impl Pool {
@@ -55,7 +55,7 @@ impl Pool {
     pub(super) fn route(&mut self) -> At {
         let Some(&e) = self.batch.front() else { return At::TickClock };
         let Some(g) = self.settings.group_of(self.name(e)) else {
-            met!("route: no such group");
+            met_no_such_group(self.message(e).source);
             return self.undeliverable();
         };
         if (0..g).any(|earlier| self.settings.groups[earlier].name == self.name(e)) {
@@ -77,7 +77,7 @@ impl Pool {
         let key = self.least_loaded(g);
         match key {
             Some(_) => met!("route: the least loaded"),
-            None => met!("route: ceiling 0, nobody there"),
+            None => met_ceiling_0(self.message(e).source),
         }
         self.deliver(g, key)
     }
@@ -128,5 +128,23 @@ impl Pool {
         let e = self.batch.pop_front().unwrap();
         self.is_over(e);
         At::Route
+    }
+}
+
+/// Admit turns a name away that no group has, so only these two others can have one.
+fn met_no_such_group(source: Source) {
+    match source {
+        Source::HandedBack => met!("route: no such group, handed back"),
+        Source::Sent => met!("route: no such group, sent"),
+        Source::Admitted => met!("route: no such group, admitted"),
+    }
+}
+
+/// The same of a group with ceiling 0.
+fn met_ceiling_0(source: Source) {
+    match source {
+        Source::HandedBack => met!("route: ceiling 0, handed back"),
+        Source::Sent => met!("route: ceiling 0, sent"),
+        Source::Admitted => met!("route: ceiling 0, admitted"),
     }
 }

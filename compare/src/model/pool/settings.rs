@@ -42,6 +42,11 @@ impl Settings {
     pub fn group_of(&self, name: &[u8]) -> Option<usize> {
         (0..self.groups.len()).rev().find(|&g| self.groups[g].name == name)
     }
+
+    /// Whether a name means a group that may have an actor.
+    pub fn loaded(&self, name: &[u8]) -> bool {
+        self.group_of(name).is_some_and(|g| self.ceiling(g) > 0)
+    }
 }
 
 impl GroupSetting {

@@ -1,5 +1,5 @@
 //! A turn from point to point: what runs on by itself, the marks, and where a reply leads.
-use super::{Answer, At, EvalRun, Event, Key, Outcome, Pool, Reply, Status, Step, deadline};
+use super::{Answer, At, EvalRun, Event, Key, Outcome, Pool, Reply, Source, Status, Step, deadline};
 use crate::met;
 use crate::model::log::{self, Order};
 use std::collections::VecDeque;
@@ -194,7 +194,7 @@ impl Pool {
                     Step::Failed => met!("Sends: a message of a failed step"),
                     _ => met!("Sends: a message"),
                 }
-                let e = self.keep(name, body, None, None);
+                let e = self.keep(name, body, Source::Sent, None, None);
                 self.pending.push_back(e);
                 At::Sends { c, step }
             }

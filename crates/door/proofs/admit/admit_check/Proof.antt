@@ -1,6 +1,6 @@
--- `admit::admit_check` meets its contract: by the lengths, the room in the inbox, whether it is closed and whether an entry is free. Assumes nothing.
+-- `admit::admit_check` meets its contract: by the lengths, whether the program is loaded, the room in the inbox, whether it is closed and whether an entry is free. Assumes nothing.
 use Rattle.door.specs.Admit.{admitCheck}
-use borrow.Author.Tests.{eq-eqb, le-leb, lt-leb, ne-eqb}
+use borrow.Author.Tests.{eq-eqb, le-leb, lt-leb, ne-eqb, not-false, not-true}
 use borrow.Author.Needs.{needs}
 use Rattle.door.proofs.admit.admit_check.Statement.{statement}
 use Rattle.door.proofs.admit.admit_check.Tie as tie
@@ -24,40 +24,51 @@ returns : tie.Need-returns
 unfolding admitCheck
 returns c =
     let short = simp (c .before .before .before .before .before .length-check .ensures) at (c .before .before .before .enum-told .given .1) in
-    let full = simp (c .before .before .length-of .ensures) at (le-leb _ _ (c .if1 .taken)) in
-    simp (short, full)
+    let not-loaded = not-true (c .before .before .before .before .before .before .args .loaded) (c .if1 .taken) in
+    simp (short, not-loaded)
 
 returns-2 : tie.Need-returns-2
 unfolding admitCheck
 returns-2 c =
     let short = simp (c .before .before .before .before .before .before .length-check .ensures) at (c .before .before .before .before .enum-told .given .1) in
-    let room = simp (c .before .before .before .length-of .ensures) at (lt-leb _ _ (c .before .if1 .left)) in
-    let closed = c .if2 .taken in
-    simp (short, room, closed)
+    let loaded = not-false (c .before .before .before .before .before .before .before .args .loaded) (c .before .if1 .left) in
+    let full = simp (c .before .before .before .length-of .ensures) at (le-leb _ _ (c .if2 .taken)) in
+    simp (short, loaded, full)
 
 returns-3 : tie.Need-returns-3
 unfolding admitCheck
 returns-3 c =
     let short = simp (c .before .before .before .before .before .before .before .length-check .ensures) at (c .before .before .before .before .before .enum-told .given .1) in
-    let room = simp (c .before .before .before .before .length-of .ensures) at (lt-leb _ _ (c .before .before .if1 .left)) in
-    let not-closed = c .before .if2 .left in
-    let none-free = simp (c .before .before .before .length-of2 .ensures) at (eq-eqb _ _ (c .if3 .taken)) in
-    simp (short, room, not-closed, none-free)
+    let loaded = not-false (c .before .before .before .before .before .before .before .before .args .loaded) (c .before .before .if1 .left) in
+    let room = simp (c .before .before .before .before .length-of .ensures) at (lt-leb _ _ (c .before .if2 .left)) in
+    let closed = c .if3 .taken in
+    simp (short, loaded, room, closed)
 
 returns-4 : tie.Need-returns-4
 unfolding admitCheck
 returns-4 c =
-    let long = simp (c .before .before .before .length-check .ensures) at (c .before .long .given .1) in
-    simp (long)
+    let short = simp (c .before .before .before .before .before .before .before .before .length-check .ensures) at (c .before .before .before .before .before .before .enum-told .given .1) in
+    let loaded = not-false (c .before .before .before .before .before .before .before .before .before .args .loaded) (c .before .before .before .if1 .left) in
+    let room = simp (c .before .before .before .before .before .length-of .ensures) at (lt-leb _ _ (c .before .before .if2 .left)) in
+    let not-closed = c .before .if3 .left in
+    let none-free = simp (c .before .before .before .before .length-of2 .ensures) at (eq-eqb _ _ (c .if4 .taken)) in
+    simp (short, loaded, room, not-closed, none-free)
 
 returns-5 : tie.Need-returns-5
 unfolding admitCheck
 returns-5 c =
-    let short = simp (c .before .before .before .before .before .before .before .length-check .ensures) at (c .before .before .before .before .before .enum-told .given .1) in
-    let room = simp (c .before .before .before .before .length-of .ensures) at (lt-leb _ _ (c .before .before .if1 .left)) in
-    let not-closed = c .before .if2 .left in
-    let free = simp (c .before .before .before .length-of2 .ensures) at (ne-eqb _ _ (c .if3 .left)) in
-    simp (short, room, not-closed, free)
+    let long = simp (c .before .before .before .length-check .ensures) at (c .before .long .given .1) in
+    simp (long)
+
+returns-6 : tie.Need-returns-6
+unfolding admitCheck
+returns-6 c =
+    let short = simp (c .before .before .before .before .before .before .before .before .length-check .ensures) at (c .before .before .before .before .before .before .enum-told .given .1) in
+    let loaded = not-false (c .before .before .before .before .before .before .before .before .before .args .loaded) (c .before .before .before .if1 .left) in
+    let room = simp (c .before .before .before .before .before .length-of .ensures) at (lt-leb _ _ (c .before .before .if2 .left)) in
+    let not-closed = c .before .if3 .left in
+    let free = simp (c .before .before .before .before .length-of2 .ensures) at (ne-eqb _ _ (c .if4 .left)) in
+    simp (short, loaded, room, not-closed, free)
 
 pub admit-check-spec : {M : Type 1} → statement M
 admit-check-spec =
@@ -72,4 +83,5 @@ admit-check-spec =
     returns-2
     returns-3
     returns-4
-    returns-5)
+    returns-5
+    returns-6)

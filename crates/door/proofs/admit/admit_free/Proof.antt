@@ -1,8 +1,11 @@
--- `admit::admit_free` meets its contract: by what the check says. Assumes nothing.
+-- `admit::admit_free` meets its contract: by whether the program is loaded, and what the check says. Assumes nothing.
 use borrow.Author.Needs.{needs}
 use Rattle.door.specs.Admit.{admitFree}
 use Rattle.door.proofs.admit.admit_free.Statement.{statement}
 use Rattle.door.proofs.admit.admit_free.Tie as tie
+
+loaded-requires : tie.Need-loaded-requires
+loaded-requires c κs = search needs
 
 admit-check-requires : tie.Need-admit-check-requires
 admit-check-requires c κs = search needs
@@ -25,7 +28,7 @@ same-length c = search needs
 returns : tie.Need-returns
 unfolding admitFree
 returns c =
-    let check = simp (c .before .before .before .before .admit-check .ensures) at (c .before .before .check .given .1) in
+    let check = simp (c .before .before .before .before .admit-check .ensures, c .before .before .before .before .before .before .loaded .ensures) at (c .before .before .check .given .1) in
     let told = c .refused .ensures in
     simp (told, check)
 
@@ -47,13 +50,14 @@ same-length-6 c = search needs
 returns-2 : tie.Need-returns-2
 unfolding admitFree
 returns-2 c =
-    let check = simp (c .before .before .before .before .before .before .before .before .before .before .before .before .before .before .before .admit-check .ensures) at (c .before .before .before .before .before .before .before .before .before .before .before .before .before .enum-told .given .1) in
+    let check = simp (c .before .before .before .before .before .before .before .before .before .before .before .before .before .before .before .admit-check .ensures, c .before .before .before .before .before .before .before .before .before .before .before .before .before .before .before .before .before .loaded .ensures) at (c .before .before .before .before .before .before .before .before .before .before .before .before .before .enum-told .given .1) in
     simp (check) (c .before .before .before .before .before .before .before .admit-fit .ensures)
 
 pub admit-free-spec : {M : Type 1} → statement M
 admit-free-spec =
     tie.close
     (tie.spec
+    loaded-requires
     admit-check-requires
     enum-known-check
     refused-requires

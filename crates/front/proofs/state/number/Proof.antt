@@ -45,6 +45,9 @@ enum-told-13 c = search needs
 enum-told-14 : tie.Need-enum-told-14
 enum-told-14 c = search needs
 
+enum-told-15 : tie.Need-enum-told-15
+enum-told-15 c = search needs
+
 returns : tie.Need-returns
 returns c = search needs
 
@@ -87,6 +90,9 @@ returns-13 c = search needs
 returns-14 : tie.Need-returns-14
 returns-14 c = search needs
 
+returns-15 : tie.Need-returns-15
+returns-15 c = search needs
+
 pub number-spec : {M : Type 1} → statement M
 number-spec =
     tie.close
@@ -105,6 +111,7 @@ number-spec =
     enum-told-12
     enum-told-13
     enum-told-14
+    enum-told-15
     returns
     returns-2
     returns-3
@@ -118,4 +125,5 @@ number-spec =
     returns-11
     returns-12
     returns-13
-    returns-14)
+    returns-14
+    returns-15)

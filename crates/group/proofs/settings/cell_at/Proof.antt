@@ -5,17 +5,20 @@ use borrow.Author.Needs.{needs}
 use Rattle.group.proofs.settings.cell_at.Statement.{statement}
 use Rattle.group.proofs.settings.cell_at.Tie as tie
 
-mul-c : tie.Need-mul-c
-mul-c c = search needs
+mul-result : tie.Need-mul-result
+mul-result c = search needs
 
-shared-slice-copy-out-c : tie.Need-shared-slice-copy-out-c
-shared-slice-copy-out-c c = search needs
+mul-result-2 : tie.Need-mul-result-2
+mul-result-2 c = search needs
 
-cell-of-requires : tie.Need-cell-of-requires
-cell-of-requires c κs = search needs
+index-1-result : tie.Need-index-1-result
+index-1-result c = search needs
+
+index-2-result : tie.Need-index-2-result
+index-2-result c = search needs
 
 returns : tie.Need-returns
-returns c = c .cell-of .ensures
+returns c = search needs
 
 returns-2 : tie.Need-returns-2
 returns-2 c =
@@ -24,4 +27,4 @@ returns-2 c =
 
 pub cell-at-spec : {M : Type 1} → statement M
 cell-at-spec =
-    tie.close (tie.spec mul-c shared-slice-copy-out-c cell-of-requires returns returns-2)
+    tie.close (tie.spec mul-result mul-result-2 index-1-result index-2-result returns returns-2)

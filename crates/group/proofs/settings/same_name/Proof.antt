@@ -12,7 +12,7 @@ use Rattle.group.proofs.settings.same_name.Statement.{statement}
 use Rattle.group.proofs.settings.same_name.Tie as tie
 
 abbrev Inv-loop : tie.InvT-loop
-Inv-loop groups g store from n i₀ i = (i ≤ n) × (from < 65536) × (n < 65536) × (agrees (getD groups g []) store from 0 n ≡ agrees (getD groups g []) store from i (n - i))
+Inv-loop groups g store from n i₀ i = (i ≤ n) × (from < 65536) × (n ≤ 32) × (agrees (getD groups g []) store from 0 n ≡ agrees (getD groups g []) store from i (n - i))
 
 abbrev μ-loop : tie.MeasureT-loop
 μ-loop groups g store from n i₀ i = n - i

@@ -81,10 +81,10 @@ same-length-3 : tie.Need-same-length-3
 same-length-3 c = c .before .before .before .before .before .before .before .admit .kept .1 .1 .1 .0
 
 same-length-4 : tie.Need-same-length-4
-same-length-4 c = c .before .before .before .before .before .before .before .admit .kept .1 .1 .1 .1 .0
+same-length-4 c = c .before .before .before .before .before .before .before .admit .kept .1 .1 .1 .1 .1 .0
 
 same-length-5 : tie.Need-same-length-5
-same-length-5 c = c .before .before .before .before .before .before .before .admit .kept .1 .1 .1 .1 .1 .0
+same-length-5 c = c .before .before .before .before .before .before .before .admit .kept .1 .1 .1 .1 .1 .1 .0
 
 returns : tie.Need-returns
 unfolding callOf

@@ -1,0 +1,209 @@
+-- Admission and routing mean one group: the group of a name given as bytes is the one that is found for the name in the
+-- entry of the body store where it was written. So a message that is kept for a loaded program is routed to it, and one
+-- that is refused with 17 would have been routed to no group that may have an actor. Assumes nothing.
+use mathlib.Core.Path.{_≡_, refl, sym, ap, _∙_}
+use mathlib.Core.Bool.{Bool, true, false}
+use mathlib.Core.List.{List, []}
+use Prim.Native.Nat.{ℕ, zero, suc, _+_, _-_, _*_, _≤_, _<_}
+use native.Mathlib.Omega.{arith}
+use lib.Dec.{leb}
+use lib.ListN.{length, take, drop, getD}
+use lib.Seq.{getD-take, getD-drop}
+use borrow.Author.Tests.{leb-true, ltb-true, le-leb, lt-leb, lt-ltb}
+use Rattle.text.specs.Bytes.{write, part}
+use Rattle.text.proofs.WriteLaws.{part-below, part-written}
+use Rattle.lists.specs.declared.Found.the-variants.{Entry}
+use Rattle.lists.specs.Links.{pick, Table, FREE, firstOf}
+use Rattle.log.specs.declared.Refusal as why
+use Rattle.log.specs.declared.Refusal.the-variants as log-refusal
+use Rattle.log.specs.declared.Answer as of-log
+use Rattle.log.specs.declared.Answer.the-variants as logged
+use Rattle.log.specs.Log as log
+use Rattle.log.specs.Log.{state, appendOf}
+use Rattle.actor.specs.declared.message.Caller.{Caller}
+use Rattle.actor.specs.declared.message.Caller.the-variants as caller
+use Rattle.actor.specs.declared.message.Logged.{Logged}
+use Rattle.actor.proofs.Back.{message-put}
+use Rattle.group.specs.declared.settings.Named.{Named}
+use Rattle.group.specs.declared.settings.Named.the-variants as found
+use Rattle.group.specs.Settings.{groupAt, agrees, named, groupFor, hasName, groupNamed, mayRun, loadedIn}
+use Rattle.setup.specs.Entry.{putBytes, storeEntry, newRow, keepAt, keepOf}
+use Rattle.turn.specs.declared.state.Disk.{Disk}
+use Rattle.turn.specs.declared.state.Disk.the-variants as disk
+use Rattle.front.specs.declared.state.Pool.{Pool}
+use Rattle.front.specs.declared.state.Answer.the-variants.{Refused}
+use Rattle.front.specs.declared.state.Refusal.the-variants as refusal
+use Rattle.front.specs.declared.state.Check.{Check}
+use Rattle.front.specs.declared.state.Check.the-variants as check
+use Rattle.front.specs.State.{logRefusal, shown}
+use Rattle.door.specs.Admit.{Admitted, admitCheck, loggedBy, admitLogged, admitFit, admitChecked, admitFree}
+use Rattle.door.specs.Admit.{admitIn, admitOf}
+use Rattle.door.specs.Loaded.{OneGroup, Routes, LoadedAt, RefusedUnloaded}
+use Rattle.door.proofs.Checks.{Unloaded, unloaded-check}
+
+never : false ≡ true → ⊥
+never e = let z : _≡_ {A = ℕ} 0 1 = cc in omega arith
+
+-- ---- a name in the store
+
+-- bytes that are put leave those before them
+put-below : (store : List ℕ) (at a b : ℕ) (bytes : List ℕ) → a ≤ b → b ≤ at
+    → part (putBytes store at bytes) a b ≡ part store a b
+unfolding putBytes
+put-below store at a b bytes forward low = go (leb (at + length bytes) (length store)) refl
+  where
+    go : (t : Bool) → leb (at + length bytes) (length store) ≡ t
+        → part (pick t (write store at bytes) store) a b ≡ part store a b
+    go true fits = part-below store at a b bytes forward low (leb-true (at + length bytes) (length store) fits)
+    go false none = refl
+
+-- bytes that are put where they fit stand there
+put-there : (store : List ℕ) (at : ℕ) (bytes : List ℕ) → at + length bytes ≤ length store
+    → part (putBytes store at bytes) at (at + length bytes) ≡ bytes
+unfolding putBytes
+put-there store at bytes fits =
+    rw (le-leb (at + length bytes) (length store) fits) (part-written store at bytes fits)
+
+-- the name of an entry stands at its beginning, whatever the body
+name-there : (store name body : List ℕ) (e : ℕ) → length store ≡ 40960 → e < 256 → length name ≤ 32
+    → part (storeEntry store e name body) (160 * e) (160 * e + length name) ≡ name
+unfolding storeEntry
+name-there store name body e long inside short =
+    rw (lt-ltb e 256 inside)
+    (put-below (putBytes store (160 * e) name) (160 * e + 32) (160 * e) (160 * e + length name) body (omega arith)
+    (omega arith)
+    ∙ put-there store (160 * e) name (omega arith))
+
+-- ---- the group of a name
+
+-- a text stands in the store from `from` on, byte by byte
+abbrev Stands : List ℕ → ℕ → List ℕ → Type 0
+Stands store from name = (k : ℕ) → k < length name → getD store (from + k) 0 ≡ getD name k 0
+
+part-stands : (store : List ℕ) (from : ℕ) (name : List ℕ) → part store from (from + length name) ≡ name
+    → Stands store from name
+part-stands store from name is k inside =
+    sym (getD-drop from store k 0)
+    ∙ (sym (getD-take (from + length name - from) (drop from store) k 0 (omega arith)) ∙ ap (λ l. getD l k 0) is)
+
+-- a group's name agrees with a text in the store as it does with the text by itself
+agrees-same : (row store name : List ℕ) (from : ℕ) → Stands store from name → (n i : ℕ) → i + n ≤ length name
+    → agrees row store from i n ≡ agrees row name 0 i n
+unfolding agrees
+agrees-same row store name from there zero i fits = refl
+agrees-same row store name from there (suc n) i fits =
+    let none : 0 + i ≡ i = omega arith in
+    rw (there i (omega arith), agrees-same row store name from there n (suc i) (omega arith), none)
+
+named-same : (row store name : List ℕ) (e : ℕ) → e < 256 → Stands store (160 * e) name
+    → named row store e (length name) ≡ hasName row name
+unfolding named hasName
+named-same row store name e inside there =
+    let in-store : leb 256 e ≡ false = lt-leb 256 e inside in
+    rw (in-store, agrees-same row store name (160 * e) there (length name) 0 (omega arith))
+
+for-same : (groups : Table) (store name : List ℕ) (e : ℕ) → e < 256 → Stands store (160 * e) name → (count : ℕ)
+    → groupFor groups store e (length name) count ≡ groupNamed groups name count
+unfolding groupFor groupNamed
+for-same groups store name e inside there zero = refl
+for-same groups store name e inside there (suc g) =
+    rw (named-same (getD groups g []) store name e inside there, for-same groups store name e inside there g)
+
+-- Admission and routing mean one group.
+pub one-group : OneGroup
+one-group groups count store name body e long inside short =
+    for-same groups (storeEntry store e name body) name e inside
+    (part-stands (storeEntry store e name body) (160 * e) name (name-there store name body e long inside short))
+    count
+
+-- ---- a program that is loaded
+
+-- what is kept in the first free entry, for a program that is loaded, is routed to a group that may have an actor
+module _ (groups : Table) (count : ℕ) (name : List ℕ) where
+  -- the group of a loaded program
+  loaded-group : loadedIn groups name count ≡ true
+      → (g : ℕ) × ((groupNamed groups name count ≡ found.Group g) × (0 < groupAt groups g .ceiling))
+  unfolding loadedIn
+  loaded-group loaded = go (groupNamed groups name count) refl
+    where
+      go : (n : Named) → groupNamed groups name count ≡ n
+          → (g : ℕ) × ((groupNamed groups name count ≡ found.Group g) × (0 < groupAt groups g .ceiling))
+      go (found.Group g) is =
+          (g, (is, ltb-true 0 (groupAt groups g .ceiling) (ap (mayRun groups) (sym is) ∙ loaded)))
+      go found.Nothing is = let z : _≡_ {A = ℕ} 0 1 = cc in absurd (omega arith)
+
+  pub kept-loaded : (store : List ℕ) (t rows : Table) (body : List ℕ) (who : Caller) (id : Logged) (to e : ℕ)
+      → length store ≡ 40960 → length rows ≡ 256 → e < 256 → length name ≤ 32
+      → firstOf t FREE ≡ Entry e → loadedIn groups name count ≡ true
+      → LoadedAt groups count (keepOf store t rows name body who id to .store)
+      (keepOf store t rows name body who id to .rows) e
+  unfolding keepOf keepAt
+  kept-loaded store t rows body who id to e long sized inside short free loaded =
+      let g = loaded-group loaded in
+      rw (free, message-put rows e (newRow (length name) (length body) who id) (omega arith))
+      (record {
+        group = g .0;
+        found = one-group groups count store name body e long inside short ∙ g .1 .0;
+        ceiling = g .1 .1;
+      })
+
+  -- and for one that is not loaded routing would find no such group
+  unloaded-lost : (store body : List ℕ) (e : ℕ) → length store ≡ 40960 → e < 256 → length name ≤ 32
+      → loadedIn groups name count ≡ false → Routes groups count (storeEntry store e name body) e (length name) → ⊥
+  unfolding loadedIn
+  unloaded-lost store body e long inside short none r =
+      let is = sym (one-group groups count store name body e long inside short) ∙ r .found in
+      never (sym none ∙ (ap (mayRun groups) is ∙ lt-ltb 0 (groupAt groups (r .group) .ceiling) (r .ceiling)))
+
+-- ---- 17 at an admission
+
+module _ (p : Pool) (bytes : List ℕ) (records : Table) (store : List ℕ) (groups t rows : Table)
+    (name body : List ℕ) where
+  abbrev isLoaded : Bool
+  isLoaded = loadedIn groups name (p .limits .groups)
+
+  -- the answer is 17
+  abbrev Away : Admitted → Type 0
+  Away a = a .told .answer ≡ Refused refusal.NotLoaded
+
+  logged-away : (d : log.Did) (a : of-log.Answer) → Away (loggedBy p store t rows name body d a) → ⊥
+  unfolding shown
+  logged-away d (logged.Ordered o) away = let z : _≡_ {A = ℕ} 0 1 = cc in omega arith
+  logged-away d (logged.Refused r) away = go r away
+    where
+      go : (r : why.Refusal) → Refused (logRefusal r) ≡ Refused refusal.NotLoaded → ⊥
+      go log-refusal.Sizes e = let z : _≡_ {A = ℕ} 0 1 = cc in omega arith
+      go log-refusal.LastId e = let z : _≡_ {A = ℕ} 0 1 = cc in omega arith
+      go log-refusal.TooMuch e = let z : _≡_ {A = ℕ} 0 1 = cc in omega arith
+      go log-refusal.TooLong e = let z : _≡_ {A = ℕ} 0 1 = cc in omega arith
+      go log-refusal.Full e = let z : _≡_ {A = ℕ} 0 1 = cc in omega arith
+      go log-refusal.NoId e = let z : _≡_ {A = ℕ} 0 1 = cc in omega arith
+      go log-refusal.NoRoom e = let z : _≡_ {A = ℕ} 0 1 = cc in omega arith
+
+  fit-away : (who : Caller) → Away (admitFit p bytes records store t rows name body who) → ⊥
+  unfolding admitFit admitLogged shown
+  fit-away (caller.From who) away = let z : _≡_ {A = ℕ} 0 1 = cc in omega arith
+  fit-away caller.Nobody away =
+      logged-away (appendOf (state bytes records (p .turn .log)) name body)
+      (appendOf (state bytes records (p .turn .log)) name body .answer) away
+
+  checked-away : (who : Caller) (k : Check) → admitCheck p t isLoaded (length name) (length body) ≡ k
+      → Away (admitChecked p bytes records store t rows name body who k) → Unloaded isLoaded (length name)
+  checked-away who (check.Refuse r) is away =
+      unloaded-check p t isLoaded (length name) (length body)
+      (is ∙ (let same : r ≡ refusal.NotLoaded = cc in ap check.Refuse same))
+  checked-away who check.Fine is away = absurd (fit-away who away)
+
+  in-away : (who : Caller) (d : Disk) → Away (admitIn p bytes records store groups t rows name body who d)
+      → Unloaded isLoaded (length name)
+  unfolding admitFree
+  in-away who disk.Free away = checked-away who (admitCheck p t isLoaded (length name) (length body)) refl away
+  in-away who (disk.Waits o for) away = let z : _≡_ {A = ℕ} 0 1 = cc in absurd (omega arith)
+  in-away who disk.Failed away = let z : _≡_ {A = ℕ} 0 1 = cc in absurd (omega arith)
+
+-- 17 is given for no other reason.
+pub refused-unloaded : RefusedUnloaded
+unfolding admitOf
+refused-unloaded p bytes records store groups t rows name body who away e long inside routed =
+    let away = in-away p bytes records store groups t rows name body who (p .turn .disk) away in
+    unloaded-lost groups (p .limits .groups) name store body e long inside (away .short-name) (away .not-loaded) routed
