@@ -41,6 +41,7 @@ impl Timed {
 pub fn all() -> Vec<Timed> {
     let mut all = Vec::new();
     all.extend([1, 16, 256].map(served));
+    all.push(served_by_name());
     all.push(evaluated());
     all.extend([1, 16, 128].map(yielding));
     all.extend([1, 16, 128].map(polled));
@@ -146,14 +147,25 @@ fn receives(_: &Making, question: &Question) -> Reply {
 /// One message after the other is logged, delivered, pushed, done and marked, while others lie in another mailbox.
 fn served(live: u64) -> Timed {
     let file = logs::open(live - 1);
-    let mut making = begin(opening(vec![group("row", 1, false), group("work", 1, false)], file));
+    let making = begin(opening(vec![group("row", 1, false), group("work", 1, false)], file));
+    messages(format!("a message from admit to its mark, {live} live"), making, "work")
+}
+
+/// The same where the search for the group, at the admission and when the message is routed, looks at every byte of
+/// the names of all groups but one.
+fn served_by_name() -> Timed {
+    let what = "a message from admit to its mark, 8 groups with names of 32 bytes that differ in the last";
+    messages(what.into(), begin(opening(alike(), Vec::new())), &long_name(1))
+}
+
+fn messages(what: String, mut making: Making, name: &str) -> Timed {
     turn(&mut making, receives);
     let setup = making.list.calls.len();
     for _ in 0..ROUNDS {
-        making.done(admit("work", None));
+        making.done(admit(name, None));
         turn(&mut making, receives);
     }
-    timed(format!("a message from admit to its mark, {live} live"), making, setup)
+    timed(what, making, setup)
 }
 
 /// One program after the other is run, and its caller told.
