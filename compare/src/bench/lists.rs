@@ -74,7 +74,7 @@ fn mistyped() -> Timed {
     for _ in 0..10 * ROUNDS {
         making.call(admit(&long_name(GROUPS_MAX), None));
     }
-    timed("a refused admit (17), 8 groups with names of 32 bytes that differ in the last".into(), making, setup)
+    timed("a refused admit (17), 8 groups with long names".into(), making, setup)
 }
 
 /// As many groups as there may be, with names as long as they may be that differ in the last byte: a search looks at
@@ -154,7 +154,7 @@ fn served(live: u64) -> Timed {
 /// The same where the search for the group, at the admission and when the message is routed, looks at every byte of
 /// the names of all groups but one.
 fn served_by_name() -> Timed {
-    let what = "a message from admit to its mark, 8 groups with names of 32 bytes that differ in the last";
+    let what = "a message from admit to its mark, 8 groups with long names";
     messages(what.into(), begin(opening(alike(), Vec::new())), &long_name(1))
 }
 
@@ -235,7 +235,7 @@ fn admitted(open: u64) -> Timed {
 
 /// Records for the group that a search comes to last, since of two groups of one name the later counts.
 fn looked_up() -> Timed {
-    let what = "admit with a record of 77 bytes, 8 groups with names of 32 bytes that differ in the last";
+    let what = "admit with a record of 77 bytes, 8 groups with long names";
     records(what.into(), begin(opening(alike(), Vec::new())), &long_name(0))
 }
 

@@ -1,4 +1,3 @@
 -- Laws of the door.
 pub mod AdmitLaws
-pub mod Checks
 pub mod Names

@@ -1,6 +1,6 @@
 -- Admission and routing mean one group: the group of a name given as bytes is the one that is found for the name in the
--- entry of the body store where it was written. So a message that is kept for a loaded program is routed to it, and one
--- that is refused with 17 would have been routed to no group that may have an actor. Assumes nothing.
+-- entry of the body store where it was written. So a message that is kept for a loaded program is routed to a group that
+-- may have an actor, and one for any other program would not be. Assumes nothing.
 use mathlib.Core.Path.{_≡_, refl, sym, ap, _∙_}
 use mathlib.Core.Bool.{Bool, true, false}
 use mathlib.Core.List.{List, []}
@@ -14,32 +14,14 @@ use Rattle.text.specs.Bytes.{write, part}
 use Rattle.text.proofs.WriteLaws.{part-below, part-written}
 use Rattle.lists.specs.declared.Found.the-variants.{Entry}
 use Rattle.lists.specs.Links.{pick, Table, FREE, firstOf}
-use Rattle.log.specs.declared.Refusal as why
-use Rattle.log.specs.declared.Refusal.the-variants as log-refusal
-use Rattle.log.specs.declared.Answer as of-log
-use Rattle.log.specs.declared.Answer.the-variants as logged
-use Rattle.log.specs.Log as log
-use Rattle.log.specs.Log.{state, appendOf}
 use Rattle.actor.specs.declared.message.Caller.{Caller}
-use Rattle.actor.specs.declared.message.Caller.the-variants as caller
 use Rattle.actor.specs.declared.message.Logged.{Logged}
 use Rattle.actor.proofs.Back.{message-put}
 use Rattle.group.specs.declared.settings.Named.{Named}
 use Rattle.group.specs.declared.settings.Named.the-variants as found
 use Rattle.group.specs.Settings.{groupAt, agrees, named, groupFor, hasName, groupNamed, mayRun, loadedIn}
 use Rattle.setup.specs.Entry.{putBytes, storeEntry, newRow, keepAt, keepOf}
-use Rattle.turn.specs.declared.state.Disk.{Disk}
-use Rattle.turn.specs.declared.state.Disk.the-variants as disk
-use Rattle.front.specs.declared.state.Pool.{Pool}
-use Rattle.front.specs.declared.state.Answer.the-variants.{Refused}
-use Rattle.front.specs.declared.state.Refusal.the-variants as refusal
-use Rattle.front.specs.declared.state.Check.{Check}
-use Rattle.front.specs.declared.state.Check.the-variants as check
-use Rattle.front.specs.State.{logRefusal, shown}
-use Rattle.door.specs.Admit.{Admitted, admitCheck, loggedBy, admitLogged, admitFit, admitChecked, admitFree}
-use Rattle.door.specs.Admit.{admitIn, admitOf}
-use Rattle.door.specs.Loaded.{OneGroup, Routes, LoadedAt, RefusedUnloaded}
-use Rattle.door.proofs.Checks.{Unloaded, unloaded-check}
+use Rattle.door.specs.Loaded.{OneGroup, Routes, LoadedAt}
 
 never : false ≡ true → ⊥
 never e = let z : _≡_ {A = ℕ} 0 1 = cc in omega arith
@@ -148,62 +130,9 @@ module _ (groups : Table) (count : ℕ) (name : List ℕ) where
       })
 
   -- and for one that is not loaded routing would find no such group
-  unloaded-lost : (store body : List ℕ) (e : ℕ) → length store ≡ 40960 → e < 256 → length name ≤ 32
+  pub unloaded-lost : (store body : List ℕ) (e : ℕ) → length store ≡ 40960 → e < 256 → length name ≤ 32
       → loadedIn groups name count ≡ false → Routes groups count (storeEntry store e name body) e (length name) → ⊥
   unfolding loadedIn
   unloaded-lost store body e long inside short none r =
       let is = sym (one-group groups count store name body e long inside short) ∙ r .found in
       never (sym none ∙ (ap (mayRun groups) is ∙ lt-ltb 0 (groupAt groups (r .group) .ceiling) (r .ceiling)))
-
--- ---- 17 at an admission
-
-module _ (p : Pool) (bytes : List ℕ) (records : Table) (store : List ℕ) (groups t rows : Table)
-    (name body : List ℕ) where
-  abbrev isLoaded : Bool
-  isLoaded = loadedIn groups name (p .limits .groups)
-
-  -- the answer is 17
-  abbrev Away : Admitted → Type 0
-  Away a = a .told .answer ≡ Refused refusal.NotLoaded
-
-  logged-away : (d : log.Did) (a : of-log.Answer) → Away (loggedBy p store t rows name body d a) → ⊥
-  unfolding shown
-  logged-away d (logged.Ordered o) away = let z : _≡_ {A = ℕ} 0 1 = cc in omega arith
-  logged-away d (logged.Refused r) away = go r away
-    where
-      go : (r : why.Refusal) → Refused (logRefusal r) ≡ Refused refusal.NotLoaded → ⊥
-      go log-refusal.Sizes e = let z : _≡_ {A = ℕ} 0 1 = cc in omega arith
-      go log-refusal.LastId e = let z : _≡_ {A = ℕ} 0 1 = cc in omega arith
-      go log-refusal.TooMuch e = let z : _≡_ {A = ℕ} 0 1 = cc in omega arith
-      go log-refusal.TooLong e = let z : _≡_ {A = ℕ} 0 1 = cc in omega arith
-      go log-refusal.Full e = let z : _≡_ {A = ℕ} 0 1 = cc in omega arith
-      go log-refusal.NoId e = let z : _≡_ {A = ℕ} 0 1 = cc in omega arith
-      go log-refusal.NoRoom e = let z : _≡_ {A = ℕ} 0 1 = cc in omega arith
-
-  fit-away : (who : Caller) → Away (admitFit p bytes records store t rows name body who) → ⊥
-  unfolding admitFit admitLogged shown
-  fit-away (caller.From who) away = let z : _≡_ {A = ℕ} 0 1 = cc in omega arith
-  fit-away caller.Nobody away =
-      logged-away (appendOf (state bytes records (p .turn .log)) name body)
-      (appendOf (state bytes records (p .turn .log)) name body .answer) away
-
-  checked-away : (who : Caller) (k : Check) → admitCheck p t isLoaded (length name) (length body) ≡ k
-      → Away (admitChecked p bytes records store t rows name body who k) → Unloaded isLoaded (length name)
-  checked-away who (check.Refuse r) is away =
-      unloaded-check p t isLoaded (length name) (length body)
-      (is ∙ (let same : r ≡ refusal.NotLoaded = cc in ap check.Refuse same))
-  checked-away who check.Fine is away = absurd (fit-away who away)
-
-  in-away : (who : Caller) (d : Disk) → Away (admitIn p bytes records store groups t rows name body who d)
-      → Unloaded isLoaded (length name)
-  unfolding admitFree
-  in-away who disk.Free away = checked-away who (admitCheck p t isLoaded (length name) (length body)) refl away
-  in-away who (disk.Waits o for) away = let z : _≡_ {A = ℕ} 0 1 = cc in absurd (omega arith)
-  in-away who disk.Failed away = let z : _≡_ {A = ℕ} 0 1 = cc in absurd (omega arith)
-
--- 17 is given for no other reason.
-pub refused-unloaded : RefusedUnloaded
-unfolding admitOf
-refused-unloaded p bytes records store groups t rows name body who away e long inside routed =
-    let away = in-away p bytes records store groups t rows name body who (p .turn .disk) away in
-    unloaded-lost groups (p .limits .groups) name store body e long inside (away .short-name) (away .not-loaded) routed

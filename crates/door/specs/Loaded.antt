@@ -1,19 +1,14 @@
--- What an admission and the routing of its message have in common: they mean one group. The theorems are `one-group`
--- and `refused-unloaded`, in proofs/Names.antt.
+-- What an admission and the routing of its message have in common: they mean one group. The theorem is `one-group`, in
+-- proofs/Names.antt; crates/rail/specs/Rail says of every admission that it goes by this.
 use mathlib.Core.Path.{_≡_}
 use mathlib.Core.List.{List}
 use Prim.Native.Nat.{ℕ, _≤_, _<_}
 use lib.ListN.{length}
 use Rattle.lists.specs.Links.{Table}
-use Rattle.actor.specs.declared.message.Caller.{Caller}
 use Rattle.actor.specs.Messages.{messageAt}
 use Rattle.group.specs.declared.settings.Named.the-variants.{Group}
 use Rattle.group.specs.Settings.{groupAt, groupFor, groupNamed}
 use Rattle.setup.specs.Entry.{storeEntry}
-use Rattle.front.specs.declared.state.Pool.{Pool}
-use Rattle.front.specs.declared.state.Answer.the-variants.{Refused}
-use Rattle.front.specs.declared.state.Refusal.the-variants.{NotLoaded}
-use Rattle.door.specs.Admit.{admitOf}
 
 -- The group of a name given as bytes, as an admission has it, is the one that routing finds for the message of the
 -- entry where the name was written.
@@ -31,13 +26,3 @@ pub record Routes (groups : Table) (count : ℕ) (store : List ℕ) (e len : ℕ
 -- the message of an entry is for a program that is loaded
 abbrev pub LoadedAt : Table → ℕ → List ℕ → Table → ℕ → Type 0
 LoadedAt groups count store rows e = Routes groups count store e (messageAt rows e .name)
-
--- 17 is given for no other reason: in whatever entry the name were written, routing would find no group for it that may
--- have an actor. That what is admitted has such a group is `AdmitsLoaded`, of crates/rail/specs/Rail.
-abbrev pub RefusedUnloaded : Type 0
-RefusedUnloaded =
-    (p : Pool) (bytes : List ℕ) (records : Table) (store : List ℕ) (groups t rows : Table) (name body : List ℕ)
-    (who : Caller)
-    → admitOf p bytes records store groups t rows name body who .told .answer ≡ Refused NotLoaded
-    → (e : ℕ) → length store ≡ 40960 → e < 256
-    → Routes groups (p .limits .groups) (storeEntry store e name body) e (length name) → ⊥

@@ -49,12 +49,61 @@ use Rattle.front.specs.declared.state.Check.{Check}
 use Rattle.front.specs.declared.state.Check.the-variants as check
 use Rattle.front.specs.State.{lengthCheck, logRefusal, withDisk, shown}
 use Rattle.door.specs.Admit as one
-use Rattle.door.specs.Admit.{INBOX}
-use Rattle.door.proofs.Checks.{fine-check}
+use Rattle.door.specs.Admit.{INBOX, loadedCheck, roomCheck}
 use Rattle.rail.specs.Rail.{Call, admit, State, didAdmit, callOf, World, walOf, orderedFor, ordersIn, ofRecord}
 use Rattle.rail.proofs.Invariant.{Agrees, Ledger, Working, workIn, Steady}
 use Rattle.rail.proofs.Ids.{count-snoc, now-count}
 use Rattle.rail.proofs.After.{orderOf, Ends, turned, took, rest-steady, call-sound, shown-rule}
+
+-- ---- the checks
+
+-- a name and a body that pass fit
+pub fine-lengths : (n m : ℕ) → lengthCheck n m ≡ check.Fine → (n ≤ 32) × (m ≤ 128)
+unfolding lengthCheck
+fine-lengths n m fine = go (ltb 32 n) refl (ltb 128 m) refl
+  where
+    go : (a : Bool) → ltb 32 n ≡ a → (b : Bool) → ltb 128 m ≡ b → (n ≤ 32) × (m ≤ 128)
+    go true e b f = let z : _≡_ {A = ℕ} 0 1 = cc in absurd (omega arith)
+    go false e true f = let z : _≡_ {A = ℕ} 0 1 = cc in absurd (omega arith)
+    go false e false f = (ltb-false 32 n e, ltb-false 128 m f)
+
+-- its program is loaded
+fine-loaded : (isLoaded : Bool) (c : Check) → loadedCheck isLoaded c ≡ check.Fine
+    → (c ≡ check.Fine) × (isLoaded ≡ true)
+fine-loaded isLoaded (check.Refuse r) fine = let z : _≡_ {A = ℕ} 0 1 = cc in absurd (omega arith)
+fine-loaded true check.Fine fine = (refl, refl)
+fine-loaded false check.Fine fine = let z : _≡_ {A = ℕ} 0 1 = cc in absurd (omega arith)
+
+-- and there is an entry for it
+fine-room : (p : Pool) (t : Table) (c : Check) → roomCheck p t c ≡ check.Fine → (c ≡ check.Fine)
+    × (eqb (lenOf t FREE) 0 ≡ false)
+fine-room p t (check.Refuse r) fine = let z : _≡_ {A = ℕ} 0 1 = cc in absurd (omega arith)
+fine-room p t check.Fine fine = go (leb (p .limits .inbox) (lenOf t INBOX)) refl (p .closed) refl
+    (eqb (lenOf t FREE) 0) refl
+  where
+    go : (a : Bool) → leb (p .limits .inbox) (lenOf t INBOX) ≡ a → (b : Bool) → p .closed ≡ b → (c : Bool)
+        → eqb (lenOf t FREE) 0 ≡ c
+        → (_≡_ {A = Check} check.Fine check.Fine) × (eqb (lenOf t FREE) 0 ≡ false)
+    go true e b f c g = let z : _≡_ {A = ℕ} 0 1 = cc in absurd (omega arith)
+    go false e true f c g = let z : _≡_ {A = ℕ} 0 1 = cc in absurd (omega arith)
+    go false e false f true g = let z : _≡_ {A = ℕ} 0 1 = cc in absurd (omega arith)
+    go false e false f false g = (refl, g)
+
+-- what an admission that passes its checks may lean on
+pub record Fine (t : Table) (isLoaded : Bool) (name body : ℕ) : Type 0 where
+  pub short-name : name ≤ 32
+  pub short-body : body ≤ 128
+  pub loaded : isLoaded ≡ true
+  pub room : eqb (lenOf t FREE) 0 ≡ false
+
+pub fine-check : (p : Pool) (t : Table) (isLoaded : Bool) (name body : ℕ)
+    → one.admitCheck p t isLoaded name body ≡ check.Fine → Fine t isLoaded name body
+unfolding one.admitCheck
+fine-check p t isLoaded name body fine =
+    let room = fine-room p t (loadedCheck isLoaded (lengthCheck name body)) fine in
+    let loaded = fine-loaded isLoaded (lengthCheck name body) (room .0) in
+    let short = fine-lengths name body (loaded .0) in
+    record { short-name = short .0; short-body = short .1; loaded = loaded .1; room = room .1 }
 
 -- ---- a message comes
 

@@ -1,9 +1,10 @@
--- An accepted admission is for a program that is loaded (statement: specs/Rail.antt). Its message stands in the entry
--- that was the first free one, since the body store keeps its length. Assumes nothing.
+-- An accepted admission is for a program that is loaded, and one that is refused with 17 is not (statements:
+-- specs/Rail.antt). The message stands in the entry that was the first free one, since the body store keeps its length.
+-- Assumes nothing.
 use mathlib.Core.Path.{_≡_, refl, sym, ap, _∙_, subst}
 use mathlib.Core.Bool.{Bool, true, false}
 use mathlib.Core.List.{List, [], _∷_, _++_}
-use Prim.Native.Nat.{ℕ, _+_, _*_, _<_}
+use Prim.Native.Nat.{ℕ, _+_, _*_, _≤_, _<_}
 use native.Mathlib.Omega.{arith}
 use borrow.Author.Tests.{leb-true, eqb-false}
 use lib.Dec.{eqb, ltb, leb}
@@ -16,6 +17,8 @@ use Rattle.lists.specs.Links.{pick, Table, FREE, lenOf, firstOf, moveFirst}
 use Rattle.lists.specs.Family.{count, view, firstIn, Moved}
 use Rattle.lists.proofs.Family.{length-view, first-is, count-at, entry}
 use Rattle.lists.proofs.Moves.{move-first}
+use Rattle.log.specs.declared.Refusal as why
+use Rattle.log.specs.declared.Refusal.the-variants as log-refusal
 use Rattle.log.specs.declared.Answer as of-log
 use Rattle.log.specs.declared.Answer.the-variants as logged
 use Rattle.log.specs.Log as log
@@ -38,23 +41,23 @@ use Rattle.turn.specs.Asks.{asksIn}
 use Rattle.front.specs.declared.state.Pool.{Pool}
 use Rattle.front.specs.declared.state.Answer.{Answer}
 use Rattle.front.specs.declared.state.Answer.the-variants as answer
+use Rattle.front.specs.declared.state.Refusal.the-variants.{NotLoaded}
 use Rattle.front.specs.declared.state.Check.{Check}
 use Rattle.front.specs.declared.state.Check.the-variants as check
-use Rattle.front.specs.State.{withDisk}
+use Rattle.front.specs.State.{lengthCheck, logRefusal, withDisk, shown}
 use Rattle.turn.specs.declared.state.What.the-variants as what
 use Rattle.turn.specs.declared.state.Limits.{Limits}
 use Rattle.door.specs.Admit as door
 use Rattle.door.specs.Admit.{INBOX}
-use Rattle.door.proofs.Checks.{Fine, fine-check}
-use Rattle.door.proofs.Names.{kept-loaded}
+use Rattle.door.proofs.Names.{kept-loaded, unloaded-lost}
 use Rattle.pool.specs.Calls as one
 use Rattle.rail.specs.Rail.{State, Call, admit, turn, reply, sync, close, Did, didAdmit, didReply, callOf}
 use Rattle.rail.specs.Rail.{Shown, nothing, shows, orderOpen, accepted, World, ordered, answered, stepBy, step}
-use Rattle.rail.specs.Rail.{run, ComesLoaded}
+use Rattle.rail.specs.Rail.{run, ComesLoaded, RefusesUnloaded}
 use Rattle.rail.proofs.Invariant.{Steady}
 use Rattle.rail.proofs.After.{shown-rule}
 use Rattle.rail.proofs.Shown.{never}
-use Rattle.rail.proofs.Admit.{Appends, away, out, append-ends}
+use Rattle.rail.proofs.Admit.{fine-lengths, Fine, fine-check, Appends, away, out, append-ends}
 
 -- ---- the body store keeps its length
 
@@ -296,3 +299,110 @@ module _ (s : State) (q : ℕ) (sound : Sound (s .links) (s .rows) q) (long : le
   pub admit-comes : (who : Caller) → Comes (callOf s (admit name body who))
   unfolding callOf door.admitOf
   admit-comes who = in-comes who (s .pool .turn .disk)
+
+-- ---- what 17 says
+
+-- 17: name and body fit, and the program is not loaded
+record Unloaded (isLoaded : Bool) (name : ℕ) : Type 0 where
+  pub short-name : name ≤ 32
+  pub not-loaded : isLoaded ≡ false
+
+-- 5 is another refusal
+not-too-long : (n m : ℕ) → lengthCheck n m ≡ check.Refuse NotLoaded → ⊥
+unfolding lengthCheck
+not-too-long n m is = go (ltb 32 n) refl (ltb 128 m) refl
+  where
+    go : (a : Bool) → ltb 32 n ≡ a → (b : Bool) → ltb 128 m ≡ b → ⊥
+    go true e b f = let z : _≡_ {A = ℕ} 0 1 = cc in omega arith
+    go false e true f = let z : _≡_ {A = ℕ} 0 1 = cc in omega arith
+    go false e false f = let z : _≡_ {A = ℕ} 0 1 = cc in omega arith
+
+-- 6, 7 and 8 are other refusals
+room-unloaded : (p : Pool) (t : Table) (c : Check) → door.roomCheck p t c ≡ check.Refuse NotLoaded
+    → c ≡ check.Refuse NotLoaded
+room-unloaded p t (check.Refuse r) is = is
+room-unloaded p t check.Fine is = go (leb (p .limits .inbox) (lenOf t INBOX)) refl (p .closed) refl
+    (eqb (lenOf t FREE) 0) refl
+  where
+    go : (a : Bool) → leb (p .limits .inbox) (lenOf t INBOX) ≡ a → (b : Bool) → p .closed ≡ b → (c : Bool)
+        → eqb (lenOf t FREE) 0 ≡ c
+        → _≡_ {A = Check} check.Fine (check.Refuse NotLoaded)
+    go true e b f c g = let z : _≡_ {A = ℕ} 0 1 = cc in absurd (omega arith)
+    go false e true f c g = let z : _≡_ {A = ℕ} 0 1 = cc in absurd (omega arith)
+    go false e false f true g = let z : _≡_ {A = ℕ} 0 1 = cc in absurd (omega arith)
+    go false e false f false g = let z : _≡_ {A = ℕ} 0 1 = cc in absurd (omega arith)
+
+unloaded-check : (p : Pool) (t : Table) (isLoaded : Bool) (name body : ℕ)
+    → door.admitCheck p t isLoaded name body ≡ check.Refuse NotLoaded → Unloaded isLoaded name
+unfolding door.admitCheck
+unloaded-check p t isLoaded name body is =
+    go (lengthCheck name body) refl isLoaded refl
+    (room-unloaded p t (door.loadedCheck isLoaded (lengthCheck name body)) is)
+  where
+    go : (c : Check) → lengthCheck name body ≡ c → (b : Bool) → isLoaded ≡ b
+        → door.loadedCheck b c ≡ check.Refuse NotLoaded → Unloaded isLoaded name
+    go (check.Refuse r) e b f gone = absurd (not-too-long name body (e ∙ gone))
+    go check.Fine e true f gone = let z : _≡_ {A = ℕ} 0 1 = cc in absurd (omega arith)
+    go check.Fine e false f gone = record { short-name = fine-lengths name body e .0; not-loaded = f }
+
+module _ (s : State) (name body : List ℕ) where
+  abbrev named : Bool
+  named = loadedIn (s .groups) name (s .pool .limits .groups)
+
+  -- the answer is 17
+  abbrev Away : Did → Type 0
+  Away d = d .answer ≡ answer.Refused NotLoaded
+
+  -- the log's refusals are others
+  log-away : (r : why.Refusal) → answer.Refused (logRefusal r) ≡ answer.Refused NotLoaded → ⊥
+  log-away log-refusal.Sizes e = let z : _≡_ {A = ℕ} 0 1 = cc in omega arith
+  log-away log-refusal.LastId e = let z : _≡_ {A = ℕ} 0 1 = cc in omega arith
+  log-away log-refusal.TooMuch e = let z : _≡_ {A = ℕ} 0 1 = cc in omega arith
+  log-away log-refusal.TooLong e = let z : _≡_ {A = ℕ} 0 1 = cc in omega arith
+  log-away log-refusal.Full e = let z : _≡_ {A = ℕ} 0 1 = cc in omega arith
+  log-away log-refusal.NoId e = let z : _≡_ {A = ℕ} 0 1 = cc in omega arith
+  log-away log-refusal.NoRoom e = let z : _≡_ {A = ℕ} 0 1 = cc in omega arith
+
+  logged-away : (d : log.Did) (a : of-log.Answer)
+      → Away (didAdmit s (door.loggedBy (s .pool) (s .store) (s .links) (s .rows) name body d a)) → ⊥
+  unfolding shown
+  logged-away d (logged.Ordered o) gone = let z : _≡_ {A = ℕ} 0 1 = cc in omega arith
+  logged-away d (logged.Refused r) gone = log-away r gone
+
+  fit-away : (who : Caller)
+      → Away
+      (didAdmit s
+      (door.admitFit (s .pool) (s .bytes) (s .records) (s .store) (s .links) (s .rows) name body who))
+      → ⊥
+  unfolding door.admitFit door.admitLogged shown
+  fit-away (caller.From who) gone = let z : _≡_ {A = ℕ} 0 1 = cc in omega arith
+  fit-away caller.Nobody gone = logged-away (log.appendOf (v s) name body) (log.appendOf (v s) name body .answer) gone
+
+  checked-away : (who : Caller) (k : Check)
+      → door.admitCheck (s .pool) (s .links) named (length name) (length body) ≡ k
+      → Away
+      (didAdmit s
+      (door.admitChecked (s .pool) (s .bytes) (s .records) (s .store) (s .links) (s .rows) name body who k))
+      → Unloaded named (length name)
+  checked-away who (check.Refuse r) is gone =
+      unloaded-check (s .pool) (s .links) named (length name) (length body)
+      (is ∙ (let same : r ≡ NotLoaded = cc in ap check.Refuse same))
+  checked-away who check.Fine is gone = absurd (fit-away who gone)
+
+  in-away : (who : Caller) (d : Disk)
+      → Away
+      (didAdmit s
+      (door.admitIn (s .pool) (s .bytes) (s .records) (s .store) (s .groups) (s .links) (s .rows) name body who d))
+      → Unloaded named (length name)
+  unfolding door.admitFree
+  in-away who order.Free gone =
+      checked-away who (door.admitCheck (s .pool) (s .links) named (length name) (length body)) refl gone
+  in-away who (order.Waits o for) gone = let z : _≡_ {A = ℕ} 0 1 = cc in absurd (omega arith)
+  in-away who order.Failed gone = let z : _≡_ {A = ℕ} 0 1 = cc in absurd (omega arith)
+
+  pub admit-away : (who : Caller) → length (s .store) ≡ 40960 → RefusesUnloaded s name body who
+  unfolding callOf door.admitOf
+  admit-away who long gone e inside routed =
+      let none = in-away who (s .pool .turn .disk) gone in
+      unloaded-lost (s .groups) (s .pool .limits .groups) name (s .store) body e long inside (none .short-name)
+      (none .not-loaded) routed

@@ -24,7 +24,7 @@ use Rattle.rail.proofs.Calls.{run-steady, size-is, tail-kept, order-fit
 use Rattle.rail.proofs.Refused.{refused-stays}
 use Rattle.rail.proofs.Opened.{accepted-taken, refused-untouched}
 use Rattle.rail.proofs.Opening.{limitsOf, opens-long, opens-replacing, opens-tail, open-steady, reopens}
-use Rattle.rail.proofs.Loaded.{run-long, admit-comes}
+use Rattle.rail.proofs.Loaded.{run-long, admit-comes, admit-away}
 
 -- an id that was logged is done and nowhere, or stands once
 placed-by : (n d l s : ℕ) → n + d ≡ l → l ≤ 1 → s ≡ n → 0 < l → ((0 < d) × (s ≡ 0)) ⊎ ((d ≡ 0) × (s ≡ 1))
@@ -115,8 +115,16 @@ orders-fit = record {
       order-fits (length (l .bytes)) (limitsOf l) (after l before) c (after-steady l ok before);
 }
 
+-- the body store has its length
+stored-long : (l : Lent) → Accepts l → (calls : List Call) → length (after l calls .state .store) ≡ 40960
+stored-long l ok calls =
+    run-long calls (begin (opens l) (l .actors) (fileIn l)) ∙ opens-long l (accepted-taken l ok)
+
 pub admits-loaded : AdmitsLoaded
-admits-loaded l ok before name body who =
-    admit-comes (after l before .state) (after l before .state .pool .turn .counts .queued)
-    (after-steady l ok before .works .sound)
-    (run-long before (begin (opens l) (l .actors) (fileIn l)) ∙ opens-long l (accepted-taken l ok)) name body who
+admits-loaded = record {
+  comes = λ l ok before name body who.
+      admit-comes (after l before .state) (after l before .state .pool .turn .counts .queued)
+      (after-steady l ok before .works .sound) (stored-long l ok before) name body who;
+  refused = λ l ok before name body who.
+      admit-away (after l before .state) name body who (stored-long l ok before);
+}

@@ -32,6 +32,8 @@ use Rattle.keeping.specs.Living.{given}
 use Rattle.handing.specs.Handing.{handed, idsOf}
 use Rattle.setup.specs.declared.settings.Settings.{Settings}
 use Rattle.front.specs.declared.state.Pool.{Pool}
+use Rattle.setup.specs.Entry.{storeEntry}
+use Rattle.front.specs.declared.state.Refusal.the-variants.{NotLoaded}
 use Rattle.front.specs.declared.state.Answer.{Answer}
 use Rattle.front.specs.declared.state.Answer.the-variants as answer
 use Rattle.front.specs.declared.state.Told.{Told}
@@ -39,7 +41,7 @@ use Rattle.pool.specs.declared.calls.StoredIn.{StoredIn}
 use Rattle.pool.specs.declared.calls.StoredIn.the-variants as stored
 use Rattle.door.specs.Open.{PoolOpened, openOf}
 use Rattle.door.specs.Admit.{Admitted, admitOf}
-use Rattle.door.specs.Loaded.{LoadedAt}
+use Rattle.door.specs.Loaded.{Routes, LoadedAt}
 use Rattle.pool.specs.Run.{Ran}
 use Rattle.pool.specs.Calls.{Replied, turnOf, storedIn, replyOf, syncOf, closeOf}
 
@@ -551,7 +553,7 @@ pub record OrdersFit : Type 0 where
   pub openings : (l : Lent) → Accepts l → (size : ℕ) × (orderIn (opens l .told .answer) ≡ shows (Replace size))
   pub calls : EveryCall CallOrderFits
 
--- Whom an accepted admission is for. Its message comes to the inbox's end, and its program is loaded: the group that
+-- Whom an admission is for. Accepted, its message comes to the inbox's end, and its program is loaded: the group that
 -- routing finds for it may have an actor. So the rule that a message without a group, or for a group with ceiling 0, is
 -- over in the next turn is left for messages that were handed back or sent (docs/RULES.md, 6).
 pub record ComesLoaded (s s′ : State) : Type 0 where
@@ -559,8 +561,20 @@ pub record ComesLoaded (s s′ : State) : Type 0 where
   pub last : view (s′ .links) 1 ≡ view (s .links) 1 ++ (entry ∷ [])
   pub loaded : LoadedAt (s′ .groups) (s′ .pool .limits .groups) (s′ .store) (s′ .rows) entry
 
-abbrev pub AdmitsLoaded : Type 0
-AdmitsLoaded =
-    (l : Lent) → Accepts l → (before : List Call) (name body : List ℕ) (who : Caller)
-    → accepted (callOf (after l before .state) (admit name body who) .answer) ≡ true
-    → ComesLoaded (after l before .state) (callOf (after l before .state) (admit name body who) .state)
+abbrev pub AcceptsLoaded : State → List ℕ → List ℕ → Caller → Type 0
+AcceptsLoaded s name body who =
+    accepted (callOf s (admit name body who) .answer) ≡ true → ComesLoaded s (callOf s (admit name body who) .state)
+
+-- Refused with 17, it is for no such program: in whatever entry it were written, routing would find no group for it that
+-- may have an actor.
+abbrev pub RefusesUnloaded : State → List ℕ → List ℕ → Caller → Type 0
+RefusesUnloaded s name body who =
+    callOf s (admit name body who) .answer ≡ answer.Refused NotLoaded
+    → (e : ℕ) → e < 256
+    → Routes (s .groups) (s .pool .limits .groups) (storeEntry (s .store) e name body) e (length name) → ⊥
+
+pub record AdmitsLoaded : Type 0 where
+  pub comes : (l : Lent) → Accepts l → (before : List Call) (name body : List ℕ) (who : Caller)
+      → AcceptsLoaded (after l before .state) name body who
+  pub refused : (l : Lent) → Accepts l → (before : List Call) (name body : List ℕ) (who : Caller)
+      → RefusesUnloaded (after l before .state) name body who
