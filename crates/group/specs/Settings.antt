@@ -24,7 +24,7 @@ groupOf c =
 unfoldable pub groupAt : Table → ℕ → Group
 groupAt groups g = groupOf (getD groups g [])
 
--- n bytes of a group's name, from byte i on, are those of the store from `from` + i on
+-- n bytes of a group's name, from byte i on, are those of the store, or of a name by itself, from `from` + i on
 unfoldable pub agrees : List ℕ → List ℕ → ℕ → ℕ → ℕ → Bool
 agrees row store from i zero = true
 agrees row store from i (suc n) =

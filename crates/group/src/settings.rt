@@ -91,7 +91,7 @@ fn cell_at(groups: &[[u64; 37]], g: usize, i: usize) -> u64
     if g < groups.len() { groups[g][i] } else { 0 }
 }
 
-// Whether a group's name has the n bytes of the store from `from` on.
+// Whether a group's name has the n bytes of the store, or of a name by itself, from `from` on.
 fn same_name(groups: &[[u64; 37]], g: usize, store: &[u8], from: usize, n: usize) -> bool
     requires { ⌜ (from < 65536) × (n ≤ 32) ⌝ }
     ensures { λ r. ⌜ r ≡ agrees (getD (now (groups .entry)) g []) (now (store .entry)) from 0 n ⌝ }
