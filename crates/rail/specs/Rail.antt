@@ -554,8 +554,7 @@ pub record OrdersFit : Type 0 where
   pub calls : EveryCall CallOrderFits
 
 -- Whom an admission is for. Accepted, its message comes to the inbox's end, and its program is loaded: the group that
--- routing finds for it may have an actor. So the rule that a message without a group, or for a group with ceiling 0, is
--- over in the next turn is left for messages that were handed back or sent (docs/RULES.md, 6).
+-- routing finds for it, in the state that the call leaves, may have an actor (docs/RULES.md, 6).
 pub record ComesLoaded (s s′ : State) : Type 0 where
   pub entry : ℕ
   pub last : view (s′ .links) 1 ≡ view (s .links) 1 ++ (entry ∷ [])
