@@ -7,7 +7,7 @@ use mathlib.Core.List.{List, []}
 use Prim.Native.Nat.{ℕ, zero, suc, _+_, _-_, _*_, _≤_, _<_}
 use native.Mathlib.Omega.{arith}
 use lib.Dec.{leb}
-use lib.ListN.{length, take, drop, getD}
+use lib.ListN.{length, drop, getD}
 use lib.Seq.{getD-take, getD-drop}
 use borrow.Author.Tests.{leb-true, ltb-true, le-leb, lt-leb, lt-ltb}
 use Rattle.text.specs.Bytes.{write, part}
@@ -100,7 +100,6 @@ one-group groups count store name body e long inside short =
 
 -- ---- a program that is loaded
 
--- what is kept in the first free entry, for a program that is loaded, is routed to a group that may have an actor
 module _ (groups : Table) (count : ℕ) (name : List ℕ) where
   -- the group of a loaded program
   loaded-group : loadedIn groups name count ≡ true
@@ -114,6 +113,7 @@ module _ (groups : Table) (count : ℕ) (name : List ℕ) where
           (g, (is, ltb-true 0 (groupAt groups g .ceiling) (ap (mayRun groups) (sym is) ∙ loaded)))
       go found.Nothing is = let z : _≡_ {A = ℕ} 0 1 = cc in absurd (omega arith)
 
+  -- what is kept in the first free entry, for a program that is loaded, is routed to a group that may have an actor
   pub kept-loaded : (store : List ℕ) (t rows : Table) (body : List ℕ) (who : Caller) (id : Logged) (to e : ℕ)
       → length store ≡ 40960 → length rows ≡ 256 → e < 256 → length name ≤ 32
       → firstOf t FREE ≡ Entry e → loadedIn groups name count ≡ true

@@ -14,7 +14,7 @@ use Rattle.text.proofs.WriteLaws.{length-write}
 use Rattle.lists.specs.declared.Found.{Found}
 use Rattle.lists.specs.declared.Found.the-variants.{Entry, Nothing}
 use Rattle.lists.specs.Links.{pick, Table, FREE, lenOf, firstOf, moveFirst}
-use Rattle.lists.specs.Family.{count, view, firstIn, Moved}
+use Rattle.lists.specs.Family.{view, firstIn, Moved}
 use Rattle.lists.proofs.Family.{length-view, first-is, count-at, entry}
 use Rattle.lists.proofs.Moves.{move-first}
 use Rattle.log.specs.declared.Refusal as why
@@ -44,17 +44,14 @@ use Rattle.front.specs.declared.state.Answer.the-variants as answer
 use Rattle.front.specs.declared.state.Refusal.the-variants.{NotLoaded}
 use Rattle.front.specs.declared.state.Check.{Check}
 use Rattle.front.specs.declared.state.Check.the-variants as check
-use Rattle.front.specs.State.{lengthCheck, logRefusal, withDisk, shown}
-use Rattle.turn.specs.declared.state.What.the-variants as what
-use Rattle.turn.specs.declared.state.Limits.{Limits}
+use Rattle.front.specs.State.{lengthCheck, logRefusal, shown}
 use Rattle.door.specs.Admit as door
 use Rattle.door.specs.Admit.{INBOX}
 use Rattle.door.proofs.Names.{kept-loaded, unloaded-lost}
 use Rattle.pool.specs.Calls as one
-use Rattle.rail.specs.Rail.{State, Call, admit, turn, reply, sync, close, Did, didAdmit, didReply, callOf}
+use Rattle.rail.specs.Rail.{State, Call, admit, turn, reply, sync, close, Did, didAdmit, callOf}
 use Rattle.rail.specs.Rail.{Shown, nothing, shows, orderOpen, accepted, World, ordered, answered, stepBy, step}
 use Rattle.rail.specs.Rail.{run, ComesLoaded, RefusesUnloaded}
-use Rattle.rail.proofs.Invariant.{Steady}
 use Rattle.rail.proofs.After.{shown-rule}
 use Rattle.rail.proofs.Shown.{never}
 use Rattle.rail.proofs.Admit.{fine-lengths, Fine, fine-check, Appends, away, out, append-ends}
