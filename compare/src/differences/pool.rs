@@ -64,25 +64,26 @@ fn said_and_left(list: &List) -> String {
     format!("{}; opened again: {}", port::last(list, port::says), port::reopens(list))
 }
 
-/// A program that is not loaded: no group has the name, or its group has ceiling 0.
+/// A program that is not loaded: no group has the name, or its group has ceiling 0. The one group is `row`.
 fn unloaded(run: &mut Run) {
-    let refused = "refused 17; opened again: left [], next 0";
-    let mistyped = named(b"row", 1);
-    let rust = taken_and_marked(run, &mistyped, b"rwo");
-    run.differ(
+    let mistyped = (
         "a record for a name that no group has",
         r#"group "row"; admit "rwo" "x"; turn"#,
-        says(rust, r#"taken, file "0\trwo\tx\n"; marked, file "0\trwo\tx\n0\n""#),
-        says(said_and_left(&on(mistyped, &[record(b"rwo", b"x")])), refused),
+        (1, &b"rwo"[..]),
+        r#"taken, file "0\trwo\tx\n"; marked, file "0\trwo\tx\n0\n""#,
     );
-    let ceiling_0 = named(b"row", 0);
-    let rust = taken_and_marked(run, &ceiling_0, b"row");
-    run.differ(
+    let ceiling_0 = (
         "a record for a group with ceiling 0",
         r#"group "row", replicas 0; admit "row" "x"; turn"#,
-        says(rust, r#"taken, file "0\trow\tx\n"; marked, file "0\trow\tx\n0\n""#),
-        says(said_and_left(&on(ceiling_0, &[record(b"row", b"x")])), refused),
+        (0, &b"row"[..]),
+        r#"taken, file "0\trow\tx\n"; marked, file "0\trow\tx\n0\n""#,
     );
+    for (what, input, (replicas, name), rust) in [mistyped, ceiling_0] {
+        let opening = named(b"row", replicas);
+        let found = taken_and_marked(run, &opening, name);
+        let port = said_and_left(&on(opening, &[record(name, b"x")]));
+        run.differ(what, input, says(found, rust), says(port, "refused 17; opened again: left [], next 0"));
+    }
 }
 
 /// The Rust over an admit that the port refuses, and a turn. The plain program that says what it must do takes the

@@ -2,59 +2,26 @@
 -- entry of the body store where it was written. So a message that is kept for a loaded program is routed to a group that
 -- may have an actor, and one for any other program would not be. Assumes nothing.
 use mathlib.Core.Path.{_≡_, refl, sym, ap, _∙_}
-use mathlib.Core.Bool.{Bool, true, false}
+use mathlib.Core.Bool.{true, false}
 use mathlib.Core.List.{List, []}
 use Prim.Native.Nat.{ℕ, zero, suc, _+_, _-_, _*_, _≤_, _<_}
 use native.Mathlib.Omega.{arith}
 use lib.Dec.{leb}
 use lib.ListN.{length, drop, getD}
 use lib.Seq.{getD-take, getD-drop}
-use borrow.Author.Tests.{leb-true, ltb-true, le-leb, lt-leb, lt-ltb}
-use Rattle.text.specs.Bytes.{write, part}
-use Rattle.text.proofs.WriteLaws.{part-below, part-written}
+use borrow.Author.Tests.{ltb-true, lt-leb, lt-ltb}
+use Rattle.text.specs.Bytes.{part}
 use Rattle.lists.specs.declared.Found.the-variants.{Entry}
-use Rattle.lists.specs.Links.{pick, Table, FREE, firstOf}
+use Rattle.lists.specs.Links.{Table, FREE, firstOf}
 use Rattle.actor.specs.declared.message.Caller.{Caller}
 use Rattle.actor.specs.declared.message.Logged.{Logged}
 use Rattle.actor.proofs.Back.{message-put}
 use Rattle.group.specs.declared.settings.Named.{Named}
 use Rattle.group.specs.declared.settings.Named.the-variants as found
 use Rattle.group.specs.Settings.{groupAt, agrees, named, groupFor, hasName, groupNamed, mayRun, loadedIn}
-use Rattle.setup.specs.Entry.{putBytes, storeEntry, newRow, keepAt, keepOf}
+use Rattle.setup.specs.Entry.{storeEntry, newRow, keepAt, keepOf}
+use Rattle.setup.proofs.Parts.{name-back}
 use Rattle.door.specs.Loaded.{OneGroup, Routes, LoadedAt}
-
-never : false ≡ true → ⊥
-never e = let z : _≡_ {A = ℕ} 0 1 = cc in omega arith
-
--- ---- a name in the store
-
--- bytes that are put leave those before them
-put-below : (store : List ℕ) (at a b : ℕ) (bytes : List ℕ) → a ≤ b → b ≤ at
-    → part (putBytes store at bytes) a b ≡ part store a b
-unfolding putBytes
-put-below store at a b bytes forward low = go (leb (at + length bytes) (length store)) refl
-  where
-    go : (t : Bool) → leb (at + length bytes) (length store) ≡ t
-        → part (pick t (write store at bytes) store) a b ≡ part store a b
-    go true fits = part-below store at a b bytes forward low (leb-true (at + length bytes) (length store) fits)
-    go false none = refl
-
--- bytes that are put where they fit stand there
-put-there : (store : List ℕ) (at : ℕ) (bytes : List ℕ) → at + length bytes ≤ length store
-    → part (putBytes store at bytes) at (at + length bytes) ≡ bytes
-unfolding putBytes
-put-there store at bytes fits =
-    rw (le-leb (at + length bytes) (length store) fits) (part-written store at bytes fits)
-
--- the name of an entry stands at its beginning, whatever the body
-name-there : (store name body : List ℕ) (e : ℕ) → length store ≡ 40960 → e < 256 → length name ≤ 32
-    → part (storeEntry store e name body) (160 * e) (160 * e + length name) ≡ name
-unfolding storeEntry
-name-there store name body e long inside short =
-    rw (lt-ltb e 256 inside)
-    (put-below (putBytes store (160 * e) name) (160 * e + 32) (160 * e) (160 * e + length name) body (omega arith)
-    (omega arith)
-    ∙ put-there store (160 * e) name (omega arith))
 
 -- ---- the group of a name
 
@@ -95,7 +62,7 @@ for-same groups store name e inside there (suc g) =
 pub one-group : OneGroup
 one-group groups count store name body e long inside short =
     for-same groups (storeEntry store e name body) name e inside
-    (part-stands (storeEntry store e name body) (160 * e) name (name-there store name body e long inside short))
+    (part-stands (storeEntry store e name body) (160 * e) name (name-back store e name body long inside short))
     count
 
 -- ---- a program that is loaded
@@ -135,4 +102,6 @@ module _ (groups : Table) (count : ℕ) (name : List ℕ) where
   unfolding loadedIn
   unloaded-lost store body e long inside short none r =
       let is = sym (one-group groups count store name body e long inside short) ∙ r .found in
-      never (sym none ∙ (ap (mayRun groups) is ∙ lt-ltb 0 (groupAt groups (r .group) .ceiling) (r .ceiling)))
+      let runs = lt-ltb 0 (groupAt groups (r .group) .ceiling) (r .ceiling) in
+      let both : false ≡ true = sym none ∙ (ap (mayRun groups) is ∙ runs) in
+      let z : _≡_ {A = ℕ} 0 1 = cc in omega arith

@@ -126,5 +126,6 @@ admits-loaded = record {
       admit-comes (after l before .state) (after l before .state .pool .turn .counts .queued)
       (after-steady l ok before .works .sound) (stored-long l ok before) name body who;
   refused = λ l ok before name body who.
-      admit-away (after l before .state) name body who (stored-long l ok before);
+      admit-away (after l before .state) (after l before .state .pool .turn .counts .queued)
+      (after-steady l ok before .works .sound) (stored-long l ok before) name body who;
 }

@@ -31,8 +31,8 @@ use Rattle.places.specs.Places.{stands, mailTotal}
 use Rattle.keeping.specs.Living.{given}
 use Rattle.handing.specs.Handing.{handed, idsOf}
 use Rattle.setup.specs.declared.settings.Settings.{Settings}
-use Rattle.front.specs.declared.state.Pool.{Pool}
 use Rattle.setup.specs.Entry.{storeEntry}
+use Rattle.front.specs.declared.state.Pool.{Pool}
 use Rattle.front.specs.declared.state.Refusal.the-variants.{NotLoaded}
 use Rattle.front.specs.declared.state.Answer.{Answer}
 use Rattle.front.specs.declared.state.Answer.the-variants as answer

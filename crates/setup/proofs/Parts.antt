@@ -22,7 +22,7 @@ use Rattle.actor.specs.declared.message.Logged.{Logged}
 use Rattle.actor.specs.declared.message.Message.{Message}
 use Rattle.actor.specs.Messages.{messageAt, putMessage, triedOf}
 use Rattle.actor.proofs.Back.{message-put, message-other}
-use Rattle.setup.specs.Entry.{Kept, putBytes, storeEntry, newRow, keepAt, keepOf}
+use Rattle.setup.specs.Entry.{Kept, putBytes, storeEntry, newRow, keepAt, keepFound, keepOf}
 use Rattle.setup.specs.Part.{bytesIn, noPart, rowPart, inLimits, partAt, partOf, Inside, Shows}
 use Rattle.setup.specs.declared.part.Part.{Part}
 
@@ -112,6 +112,62 @@ part-inside rows (Entry e) = part-rule rows e Inside (row-inside (messageAt rows
 
 -- ---- a message that is kept
 
+-- bytes that are put leave those before them
+put-below : (store : List ℕ) (at a b : ℕ) (bytes : List ℕ) → a ≤ b → b ≤ at
+    → part (putBytes store at bytes) a b ≡ part store a b
+unfolding putBytes
+put-below store at a b bytes forward low = go (leb (at + length bytes) (length store)) refl
+  where
+    go : (t : Bool) → leb (at + length bytes) (length store) ≡ t
+        → part (pick t (write store at bytes) store) a b ≡ part store a b
+    go true fits = part-below store at a b bytes forward low (leb-true (at + length bytes) (length store) fits)
+    go false none = refl
+
+-- bytes that are put where they fit stand there
+put-there : (store : List ℕ) (at : ℕ) (bytes : List ℕ) → at + length bytes ≤ length store
+    → part (putBytes store at bytes) at (at + length bytes) ≡ bytes
+unfolding putBytes
+put-there store at bytes fits =
+    rw (le-leb (at + length bytes) (length store) fits) (part-written store at bytes fits)
+
+-- the name of an entry stands at its beginning, whatever the body
+pub name-back : (store : List ℕ) (e : ℕ) (name body : List ℕ) → length store ≡ 40960 → e < 256 → length name ≤ 32
+    → part (storeEntry store e name body) (160 * e) (160 * e + length name) ≡ name
+unfolding storeEntry
+name-back store e name body long inside short =
+    rw (lt-ltb e 256 inside)
+    (put-below (putBytes store (160 * e) name) (160 * e + 32) (160 * e) (160 * e + length name) body (omega arith)
+    (omega arith)
+    ∙ put-there store (160 * e) name (omega arith))
+
+-- the store keeps its length
+put-long : (store : List ℕ) (at : ℕ) (bytes : List ℕ) → length (putBytes store at bytes) ≡ length store
+unfolding putBytes
+put-long store at bytes = go (leb (at + length bytes) (length store)) refl
+  where
+    go : (t : Bool) → leb (at + length bytes) (length store) ≡ t
+        → length (pick t (write store at bytes) store) ≡ length store
+    go true fits = length-write store at bytes (leb-true (at + length bytes) (length store) fits)
+    go false none = refl
+
+entry-long : (store : List ℕ) (e : ℕ) (name body : List ℕ) → length (storeEntry store e name body) ≡ length store
+unfolding storeEntry
+entry-long store e name body = go (ltb e 256)
+  where
+    go : (t : Bool)
+        → length (pick t (putBytes (putBytes store (160 * e) name) (160 * e + 32) body) store) ≡ length store
+    go true = put-long (putBytes store (160 * e) name) (160 * e + 32) body ∙ put-long store (160 * e) name
+    go false = refl
+
+pub keep-long : (store : List ℕ) (t rows : Table) (name body : List ℕ) (who : Caller) (id : Logged) (to : ℕ)
+    → length (keepOf store t rows name body who id to .store) ≡ length store
+unfolding keepOf keepAt
+keep-long store t rows name body who id to = go (firstOf t FREE)
+  where
+    go : (f : Found) → length (keepFound store t rows name body who id to f .store) ≡ length store
+    go (Entry e) = entry-long store e name body
+    go Nothing = refl
+
 -- name and body in an entry of the store
 module _ (store : List ℕ) (e : ℕ) (name body : List ℕ) (long : length store ≡ 40960) (inside : e < 256)
     (short-name : length name ≤ 32) (short-body : length body ≤ 128) where
@@ -128,13 +184,6 @@ module _ (store : List ℕ) (e : ℕ) (name body : List ℕ) (long : length stor
       let b = le-leb (160 * e + length name) (length store) (omega arith) in
       let c = le-leb (160 * e + 32 + length body) (length named) (omega (arith, named-long)) in
       simp (a, b, c)
-
-  name-back : part (storeEntry store e name body) (160 * e) (160 * e + length name) ≡ name
-  name-back =
-      rw stored-is
-      (part-below named (160 * e + 32) (160 * e) (160 * e + length name) body (omega arith) (omega arith)
-      (omega (arith, named-long))
-      ∙ part-written store (160 * e) name (omega arith))
 
   body-back : part (storeEntry store e name body) (160 * e + 32) (160 * e + 32 + length body) ≡ body
   body-back = rw stored-is (part-written named (160 * e + 32) body (omega (arith, named-long)))
@@ -167,7 +216,7 @@ module _ (store : List ℕ) (e : ℕ) (name body : List ℕ) (long : length stor
         let fits : Limits m e = record { entry = inside; name = short-name; body = short-body } in
         let p = sym (part-is (putMessage rows e m) e m there fits) in
         record {
-          name-is = ap (λ q. bytesIn (storeEntry store e name body) (q .name)) p ∙ name-back;
+          name-is = ap (λ q. bytesIn (storeEntry store e name body) (q .name)) p ∙ name-back store e name body long inside short-name;
           body-is = ap (λ q. bytesIn (storeEntry store e name body) (q .body)) p ∙ body-back;
         }
 
