@@ -35,6 +35,7 @@ pub mod cuts;
 pub mod differences;
 pub mod property;
 pub mod recorded;
+pub mod spellings;
 pub mod unloaded;
 
 #[cfg(test)]

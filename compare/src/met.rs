@@ -27,6 +27,11 @@ pub const POINTS: &[(&str, Where)] = &[
     ("line: done", Inside),
     ("line: done, of no open record", Inside),
     ("line: skipped", Inside),
+    ("line: two or four fields behind another spelling, skipped", Inside),
+    ("line: a record in another spelling, skipped", Anywhere),
+    ("line: a record in another spelling, skipped, of an open id", Anywhere),
+    ("line: done in another spelling, skipped", Anywhere),
+    ("line: done in another spelling, skipped, of no open record", Anywhere),
     ("opening: a message left", Inside),
     // Calls.
     ("admit: a record behind the others", Inside),

@@ -9,7 +9,7 @@ use crate::generate::case::{self, Case};
 use crate::lent::{LOG_FILL, STORE_FILL};
 use crate::limits::{GROUPS_MAX, MESSAGES, STORE_BODY, STORE_ENTRY};
 use crate::met::{Counting, counting};
-use crate::model::log::Order;
+use crate::model::log::{self, Order, Reader};
 use crate::model::pool::{self, At, Call, Event, Pool, Question};
 use crate::output::{Answer, Entry, Output, Shown};
 use crate::tables::{self, ActorRow, MessageRow, OpenRecord, Tables, list};
@@ -35,12 +35,26 @@ pub fn check_slipped(
     slip: &dyn Fn(&mut Pool),
     seen: &mut Seen,
 ) -> Result<(), String> {
-    let checked = walk(case, calls, run, slip, seen);
+    let checked = walk(case, calls, run, &log::readable, slip, seen);
     counting(Counting::Off);
     checked
 }
 
-fn walk(case: &Case, calls: usize, run: &Run, slip: &dyn Fn(&mut Pool), seen: &mut Seen) -> Result<(), String> {
+/// The same, with another reader of the file in the plain program.
+pub fn check_misread(case: &Case, calls: usize, run: &Run, reads: Reader, seen: &mut Seen) -> Result<(), String> {
+    let checked = walk(case, calls, run, reads, &|_| {}, seen);
+    counting(Counting::Off);
+    checked
+}
+
+fn walk(
+    case: &Case,
+    calls: usize,
+    run: &Run,
+    reads: Reader,
+    slip: &dyn Fn(&mut Pool),
+    seen: &mut Seen,
+) -> Result<(), String> {
     let inside = |at: usize| match case.inside {
         Some(calls) if at < calls => counting(Counting::Inside),
         _ => counting(Counting::Outside),
@@ -49,7 +63,7 @@ fn walk(case: &Case, calls: usize, run: &Run, slip: &dyn Fn(&mut Pool), seen: &m
     counting(if case.inside.is_some() { Counting::Inside } else { Counting::Outside });
     let entries = &run.output.entries;
     let opening = entries.first().ok_or("no entry for the opening")?;
-    let pool = match case::open(case) {
+    let pool = match case::open_by(reads, case) {
         Ok(pool) => pool,
         Err(number) => return refused(case, run, number, seen),
     };

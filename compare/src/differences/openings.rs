@@ -3,7 +3,7 @@ use super::rust::Rust;
 use super::{Run, port, says, unless_it_panics};
 
 /// What is different, the file, what the Rust says, what the port says.
-const FILES: [(&str, &[u8], &str, &str); 8] = [
+const FILES: [(&str, &[u8], &str, &str); 11] = [
     ("a torn done line", b"0\t\t\n0", r#"left [], next 1"#, r#"left [0 "" ""], next 1"#),
     (
         "a done line torn into another id",
@@ -17,6 +17,9 @@ const FILES: [(&str, &[u8], &str, &str); 8] = [
     ("CR before LF in a done line", b"0\t\t\n0\r\n", "left [], next 1", r#"left [0 "" ""], next 1"#),
     ("a body that is not UTF-8", b"0\t\t\xFF\n", "left [], next 0", r#"left [0 "" "\xff"], next 1"#),
     ("a line that is not UTF-8, and one after it", b"\xFF\n0\t\t\n", "left [], next 0", r#"left [0 "" ""], next 1"#),
+    ("a record with a plus before its id", b"+5\trow\tx\n", r#"left [5 "row" "x"], next 6"#, "left [], next 0"),
+    ("a record with a zero before its id", b"05\t\t\n", r#"left [5 "" ""], next 6"#, "left [], next 0"),
+    ("a done line with a zero before its id", b"5\t\t\n05\n", "left [], next 6", r#"left [5 "" ""], next 6"#),
 ];
 
 const LAST_RECORD: &[u8] = b"18446744073709551615\t\t\n";

@@ -5,7 +5,7 @@ use super::mood::{self, Mood};
 use super::{files, settings, texts};
 use crate::lent::{LOG_FILL, STORE_FILL};
 use crate::limits::{BODY_MAX, LOG_MAX, NAME_MAX, STORE, refusal};
-use crate::model::log::CallerId;
+use crate::model::log::{self, CallerId, Reader};
 use crate::model::pool::{self, Answer, Call, Pool, Question, Reply, Settings};
 use crate::rng::Rng;
 use crate::trace::{Asked, Event, Trace};
@@ -64,7 +64,7 @@ impl Case {
 
     /// A case that need not lie inside the domain at all: any bytes in the file, any lent lengths, settings out of
     /// their ranges.
-    fn outside(rng: &mut Rng) -> Case {
+    pub fn outside(rng: &mut Rng) -> Case {
         let mut settings = settings::settings(rng);
         let file = files::any(rng, &settings);
         if rng.chance(6) {
@@ -152,13 +152,12 @@ impl Maker {
         let (calls, sizes) = (Vec::new(), vec![0]);
         let mut case = Case { settings, log_len, store_len, file, calls, sizes, inside: None, trace };
         let Ok(pool) = open(&case) else { return Err(Box::new(case)) };
-        // The Rust loses the CR at the end of a left body when it rewrites its log.
-        let strips = pool.pending.iter().any(|&e| pool.body(e).last() == Some(&b'\r'));
+        let inside = opens_inside(&pool, &case.file);
         case.sizes = vec![pool.counters.size];
         case.trace.log = LogView::of(&pool);
         case.trace.pool = PoolView::of(&pool);
         let mut maker = Maker { pool, case, callers: 0 };
-        if strips {
+        if !inside {
             maker.leave(0);
             maker.case.inside = None;
         }
@@ -354,6 +353,13 @@ impl Maker {
     }
 }
 
+/// Whether an opening lies inside the domain, as far as `files::file` leaves it open. The Rust reads ids in other
+/// spellings too, and loses the CR at the end of a left body when it rewrites its log.
+fn opens_inside(pool: &Pool, file: &[u8]) -> bool {
+    let strips = pool.pending.iter().any(|&e| pool.body(e).last() == Some(&b'\r'));
+    log::one_spelling(file) && !strips
+}
+
 /// Any call with any arguments.
 fn any_call(rng: &mut Rng, settings: &Settings) -> Call {
     match rng.below(12) {
@@ -375,8 +381,13 @@ fn any_call(rng: &mut Rng, settings: &Settings) -> Call {
 
 /// The plain program, opened on a case.
 pub fn open(case: &Case) -> Result<Pool, u8> {
+    open_by(&log::readable, case)
+}
+
+/// The same by any reader of its file.
+pub fn open_by(reads: Reader, case: &Case) -> Result<Pool, u8> {
     let mut log = vec![LOG_FILL; case.log_len];
     let put = case.file.len().min(case.log_len);
     log[..put].copy_from_slice(&case.file[..put]);
-    pool::open(&case.settings, &log, case.file.len(), &vec![STORE_FILL; case.store_len])
+    pool::open_by(reads, &case.settings, &log, case.file.len(), &vec![STORE_FILL; case.store_len])
 }

@@ -1,24 +1,32 @@
 //! Random files for an opening.
 use super::texts;
 use crate::limits::{BODY_MAX, NAME_MAX};
+use crate::model::log;
 use crate::model::pool::Settings;
 use crate::rng::Rng;
 
-/// Lines that an opening may read: UTF-8 with no CR before LF. Left messages may be too long or end in CR.
+/// A file for a case inside the domain of equality: UTF-8 with no CR before LF, and no id in another spelling. A left
+/// message may still be too long or end in CR.
 pub fn file(rng: &mut Rng, settings: &Settings) -> Vec<u8> {
+    lines(rng, settings, id)
+}
+
+/// Lines that an opening may read. Those of one or three fields begin with what `first` makes; the others, which say
+/// nothing, with an id in any spelling.
+fn lines(rng: &mut Rng, settings: &Settings, first: fn(&mut Rng) -> String) -> Vec<u8> {
     if rng.chance(300) {
         return crowd(rng, settings);
     }
     let lines = if rng.chance(3) { 0 } else { rng.below(9) };
     let mut file = String::new();
     for _ in 0..lines {
-        let mut line = id(rng);
         let fields: &[usize] = match rng.below(10) {
             0 | 1 => &[],
             2 => &[NAME_MAX],
             3 => &[NAME_MAX, BODY_MAX, 8],
             _ => &[NAME_MAX, BODY_MAX],
         };
+        let mut line = if matches!(fields.len(), 0 | 2) { first(rng) } else { any_id(rng) };
         for &most in fields {
             line.push('\t');
             line.push_str(&field(rng, settings, most));
@@ -49,9 +57,13 @@ fn crowd(rng: &mut Rng, settings: &Settings) -> Vec<u8> {
     file.into_bytes()
 }
 
-/// Any bytes, in lines of a log or not.
+/// Any bytes, in lines of a log or not, with ids in any spelling.
 pub fn any(rng: &mut Rng, settings: &Settings) -> Vec<u8> {
-    let mut file = file(rng, settings);
+    let mut file = lines(rng, settings, any_id);
+    for _ in 0..rng.below(3) {
+        let line = respelled_line(rng, &file);
+        file.extend_from_slice(line.as_bytes());
+    }
     for _ in 0..rng.below(4) {
         let at = rng.below(file.len() as u64 + 1) as usize;
         match rng.below(4) {
@@ -67,22 +79,54 @@ pub fn any(rng: &mut Rng, settings: &Settings) -> Vec<u8> {
     file
 }
 
-/// A number in one of the spellings that an id may have, or nearly one.
+/// A record or a done line in another spelling, most often of an id that is open in the file.
+fn respelled_line(rng: &mut Rng, file: &[u8]) -> String {
+    let open = log::open_records(file);
+    let number = if open.is_empty() || rng.chance(4) { rng.below(7) } else { rng.pick(&open).0.0 };
+    let id = respelled(rng, number);
+    if rng.chance(2) { format!("{id}\n") } else { format!("{id}\ta\tb\n") }
+}
+
+/// An id, or a field that is nearly one and is none on either side.
 fn id(rng: &mut Rng) -> String {
     let number = rng.below(7);
     match rng.below(24) {
-        0 => format!("+{number}"),
-        1 => format!("0{number}"),
-        2 => format!("00000000000000000000000000{number}"),
-        3 => format!("{number}x"),
-        4 => String::new(),
-        5 => "+".into(),
-        6 => "18446744073709551616".into(),
-        7 => format!("-{number}"),
-        8 => format!("++{number}"),
-        9 if rng.chance(4) => "18446744073709551614".into(),
-        10 => format!("{}", rng.range(8, 120)),
+        0 | 1 => format!("{number}x"),
+        2 => String::new(),
+        3 => "+".into(),
+        4 => format!("{}18446744073709551616", rng.pick(&["", "", "+", "0"])),
+        5 => format!("-{number}"),
+        6 => format!("++{number}"),
+        7 if rng.chance(4) => "18446744073709551614".into(),
+        8 | 9 => format!("{}", rng.range(8, 120)),
         _ => format!("{number}"),
+    }
+}
+
+/// The same, or an id in another spelling, now and then one of the largest.
+fn any_id(rng: &mut Rng) -> String {
+    match rng.below(24) {
+        0..=7 => {
+            let number = rng.below(7);
+            respelled(rng, number)
+        }
+        8 => {
+            let number = u64::MAX - rng.below(3);
+            respelled(rng, number)
+        }
+        _ => id(rng),
+    }
+}
+
+/// A number in a spelling that the Rust reads and that is no id here: with a plus sign, with zeros before its digits,
+/// or with both.
+pub fn respelled(rng: &mut Rng, number: u64) -> String {
+    match rng.below(8) {
+        0..=2 => format!("+{number}"),
+        3 | 4 => format!("0{number}"),
+        5 => format!("+0{number}"),
+        6 => format!("{number:021}"),
+        _ => format!("{}{number}", "0".repeat(rng.range(2, 70) as usize)),
     }
 }
 

@@ -92,12 +92,8 @@ pub fn done_line(id: LogId) -> Vec<u8> {
     out
 }
 
-/// A field as a number, in any spelling with digits alone, and at most one plus sign before them.
-pub fn read_id(field: &[u8]) -> Option<u64> {
-    let digits = if field.first() == Some(&b'+') { &field[1..] } else { field };
-    if digits.is_empty() {
-        return None;
-    }
+/// Digits as a number of 64 bits.
+fn decimal(digits: &[u8]) -> Option<u64> {
     let mut value: u64 = 0;
     for &b in digits {
         if !b.is_ascii_digit() {
@@ -106,6 +102,21 @@ pub fn read_id(field: &[u8]) -> Option<u64> {
         value = value.checked_mul(10)?.checked_add((b - b'0') as u64)?;
     }
     Some(value)
+}
+
+/// A field as an id: `0`, or digits of which the first is not `0`, of a value up to 2^64-1. No two fields are one id.
+pub fn read_id(field: &[u8]) -> Option<u64> {
+    match field {
+        [b'0'] => Some(0),
+        [b'1'..=b'9', ..] => decimal(field),
+        _ => None,
+    }
+}
+
+/// The id that the Rust reads in a field that is none here: it takes one plus sign, and zeros before other digits.
+pub fn other_spelling(field: &[u8]) -> Option<u64> {
+    let digits = field.strip_prefix(b"+").unwrap_or(field);
+    if digits.is_empty() || read_id(field).is_some() { None } else { decimal(digits) }
 }
 
 // ---- the reader ----
@@ -118,8 +129,13 @@ pub enum Line<'a> {
     Skip,
 }
 
+/// The fields of a line: one at least.
+pub fn fields(line: &[u8]) -> Vec<&[u8]> {
+    line.split(|&b| b == b'\t').collect()
+}
+
 pub fn read_line(line: &[u8]) -> Line<'_> {
-    let fields: Vec<&[u8]> = line.split(|&b| b == b'\t').collect();
+    let fields = fields(line);
     match (fields.len(), read_id(fields[0])) {
         (1, Some(id)) => Line::Done(id),
         (3, Some(id)) => Line::Record(id, fields[1], fields[2]),
@@ -173,12 +189,38 @@ pub fn read_file(file: &[u8]) -> Result<Reading, u8> {
                     Some(_) => met!("line: a record, set again"),
                 }
             }
-            Line::Skip => met!("line: skipped"),
+            Line::Skip => met_skipped(&file[a..b], |id| left.contains_key(&id)),
         }
     }
     let left = left.into_iter().map(|(id, (name, body))| Left { id: LogId(id), name, body }).collect();
     Ok(Reading { left, next })
 }
+
+/// Which kind of line was skipped, and whether the id that the Rust reads in it is that of an open record.
+fn met_skipped(line: &[u8], open: impl Fn(u64) -> bool) {
+    let fields = fields(line);
+    match (fields.len(), other_spelling(fields[0])) {
+        (3, Some(id)) if open(id) => met!("line: a record in another spelling, skipped, of an open id"),
+        (3, Some(_)) => met!("line: a record in another spelling, skipped"),
+        (1, Some(id)) if open(id) => met!("line: done in another spelling, skipped"),
+        (1, Some(_)) => met!("line: done in another spelling, skipped, of no open record"),
+        (2 | 4, Some(_)) => met!("line: two or four fields behind another spelling, skipped"),
+        _ => met!("line: skipped"),
+    }
+}
+
+/// True where no whole line says something to the Rust by an id in another spelling: the domain of equality has such
+/// files only. A line of other than one or three fields says nothing to either side, whatever it begins with.
+pub fn one_spelling(file: &[u8]) -> bool {
+    let says_more = |line: &[u8]| {
+        let fields = fields(line);
+        matches!(fields.len(), 1 | 3) && other_spelling(fields[0]).is_some()
+    };
+    !whole_lines(file).into_iter().any(|(a, b)| says_more(&file[a..b]))
+}
+
+/// How a file is read: `readable`, or a slip of it.
+pub type Reader<'a> = &'a dyn Fn(&[u8]) -> Result<Reading, u8>;
 
 /// Refusals 3 and 4 of opening, else what is left.
 pub fn readable(file: &[u8]) -> Result<Reading, u8> {

@@ -1,5 +1,6 @@
 //! Random files: what a log may have in it after any life and any damage.
 use super::texts;
+use crate::generate::files::respelled;
 use crate::model::log::{self, LogId};
 use crate::rng::Rng;
 
@@ -59,7 +60,7 @@ fn line(file: &mut Vec<u8>, fields: &[&[u8]]) {
     file.push(b'\n');
 }
 
-/// An id as someone may have written it.
+/// An id as someone may have written it, often in another spelling.
 fn id(rng: &mut Rng) -> Vec<u8> {
     let value = match rng.below(30) {
         0 => u64::MAX - rng.below(3),
@@ -67,13 +68,11 @@ fn id(rng: &mut Rng) -> Vec<u8> {
         _ => rng.below(6),
     };
     let text = match rng.below(24) {
-        0 => format!("+{value}"),
-        1 => format!("0{value}"),
-        2 => format!("+000{value}"),
-        3 => format!("-{value}"),
-        4 => format!("{value}0000000000000000000"),
-        5 => "18446744073709551616".into(),
-        6 => (*rng.pick(&["", "+", "++1", " 1", "1 ", "x", "0x1", "+-1"])).into(),
+        0..=5 => respelled(rng, value),
+        6 => format!("-{value}"),
+        7 => format!("{value}0000000000000000000"),
+        8 => "18446744073709551616".into(),
+        9 => (*rng.pick(&["", "+", "++1", " 1", "1 ", "x", "0x1", "+-1", "1+"])).into(),
         _ => value.to_string(),
     };
     text.into_bytes()

@@ -1,6 +1,7 @@
 //! A list inside the domain of equality, made by the Rust: the plain program says what must follow, and the Rust must
 //! do it, question by question, delivery by delivery, mark by mark.
 use crate::limits::refusal;
+use crate::model::log;
 use crate::model::pool::{Answer, Call, Event as Done, Pool, Question, Reply};
 use crate::oracle::run;
 use crate::property::list::List;
@@ -15,6 +16,9 @@ pub fn the_rust(list: &List, path: &Path) -> Result<u64, String> {
 
 /// What the Rust must do over a list; an error where the list leaves the domain of equality.
 pub fn traced(list: &List) -> Result<Trace, String> {
+    if !log::one_spelling(&list.opening.file) {
+        return Err("the file has an id in another spelling, outside the domain of equality".into());
+    }
     let mut pool = list.opening.model().map_err(|number| format!("the opening is refused: {number}"))?;
     let trace = trace(&mut pool, &list.calls)?;
     if pool.outside_domain() { Err("the list leaves the domain of equality".into()) } else { Ok(trace) }

@@ -34,6 +34,10 @@ fn logs() -> Vec<Chosen> {
     let filled = |name: usize, body: usize, byte: u8| Text(vec![byte; name], vec![byte; body]);
     let crowd: String =
         (0..12).rev().map(|id| format!("{id}\t\t\n")).chain((1..11).map(|id| format!("{id}\n"))).collect();
+    let no_ids = "5x\t\t\n-5\t\t\n++5\t\t\n\t\t\n5\t\t\n5x\n-5\n++5\n+\n\n";
+    let digits = "10\ta\tb\n1\t\t\n18446744073709551614\tc\td\n1\n0\t\t\n0\n";
+    // Two or four fields are skipped by both sides, whatever the first is.
+    let nothing = "5\trow\n+5\trow\n\n+\n-1\n1\ta\tb\tc\n01\ta\tb\tc\n 2\t\t\nx\ty\tz\n2\t\t\n";
     let x = || Row(b"x");
     vec![
         ("an empty file", 64, 64, file(""), vec![x()]),
@@ -41,9 +45,9 @@ fn logs() -> Vec<Chosen> {
         ("the shortest record", 64, 64, file(""), vec![filled(0, 0, 0)]),
         ("escapes in a file", 64, 64, file("0\ta\\\t\\q\n1\t\\\\t\t\\t\\n\\\\\n"), vec![]),
         ("records in falling order, one done", 64, 64, file("3\trow\tx\n1\trow\ty\n3\n"), vec![Turn]),
-        ("an id with a plus", 64, 64, file("+5\trow\tx\n"), vec![x()]),
-        ("ids in other spellings", 64, 64, file("007\ta\tb\n+7\n8\t\t\n+008\tc\td\n"), vec![Turn]),
-        ("lines that say nothing", 100, 64, file("5\trow\n\n+\n-1\n1\ta\tb\tc\n 2\t\t\nx\ty\tz\n2\t\t\n"), vec![Turn]),
+        ("fields that are no ids", 100, 64, file(no_ids), vec![x()]),
+        ("ids of 1, 2 and 20 digits", 100, 64, file(digits), vec![Turn]),
+        ("lines that say nothing", 100, 64, file(nothing), vec![Turn]),
         ("an id above the largest", 100, 64, file("18446744073709551616\ta\tb\n1\t\t\n"), vec![x()]),
         ("the largest record id", 100, 64, file("18446744073709551614\ta\tb\n"), vec![Turn]),
         ("a done line with the last id", 100, 64, file("1\ta\tb\n18446744073709551615\n"), vec![]),

@@ -1,8 +1,9 @@
 //! What an opening makes of a file (docs/RULES.md, section 2; row ends 3 to 5), and what refuses it (section 8).
 use super::{lent, opened, settings};
 use crate::limits::{GROUPS_MAX, LOG_MAX, STORE, refusal};
-use crate::model::log::{Order, image, readable};
-use crate::model::pool::{self, Answer, Question};
+use crate::model::log::{Left, Order, image, readable};
+use crate::model::pool::{self, Answer, Pool, Question};
+use crate::spellings::{self, End, Stated};
 
 /// The ids that are left, the next id, and the file that the opening writes.
 fn read(file: &[u8]) -> (Vec<u64>, u64, Vec<u8>) {
@@ -23,9 +24,26 @@ fn row_end_4_a_torn_line_is_no_mark() {
 }
 
 #[test]
-fn row_end_5_a_plus_and_a_line_of_two_fields() {
-    assert_eq!(read(b"+5\trow\tx\n").0, [5]);
+fn row_end_5_a_plus_or_a_line_of_two_fields_leaves_none() {
+    assert_eq!(read(b"+5\trow\tx\n"), (vec![], 0, vec![]));
     assert_eq!(read(b"5\trow\n"), (vec![], 0, vec![]));
+}
+
+#[test]
+fn an_id_has_one_spelling() {
+    for Stated { what, opening, end } in spellings::files() {
+        let found = opening.model().map_err(u64::from).map(|pool| End {
+            left: pool.pending.iter().map(|&entry| handed_back(&pool, entry)).collect(),
+            next: pool.counters.next,
+            log: pool.log[..pool.counters.size].to_vec(),
+        });
+        assert_eq!(found, end, "{what}");
+    }
+}
+
+fn handed_back(pool: &Pool, entry: usize) -> Left {
+    let id = pool.message(entry).id.expect("a log id");
+    Left { id, name: pool.name(entry).to_vec(), body: pool.body(entry).to_vec() }
 }
 
 #[test]

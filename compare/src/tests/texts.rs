@@ -1,5 +1,6 @@
 //! Fields, ids, records and lines (docs/RULES.md, section 2; row ends 1, 2 and 5).
-use crate::model::log::{Line, LogId, done_line, escape, read_id, read_line, record, unescape, whole_lines};
+use crate::model::log::{Line, LogId, done_line, escape, one_spelling, other_spelling, read_id, read_line};
+use crate::model::log::{record, unescape, whole_lines};
 
 #[test]
 fn three_bytes_are_escaped() {
@@ -37,21 +38,67 @@ fn row_end_1_how_a_record_is_written() {
 }
 
 #[test]
-fn ids_in_any_spelling() {
-    for (field, id) in [(&b"0"[..], 0), (b"+5", 5), (b"007", 7), (b"+0012", 12), (b"18446744073709551615", u64::MAX)] {
-        assert_eq!(read_id(field), Some(id));
+fn which_fields_are_ids() {
+    for (field, id) in [(&b"0"[..], 0), (b"5", 5), (b"10", 10), (b"18446744073709551615", u64::MAX)] {
+        assert_eq!((read_id(field), other_spelling(field)), (Some(id), None));
     }
-    for field in [&b""[..], b"+", b"++1", b"-1", b" 1", b"1 ", b"1a", b"18446744073709551616"] {
-        assert_eq!(read_id(field), None);
+    for (field, id) in [(&b"+5"[..], 5), (b"007", 7), (b"+0012", 12), (b"00", 0), (b"018446744073709551615", u64::MAX)]
+    {
+        assert_eq!((read_id(field), other_spelling(field)), (None, Some(id)));
+    }
+    for field in [&b""[..], b"+", b"++1", b"-1", b" 1", b"1 ", b"1a", b"0x1", b"18446744073709551616"] {
+        assert_eq!((read_id(field), other_spelling(field)), (None, None));
+    }
+}
+
+/// The Rust reads a field with `parse`. Of what it takes an id is what would be written for it, all else is another
+/// spelling.
+#[test]
+fn an_id_is_what_is_written_for_it() {
+    for field in short_fields("+-0159 x").into_iter().chain(long_fields()) {
+        let parsed: Option<u64> = field.parse().ok();
+        let (same, other) = (parsed.filter(|id| id.to_string() == field), parsed.filter(|id| id.to_string() != field));
+        assert_eq!((read_id(field.as_bytes()), other_spelling(field.as_bytes())), (same, other), "{field}");
+    }
+}
+
+/// Every field of up to four of these signs.
+fn short_fields(signs: &str) -> Vec<String> {
+    let mut fields = vec![String::new()];
+    let mut at = 0;
+    while fields[at].len() < 4 {
+        let longer: Vec<String> = signs.chars().map(|sign| format!("{}{sign}", fields[at])).collect();
+        fields.extend(longer);
+        at += 1;
+    }
+    fields
+}
+
+/// Numbers near the end of the ids, with and without something in front.
+fn long_fields() -> Vec<String> {
+    let numbers = ["9999999999999999999", "18446744073709551614", "18446744073709551615", "18446744073709551616"];
+    let in_front = |number: &str| ["", "+", "0", "+0", "++", "-", "000"].map(|front| front.to_string() + number);
+    numbers.into_iter().flat_map(in_front).collect()
+}
+
+#[test]
+fn which_files_the_domain_has() {
+    for file in [&b""[..], b"5\t\t\n5\n0\t\t\n0\n", b"5x\t\t\n-5\n\n+\n++5\t\t\n\t\t\n", b"018446744073709551616\n"] {
+        assert!(one_spelling(file), "{}", file.escape_ascii());
+    }
+    // A line of two or four fields is skipped by both sides.
+    assert!(one_spelling(b"+5\ta\n05\ta\tb\tc\n"));
+    for file in [&b"+5\t\t\n"[..], b"05\t\t\n", b"5\t\t\n05\n", b"+0\n", b"x\n018446744073709551615\ta\tb\nx\n"] {
+        assert!(!one_spelling(file), "{}", file.escape_ascii());
     }
 }
 
 #[test]
 fn row_end_5_which_lines_say_something() {
-    assert_eq!(read_line(b"+5\trow\tx"), Line::Record(5, b"row", b"x"));
+    assert_eq!(read_line(b"5\trow\tx"), Line::Record(5, b"row", b"x"));
     assert_eq!(read_line(b"0\t\t"), Line::Record(0, b"", b""));
     assert_eq!(read_line(b"3"), Line::Done(3));
-    for line in [&b"5\trow"[..], b"", b"x", b"1\ta\tb\tc", b"x\ta\tb"] {
+    for line in [&b"5\trow"[..], b"", b"x", b"1\ta\tb\tc", b"x\ta\tb", b"+5\trow\tx", b"05\trow\tx", b"+5", b"05"] {
         assert_eq!(read_line(line), Line::Skip);
     }
 }

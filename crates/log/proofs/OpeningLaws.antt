@@ -12,8 +12,9 @@ use lib.Seq.{take-append-le, take-append-add}
 use Rattle.text.specs.Format.{LF, Message, recordText, recordLine, line, printId, lines}
 use Rattle.text.specs.Bytes.{Free}
 use Rattle.text.specs.Line.{Line, put, done, other, putOf, doneOf, readFields, readLine}
-use Rattle.text.proofs.FormatLaws.{unescape-escape, readId-printId, fields-record, fields-done, recordText-free}
+use Rattle.text.proofs.FormatLaws.{unescape-escape, fields-record, fields-done, recordText-free}
 use Rattle.text.proofs.FormatLaws.{lines-line, lines-torn}
+use Rattle.text.proofs.Spelling.{readId-printId}
 use Rattle.log.specs.Stands.{Small}
 use Rattle.log.specs.Opening.{insert, remove, Read, takeIn, readLines, fits, allFit, Rising, opened, judge}
 use Rattle.log.specs.Opening.{image}

@@ -3,18 +3,17 @@ use mathlib.Core.Path.{_≡_, refl, ap, _∙_}
 use mathlib.Core.Bool.{Bool, true, false}
 use mathlib.Core.Option.{Option, none, some}
 use mathlib.Core.List.{List, [], _∷_, _++_}
-use Prim.Native.Nat.{ℕ, zero, suc, _+_, _-_, _*_, _/_, _^_, _≤_, _<_}
-use native.Mathlib.Nat.{mul-le-mul-right}
+use Prim.Native.Nat.{ℕ, suc, _+_, _≤_, _<_}
 use native.Mathlib.Omega.{arith}
-use borrow.Author.Tests.{ltb-true, ltb-false}
-use lib.Dec.{eqb, leb, ltb}
+use lib.Dec.{eqb, ltb}
 use lib.ListN.{length, length-append}
-use Rattle.text.specs.Format.{TAB, LF, PLUS, DIGIT0, BACKSLASH, escapeByte, escape, escaped, unescape, unescape-next}
-use Rattle.text.specs.Format.{digits, printId, decimal, below64, readDigits, readId, Message, recordText, recordLine}
-use Rattle.text.specs.Format.{line, joinHead, split, allButLast, lines, fields}
+use Rattle.text.specs.Format.{TAB, LF, BACKSLASH, escapeByte, escape, escaped, unescape, unescape-next, printId}
+use Rattle.text.specs.Format.{readId, Message, recordText, recordLine, line}
+use Rattle.text.specs.Format.{joinHead, split, allButLast, lines, fields}
 use Rattle.text.specs.Bytes.{Free}
 use Rattle.text.specs.Line.{Line, put, done, other, putOf, doneOf, readFields, readLine}
 use Rattle.text.proofs.FormatLaws.{split-some}
+use Rattle.text.proofs.Spelling.{readId-length}
 use Rattle.log.specs.Opening.{insert, remove, Read, takeIn, readLines, nothingRead, readFile, image}
 
 -- escaped bytes
@@ -69,60 +68,6 @@ mutual
     escapeByte-two (escaped b),
     escape-unescape bs (f .1) (g .1),
   )
-
--- decimal numbers
-decimal-below : (bs : List ℕ) (high n : ℕ) → decimal high bs ≡ some n → n < suc high * 10 ^ length bs
-unfolding decimal
-decimal-below [] high n e = let q : high ≡ n = cc in omega arith
-decimal-below (b ∷ bs) high n e = at-low (leb DIGIT0 b) refl (decimal-below bs (high * 10 + (b - DIGIT0)) n)
-  where
-    at-high : (t : Bool) → ltb b (DIGIT0 + 10) ≡ t → leb DIGIT0 b ≡ true → (decimal (high * 10 + (b - DIGIT0)) bs
-        ≡ some n → n < suc (high * 10 + (b - DIGIT0)) * 10 ^ length bs) → n < suc high * 10 ^ suc (length bs)
-    at-high true p q ih =
-        let d : suc (high * 10 + (b - DIGIT0)) ≤ suc high * 10 = omega (arith, ltb-true b (DIGIT0 + 10) p) in
-        let power : 10 ^ suc (length bs) ≡ 10 * 10 ^ length bs = omega arith in
-        rw power (omega (arith, ih (cc), mul-le-mul-right (10 ^ length bs) d))
-    at-high false p q ih = let z : _≡_ {A = ℕ} 0 1 = cc in absurd (omega arith)
-
-    at-low : (t : Bool) → leb DIGIT0 b ≡ t → (decimal (high * 10 + (b - DIGIT0)) bs ≡ some n
-        → n < suc (high * 10 + (b - DIGIT0)) * 10 ^ length bs) → n < suc high * 10 ^ suc (length bs)
-    at-low true p ih = at-high (ltb b (DIGIT0 + 10)) refl p ih
-    at-low false p ih = let z : _≡_ {A = ℕ} 0 1 = cc in absurd (omega arith)
-
-digits-short : (places n k : ℕ) → 0 < k → n < 10 ^ k → length (digits places n) ≤ k
-unfolding digits
-digits-short zero n k h l = omega arith
-digits-short (suc places) n zero h l = omega arith
-digits-short (suc places) n (suc k) h l = at (ltb n 10) refl k l (digits-short places (n / 10) k)
-  where
-    at : (t : Bool) → ltb n 10 ≡ t → (k : ℕ) → n < 10 ^ suc k → (0 < k → n / 10 < 10 ^ k
-        → length (digits places (n / 10)) ≤ k) → length (digits (suc places) n) ≤ suc k
-    at true e k l ih = rw (e, digits) (omega arith)
-    at false e zero l ih = absurd (omega (arith, ltb-false n 10 e))
-    at false e (suc k) l ih = rw (e, digits) (simp length-append (omega (arith, ih (omega arith) (omega arith))))
-
--- an id is printed with no more bytes than it was read from
-readDigits-short : (bs : List ℕ) (n : ℕ) → readDigits bs ≡ some n → length (printId n) ≤ length bs
-unfolding readDigits printId below64
-readDigits-short [] n e = let z : _≡_ {A = ℕ} 0 1 = cc in absurd (omega arith)
-readDigits-short (b ∷ bs) n e = digits-short 20 n (suc (length bs)) (omega arith) (at (decimal 0 (b ∷ bs)) refl)
-  where
-    at-below : (k : ℕ) → decimal 0 (b ∷ bs) ≡ some k → (t : Bool) → ltb k (2 ^ 64) ≡ t → n < 10 ^ suc (length bs)
-    at-below k p true q = let same : k ≡ n = cc in omega (arith, decimal-below (b ∷ bs) 0 k p)
-    at-below k p false q = let z : _≡_ {A = ℕ} 0 1 = cc in absurd (omega arith)
-
-    at : (o : Option ℕ) → decimal 0 (b ∷ bs) ≡ o → n < 10 ^ suc (length bs)
-    at none p = let z : _≡_ {A = ℕ} 0 1 = cc in absurd (omega arith)
-    at (some k) p = at-below k p (ltb k (2 ^ 64)) refl
-
-readId-short : (bs : List ℕ) (n : ℕ) → readId bs ≡ some n → length (printId n) ≤ length bs
-unfolding readId
-readId-short [] n e = let z : _≡_ {A = ℕ} 0 1 = cc in absurd (omega arith)
-readId-short (b ∷ bs) n e = at (eqb b PLUS) refl
-  where
-    at : (t : Bool) → eqb b PLUS ≡ t → length (printId n) ≤ suc (length bs)
-    at true p = omega (arith, readDigits-short bs n (cc))
-    at false p = readDigits-short (b ∷ bs) n (cc)
 
 -- the pieces of a text, with a separator for each
 unfoldable pub weight : List (List ℕ) → ℕ
@@ -205,7 +150,7 @@ record-short text m f e = at (split TAB text) refl (weight-split TAB text) (spli
         let d : m .body ≡ unescape c = cc in
         rw (length-recordLine m, i, n, d) (omega (
           arith,
-          readId-short a id p,
+          readId-length a id p,
           escape-unescape b (g .1 .0) (h .1 .0),
           escape-unescape c (g .1 .1 .0) (h .1 .1 .0),
         ))

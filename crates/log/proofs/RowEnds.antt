@@ -1,7 +1,7 @@
--- The row ends and the refusals' examples, computed.
+-- The row ends, the refusals' examples and the spellings of ids, computed.
 use mathlib.Core.Path.{_≡_, refl}
 use mathlib.Core.Bool.{true}
-use Rattle.log.specs.RowEnds.{rowEnds, refusals, allTrue}
+use Rattle.log.specs.RowEnds.{rowEnds, refusals, spellings, allTrue}
 use Rattle.text.specs.Format
 use Rattle.text.specs.Line
 use Rattle.text.specs.Bytes
@@ -35,3 +35,14 @@ unfolding RowEnds.allTrue RowEnds.refusals RowEnds.refusedBy RowEnds.answeredBy 
     Log.extended Log.movable Log.squeezed Log.settled Log.compacted Log.withRecord Log.appendRefusal Log.appended
     Log.appendOf Log.findRow Log.withoutRow Log.keeps Log.markedDone Log.markOf Log.syncOf Recovery.didCall
 refusals-hold = refl
+
+pub spellings-hold : allTrue spellings ≡ true
+unfolding RowEnds.allTrue RowEnds.spellings RowEnds.sameBytes RowEnds.ids RowEnds.leaves RowEnds.refusedBy
+    RowEnds.rowName RowEnds.spelled RowEnds.five RowEnds.zeroFive RowEnds.plusFive RowEnds.lastId
+    Format.escapeByte Format.escape Format.escaped Format.unescape Format.digits Format.printId Format.decimal
+    Format.below64 Format.readDigits Format.readId Format.recordText Format.line Format.recordLine
+    Format.joinHead Format.split Format.allButLast Format.lines Format.fields
+    Line.putOf Line.doneOf Line.readFields Line.readLine
+    Opening.insert Opening.remove Opening.takeIn Opening.readLines Opening.readFile Opening.fits Opening.allFit
+    Opening.judge Opening.opening Opening.image
+spellings-hold = refl

@@ -1,11 +1,11 @@
--- The row ends 1 to 7 that are marked to be proved, as one list; and the examples of the refusals that belong to the
--- log, as another.
+-- The row ends 1 to 7 that are marked to be proved, as one list; the examples of the refusals that belong to the log,
+-- as another; and files that have ids in other spellings, as a third.
 use mathlib.Core.Bool.{Bool, true, false, _&&_}
 use mathlib.Core.List.{List, [], _∷_, _++_}
 use Prim.Native.Nat.{ℕ, zero, suc}
 use lib.Dec.{eqb}
 use lib.ListN.{length, replicate}
-use Rattle.text.specs.Format.{Message, recordLine, unescape}
+use Rattle.text.specs.Format.{TAB, Message, recordLine, line, unescape}
 use Rattle.log.specs.declared.Answer.{Answer}
 use Rattle.log.specs.declared.Answer.the-variants.{Ordered, Refused}
 use Rattle.log.specs.Opening.{Opening, refused, opened, opening, image}
@@ -89,8 +89,7 @@ rowEnds =
     leaves (opening tornOne) (1 ∷ 12 ∷ []) 13
     (49 ∷ 9 ∷ 114 ∷ 111 ∷ 119 ∷ 9 ∷ 121 ∷ 10 ∷ 49 ∷ 50 ∷ 9 ∷ 114 ∷ 111 ∷ 119 ∷ 9 ∷ 120 ∷ 10 ∷ []) ∷
     -- 5
-    leaves (opening (43 ∷ 53 ∷ 9 ∷ 114 ∷ 111 ∷ 119 ∷ 9 ∷ 120 ∷ 10 ∷ [])) (5 ∷ []) 6
-    (53 ∷ 9 ∷ 114 ∷ 111 ∷ 119 ∷ 9 ∷ 120 ∷ 10 ∷ []) ∷
+    leaves (opening (43 ∷ 53 ∷ 9 ∷ 114 ∷ 111 ∷ 119 ∷ 9 ∷ 120 ∷ 10 ∷ [])) [] 0 [] ∷
     leaves (opening (53 ∷ 9 ∷ 114 ∷ 111 ∷ 119 ∷ 10 ∷ [])) [] 0 [] ∷
     -- 6
     eqb (sizeAfter 64 20 (two ++ (mark 0 ∷ []))) 18 ∷
@@ -121,6 +120,40 @@ refusals =
     answeredBy (appendOf fullLog [] [] .answer) 8 ∷
     answeredBy (appendOf (emptyLog 64 18446744073709551615) [] [] .answer) 9 ∷
     answeredBy (appendOf (after 64 (emptyLog 16 0) two) rowName (122 ∷ []) .answer) 10 ∷
+    []
+
+-- a record's line with its id in some spelling
+unfoldable pub spelled : List ℕ → List ℕ → List ℕ → List ℕ
+spelled id name body = line (id ++ TAB ∷ name ++ TAB ∷ body)
+
+unfoldable pub five : List ℕ
+five = 53 ∷ []
+
+unfoldable pub zeroFive : List ℕ
+zeroFive = 48 ∷ 53 ∷ []
+
+unfoldable pub plusFive : List ℕ
+plusFive = 43 ∷ 53 ∷ []
+
+-- the last id, 2 ^ 64 - 1
+unfoldable pub lastId : List ℕ
+lastId =
+    49 ∷ 56 ∷ 52 ∷ 52 ∷ 54 ∷ 55 ∷ 52 ∷ 52 ∷ 48 ∷ 55 ∷ 51 ∷ 55 ∷ 48 ∷ 57 ∷ 53 ∷ 53 ∷ 49 ∷ 54 ∷ 49 ∷ 53 ∷ []
+
+-- A line whose id is spelled otherwise is as good as absent: 05 neither sets 5 nor removes it, +5 does not set it
+-- again, 00 does not remove 0, 00 sets nothing, and the last id behind a 0 is no 3. 0 and 10 are ids.
+unfoldable pub spellings : List Bool
+spellings =
+    leaves (opening (spelled zeroFive rowName (120 ∷ []) ++ spelled five rowName (121 ∷ []) ++ line zeroFive))
+    (5 ∷ []) 6 (spelled five rowName (121 ∷ [])) ∷
+    leaves (opening (spelled five rowName (120 ∷ []) ++ spelled plusFive rowName (121 ∷ [])))
+    (5 ∷ []) 6 (spelled five rowName (120 ∷ [])) ∷
+    leaves (opening (spelled (48 ∷ []) [] [] ++ line (48 ∷ 48 ∷ []))) (0 ∷ []) 1 (spelled (48 ∷ []) [] []) ∷
+    leaves (opening (spelled (48 ∷ 48 ∷ []) [] [])) [] 0 [] ∷
+    leaves (opening (spelled (48 ∷ []) [] [] ++ line (48 ∷ []))) [] 1 [] ∷
+    leaves (opening (spelled (49 ∷ 48 ∷ []) [] [])) (10 ∷ []) 11 (spelled (49 ∷ 48 ∷ []) [] []) ∷
+    leaves (opening (spelled (48 ∷ lastId) (97 ∷ []) (98 ∷ []))) [] 0 [] ∷
+    refusedBy (opening (spelled lastId (97 ∷ []) (98 ∷ []))) 3 ∷
     []
 
 unfoldable pub allTrue : List Bool → Bool

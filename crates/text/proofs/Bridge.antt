@@ -6,7 +6,7 @@ use mathlib.Core.List.{List, [], _∷_}
 use Prim.Native.Nat.{ℕ, _+_, _-_, _*_, _≤_, _<_}
 use native.Mathlib.Numerals.{add-one}
 use native.Mathlib.Omega.{arith}
-use borrow.Author.Tests.{le-leb, lt-ltb}
+use borrow.Author.Tests.{leb-true, ltb-true, le-leb, lt-ltb}
 use lib.Dec.{eqb, leb, ltb}
 use lib.ListN.{length, drop, getD}
 use lib.Seq.{drop-cons}
@@ -38,15 +38,23 @@ decimal-next s i high h a b = rw (add-one, drop-cons s i 0) (cc (
       (DIGIT0 + 10) b,
 ))
 
+-- what is read is digits, one by one
+pub decimal-head : (high b : ℕ) (bs : List ℕ) (n : ℕ) → decimal high (b ∷ bs) ≡ some n
+    → (DIGIT0 ≤ b) × (b < DIGIT0 + 10) × (decimal (high * 10 + (b - DIGIT0)) bs ≡ some n)
+unfolding decimal
+decimal-head high b bs n e = at (leb DIGIT0 b) refl (ltb b (DIGIT0 + 10)) refl
+  where
+    at : (t : Bool) → leb DIGIT0 b ≡ t → (u : Bool) → ltb b (DIGIT0 + 10) ≡ u
+        → (DIGIT0 ≤ b) × (b < DIGIT0 + 10) × (decimal (high * 10 + (b - DIGIT0)) bs ≡ some n)
+    at true p true q = (leb-true DIGIT0 b p, ltb-true b (DIGIT0 + 10) q, cc)
+    at true p false q = let z : _≡_ {A = ℕ} 0 1 = cc in absurd (omega arith)
+    at false p u q = let z : _≡_ {A = ℕ} 0 1 = cc in absurd (omega arith)
+
 -- a value that is too large stays so: the reader may stop there
 pub decimal-grows : (bs : List ℕ) (high n : ℕ) → decimal high bs ≡ some n → high ≤ n
 unfolding decimal
 decimal-grows [] high n e = let q : high ≡ n = cc in omega arith
-decimal-grows (b ∷ bs) high n e = at (leb DIGIT0 b) refl (ltb b (DIGIT0 + 10)) refl
-    (decimal-grows bs (high * 10 + (b - DIGIT0)) n)
-  where
-    at : (t : Bool) → leb DIGIT0 b ≡ t → (u : Bool) → ltb b (DIGIT0 + 10) ≡ u → (decimal (high * 10 + (b - DIGIT0)) bs
-        ≡ some n → high * 10 + (b - DIGIT0) ≤ n) → high ≤ n
-    at true p true q ih = omega (arith, ih (cc))
-    at true p false q ih = let z : _≡_ {A = ℕ} 0 1 = cc in absurd (omega arith)
-    at false p u q ih = let z : _≡_ {A = ℕ} 0 1 = cc in absurd (omega arith)
+decimal-grows (b ∷ bs) high n e = omega (
+  arith,
+  decimal-grows bs (high * 10 + (b - DIGIT0)) n (decimal-head high b bs n e .2),
+)

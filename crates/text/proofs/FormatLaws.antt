@@ -9,9 +9,10 @@ use borrow.Author.Tests.{ltb-true, eqb-true, lt-ltb, le-leb, eq-eqb, ne-eqb}
 use lib.Dec.{eqb, leb, ltb}
 use lib.ListN.{length, length-append}
 use Rattle.text.specs.Bytes.{All, Free}
-use Rattle.text.specs.Format.{TAB, LF, PLUS, DIGIT0, BACKSLASH, escapeByte, escape, Message, recordText, escaped}
-use Rattle.text.specs.Format.{unescape, digits, printId, decimal, below64, readDigits, readId, line, joinHead}
+use Rattle.text.specs.Format.{TAB, LF, DIGIT0, BACKSLASH, escapeByte, escape, Message, recordText, escaped}
+use Rattle.text.specs.Format.{unescape, digits, printId, decimal, line, joinHead}
 use Rattle.text.specs.Format.{split, allButLast, lines, fields}
+use Rattle.text.proofs.Bridge.{decimal-head}
 
 -- unescape gives back what was escaped
 unescape-byte : (b : ℕ) (rest : List ℕ) → unescape (escapeByte b ++ rest) ≡ b ∷ unescape rest
@@ -83,25 +84,19 @@ decimal-snoc : (bs : List ℕ) (high v d : ℕ) → d < 10 → decimal high bs �
     → decimal high (bs ++ ((DIGIT0 + d) ∷ [])) ≡ some (v * 10 + d)
 unfolding decimal
 decimal-snoc [] high v d h e = let q : high ≡ v = cc in cc (decimal-digit high d [] h)
-decimal-snoc (b ∷ bs) high v d h e = at-low (leb DIGIT0 b) refl (λ k. decimal-snoc bs k v d h)
-  where
-    at-high : (t : Bool) → ltb b (DIGIT0 + 10) ≡ t → leb DIGIT0 b ≡ true → ((k : ℕ) → decimal k bs ≡ some v
-        → decimal k (bs ++ ((DIGIT0 + d) ∷ [])) ≡ some (v * 10 + d)) → decimal high (b ∷ (bs ++ ((DIGIT0 + d) ∷ [])))
-        ≡ some (v * 10 + d)
-    at-high true p q ih = let s : decimal (high * 10 + (b - DIGIT0)) bs ≡ some v = cc in
-        cc (ih (high * 10 + (b - DIGIT0)) s)
-    at-high false p q ih = cc
-
-    at-low : (t : Bool) → leb DIGIT0 b ≡ t → ((k : ℕ) → decimal k bs ≡ some v → decimal k (bs ++ ((DIGIT0 + d) ∷ []))
-        ≡ some (v * 10 + d)) → decimal high (b ∷ (bs ++ ((DIGIT0 + d) ∷ []))) ≡ some (v * 10 + d)
-    at-low true p ih = at-high (ltb b (DIGIT0 + 10)) refl p ih
-    at-low false p ih = cc
+decimal-snoc (b ∷ bs) high v d h e =
+    let head = decimal-head high b bs v e in
+    cc (
+      le-leb DIGIT0 b (head .0),
+      lt-ltb b (DIGIT0 + 10) (head .1),
+      decimal-snoc bs (high * 10 + (b - DIGIT0)) v d h (head .2),
+    )
 
 -- the digits say the number, are there, and are digits
 abbrev pub Digit : ℕ → Type 0
 Digit b = DIGIT0 ≤ b
 
-digits-say : (places n : ℕ) → n < 10 ^ places → decimal 0 (digits places n) ≡ some n
+pub digits-say : (places n : ℕ) → n < 10 ^ places → decimal 0 (digits places n) ≡ some n
 unfolding digits decimal
 digits-say zero n h = let z : n ≡ 0 = omega arith in cc
 digits-say (suc places) n h = at (ltb n 10) refl (digits-say places (n / 10))
@@ -112,7 +107,7 @@ digits-say (suc places) n h = at (ltb n 10) refl (digits-say places (n / 10))
     at false e ih = let s : n / 10 * 10 + n % 10 ≡ n = omega arith in
         cc (decimal-snoc (digits places (n / 10)) 0 (n / 10) (n % 10) (omega arith) (ih (omega arith)))
 
-digits-there : (places n : ℕ) → 0 < length (digits (suc places) n)
+pub digits-there : (places n : ℕ) → 0 < length (digits (suc places) n)
 unfolding digits
 digits-there places n = at (ltb n 10) refl
   where
@@ -131,17 +126,6 @@ digits-digits (suc places) n = at (ltb n 10) refl (digits-digits places (n / 10)
       omega arith,
       tt,
     ))
-
-readId-digits : (bs : List ℕ) (n : ℕ) → n < 2 ^ 64 → 0 < length bs → All Digit bs → decimal 0 bs ≡ some n → readId bs
-    ≡ some n
-unfolding readId readDigits below64
-readId-digits [] n h l d e = absurd (omega arith)
-readId-digits (b ∷ bs) n h l d e = cc (lt-ltb n (2 ^ 64) h, ne-eqb b PLUS (omega arith))
-
-pub readId-printId : (n : ℕ) → n < 2 ^ 64 → readId (printId n) ≡ some n
-unfolding printId
-readId-printId n h = readId-digits (digits 20 n) n h (digits-there 19 n) (digits-digits 20 n)
-    (digits-say 20 n (omega arith))
 
 Digit-plain : (b : ℕ) → Digit b → Plain b
 Digit-plain b h = (ne-eqb b TAB (omega arith), ne-eqb b LF (omega arith))

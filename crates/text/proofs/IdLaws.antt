@@ -5,11 +5,11 @@ use mathlib.Core.Option.{Option, none, some}
 use mathlib.Core.List.{List, [], _∷_, _++_}
 use Prim.Native.Nat.{ℕ, zero, suc, _+_, _-_, _*_, _/_, _%_, _^_, _≤_, _<_}
 use native.Mathlib.Omega.{arith}
-use borrow.Author.Tests.{ltb-true, ltb-false, le-ltb, lt-leb, lt-ltb, le-leb, eq-eqb, ne-eqb}
-use lib.Dec.{ltb}
+use borrow.Author.Tests.{ltb-true, ltb-false, le-ltb, lt-leb, lt-ltb, le-leb}
+use lib.Dec.{eqb, ltb}
 use lib.ListN.{length, drop, getD, length-append, drop-of-length-le}
 use lib.Seq.{drop-cons}
-use Rattle.text.specs.Format.{DIGIT0, PLUS, digits, printId, decimal, below64, readDigits, readId}
+use Rattle.text.specs.Format.{DIGIT0, digits, printId, decimal, below64, readDigits, leadingZero, readId}
 use Rattle.text.proofs.Bridge.{decimal-next, decimal-grows}
 
 pub read-start : (s : List ℕ) → (length s ≡ 0 → ⊥) → below64 (decimal 0 s) ≡ readDigits s
@@ -54,20 +54,24 @@ pub read-end : (s : List ℕ) (i high : ℕ) → length s ≤ i → high < 2 ^ 6
 unfolding decimal below64
 read-end s i high h l = rw (drop-of-length-le s h) (cc (lt-ltb high (2 ^ 64) l))
 
-pub readId-empty : (s : List ℕ) → length s ≡ 0 → readId s ≡ none
-unfolding readId
-readId-empty [] h = refl
-readId-empty (b ∷ s) h = absurd (omega arith)
+-- a text of fewer than two bytes has no leading zero; in a longer one the first byte says it
+pub zero-short : (s : List ℕ) → length s < 2 → leadingZero s ≡ false
+zero-short [] h = refl
+zero-short (b ∷ []) h = refl
+zero-short (b ∷ c ∷ s) h = absurd (omega arith)
 
-pub readId-plus : (s : List ℕ) → (length s ≡ 0 → ⊥) → getD s 0 0 ≡ 43 → readId s ≡ readDigits (drop 1 s)
-unfolding readId
-readId-plus [] h e = absurd (h refl)
-readId-plus (b ∷ s) h e = cc (eq-eqb b PLUS e)
+pub zero-first : (s : List ℕ) → 2 ≤ length s → leadingZero s ≡ eqb (getD s 0 0) DIGIT0
+zero-first [] h = absurd (omega arith)
+zero-first (b ∷ []) h = absurd (omega arith)
+zero-first (b ∷ c ∷ s) h = refl
 
-pub readId-digits : (s : List ℕ) → (length s ≡ 0 → ⊥) → (getD s 0 0 ≡ 43 → ⊥) → readId s ≡ readDigits s
+pub readId-zero : (s : List ℕ) → leadingZero s ≡ true → readId s ≡ none
 unfolding readId
-readId-digits [] h e = absurd (h refl)
-readId-digits (b ∷ s) h e = cc (ne-eqb b PLUS e)
+readId-zero s e = cc
+
+pub readId-digits : (s : List ℕ) → leadingZero s ≡ false → readId s ≡ readDigits s
+unfolding readId
+readId-digits s e = cc
 
 -- printing: more places than needed change nothing
 digits-more : (places n : ℕ) → 0 < places → n < 10 ^ places → digits (suc places) n ≡ digits places n

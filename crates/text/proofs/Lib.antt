@@ -3,6 +3,7 @@ pub mod FormatLaws
 pub mod Bridge
 pub mod WriteLaws
 pub mod IdLaws
+pub mod Spelling
 pub mod EscapeLaws
 pub mod RecordLaws
 pub mod LineLaws

@@ -1,9 +1,10 @@
 -- What a log's text is (docs/RULES.md, 2): escaped fields, decimal ids, records, done lines, lines and fields. A byte
 -- is a number, a text a list of bytes.
-use mathlib.Core.Bool.{true, false}
+use mathlib.Core.Path.{_≡_}
+use mathlib.Core.Bool.{Bool, true, false}
 use mathlib.Core.Option.{Option, none, some}
 use mathlib.Core.List.{List, [], _∷_, _++_}
-use Prim.Native.Nat.{ℕ, zero, suc, _+_, _-_, _*_, _/_, _%_, _^_}
+use Prim.Native.Nat.{ℕ, zero, suc, _+_, _-_, _*_, _/_, _%_, _^_, _<_}
 use lib.Dec.{eqb, leb, ltb}
 
 -- the bytes of the format, once for reader and writer
@@ -12,9 +13,6 @@ TAB = 9
 
 abbrev pub LF : ℕ
 LF = 10
-
-abbrev pub PLUS : ℕ
-PLUS = 43
 
 abbrev pub DIGIT0 : ℕ
 DIGIT0 = 48
@@ -83,15 +81,27 @@ unfoldable pub below64 : Option ℕ → Option ℕ
 below64 none = none
 below64 (some n) = elim (ltb n (2 ^ 64)) [ true ↦ some n | false ↦ none ]
 
--- one digit or more, of a value up to 2 ^ 64 - 1; leading zeros count for nothing
+-- one digit or more, of a value up to 2 ^ 64 - 1
 unfoldable pub readDigits : List ℕ → Option ℕ
 readDigits [] = none
 readDigits (b ∷ bs) = below64 (decimal 0 (b ∷ bs))
 
--- Reading an id: an optional plus sign, then digits
+-- a leading zero: a 0 before another byte
+abbrev pub leadingZero : List ℕ → Bool
+leadingZero [] = false
+leadingZero (b ∷ []) = false
+leadingZero (b ∷ c ∷ bs) = eqb b DIGIT0
+
+-- Reading an id: digits of such a value without a leading zero. So `0` is an id; `00`, `05` and `+5` are none
 unfoldable pub readId : List ℕ → Option ℕ
-readId [] = none
-readId (b ∷ bs) = elim (eqb b PLUS) [ true ↦ readDigits bs | false ↦ readDigits (b ∷ bs) ]
+readId text = elim (leadingZero text) [ true ↦ none | false ↦ readDigits text ]
+
+-- One spelling for an id (proved of every text and number): what is read as n is exactly what n is printed as, and n
+-- is below 2 ^ 64
+pub record OneSpelling (text : List ℕ) (n : ℕ) : Type 0 where
+  pub printed : readId text ≡ some n → text ≡ printId n
+  pub below : readId text ≡ some n → n < 2 ^ 64
+  pub read : text ≡ printId n → n < 2 ^ 64 → readId text ≡ some n
 
 -- a message as the log has it (docs/RULES.md, 1): its id, group name and body
 pub record Message : Type 0 where

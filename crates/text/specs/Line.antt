@@ -1,9 +1,10 @@
 -- What a line of the log says (docs/RULES.md, 2).
+use mathlib.Core.Path.{_≡_}
 use mathlib.Core.Option.{Option, none, some}
 use mathlib.Core.List.{List, [], _∷_}
-use Prim.Native.Nat.{ℕ}
+use Prim.Native.Nat.{ℕ, _^_, _<_}
 use lib.ListN.{drop}
-use Rattle.text.specs.Format.{Message, unescape, readId, fields, lines}
+use Rattle.text.specs.Format.{Message, unescape, printId, readId, fields, lines}
 
 -- a record, a done id, or nothing that opening takes in
 pub data Line : Type 0 where
@@ -29,6 +30,21 @@ readFields (a ∷ b ∷ c ∷ d ∷ rest) = other
 
 unfoldable pub readLine : List ℕ → Line
 readLine text = readFields (fields text)
+
+abbrev pub firstOf : List (List ℕ) → List ℕ
+firstOf [] = []
+firstOf (l ∷ ls) = l
+
+-- the id that a line speaks of
+abbrev pub idIn : Line → Option ℕ
+idIn (put m) = some (m .id)
+idIn (done id) = some id
+idIn other = none
+
+-- One spelling in every line (proved of every text): a record line or done line that speaks of n begins with what n is
+-- printed as, and n is below 2 ^ 64
+abbrev pub LineSpelled : List ℕ → Type 0
+LineSpelled text = (n : ℕ) → idIn (readLine text) ≡ some n → (firstOf (fields text) ≡ printId n) × (n < 2 ^ 64)
 
 -- the name and the body that a line has
 abbrev pub nameOf : Line → List ℕ
@@ -65,10 +81,6 @@ nameField text = nameIn (fields text)
 
 unfoldable pub bodyField : List ℕ → List ℕ
 bodyField text = bodyIn (fields text)
-
-abbrev pub firstOf : List (List ℕ) → List ℕ
-firstOf [] = []
-firstOf (l ∷ ls) = l
 
 -- what the whole line that begins at a place says; nothing where there is none
 unfoldable pub lineAt : List ℕ → ℕ → Line

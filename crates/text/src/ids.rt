@@ -2,7 +2,7 @@
 ghost use mathlib.Core.Path.{_≡_};
 ghost use Prim.Native.Nat.{_≤_};
 ghost use lib.ListN.{length};
-ghost use Rattle.text.specs.Format.{readDigits, readId, printId};
+ghost use Rattle.text.specs.Format.{readDigits, leadingZero, readId, printId};
 ghost use Rattle.text.specs.Bytes.{Wrote};
 ghost use Rattle.text.specs.Answers.{idOf};
 
@@ -41,18 +41,24 @@ fn read_digits(s: &[u8]) -> IdRead
     IdRead::Is(high)
 }
 
-// An id: an optional plus sign, then digits.
+// Whether a 0 stands before another byte.
+fn leading_zero(s: &[u8]) -> bool
+    ensures { λ r. ⌜ r ≡ leadingZero (now (s .entry)) ⌝ }
+{
+    if s.len() < 2 {
+        return false;
+    }
+    s[0] == b'0'
+}
+
+// An id: digits without a leading zero.
 pub(crate) fn read_id(s: &[u8]) -> IdRead
     ensures { λ r. ⌜ r ≡ idOf (readId (now (s .entry))) ⌝ }
 {
-    if s.len() == 0 {
+    if leading_zero(s) {
         return IdRead::Not;
     }
-    if s[0] == b'+' {
-        read_digits(&s[1..])
-    } else {
-        read_digits(s)
-    }
+    read_digits(s)
 }
 
 // The number of digits of an id.

@@ -1,19 +1,22 @@
-//! Checks that the comparison catches slips: in what the port wrote, in what the plain program does, and in what the
-//! Rust is expected to do. Each slip is tried on many cases.
+//! Checks that the comparison catches slips: in what the port wrote, in what the plain program does and how it reads
+//! ids, and in what the Rust is expected to do. Each slip is tried on many cases.
 mod bytes;
+mod ids;
 mod program;
 #[cfg(oracle)]
 mod rust;
 
 use super::seen::Seen;
 use super::{Given, lockstep};
-use crate::generate::case::Case;
+use crate::generate::case::{self, Case};
 use crate::lent::Lent;
 use crate::rng::Rng;
 use std::path::Path;
 
 /// Calls of a list in which slips are made, at most: what the port wrote is copied for each.
 const MOST_CALLS: usize = 400;
+/// Openings with slips in how an id is read, for each case.
+const OPENINGS: u64 = 10;
 
 /// What became of one slip: how often it could be made, and how often it was caught.
 pub struct Tried {
@@ -84,8 +87,30 @@ pub fn run(cases: u64, seed: u64, path: &Path) -> Vec<Tried> {
     #[cfg(not(oracle))]
     let _ = path;
     bytes.extend(program);
+    bytes.extend(misread(cases * OPENINGS, seed, &mut lent));
     #[cfg(oracle)]
     bytes.extend(rust.tried());
     crate::met::take();
     bytes
+}
+
+/// Makes every slip in how an id is read, in those of so many openings where it makes a difference. They are outside
+/// the domain of equality, since ids have any spelling.
+fn misread(openings: u64, seed: u64, lent: &mut Lent) -> Vec<Tried> {
+    let mut ids: Vec<Tried> = ids::SLIPS.iter().map(|(name, _)| Tried::new(name, false)).collect();
+    for number in 0..openings {
+        let number = seed.wrapping_mul(1 << 32).wrapping_add(number);
+        let mut case = Case::outside(&mut Rng::new(number));
+        case.calls.clear();
+        let given = Given::new(number, &case);
+        let Ok(run) = given.run(lent) else { continue };
+        for (tried, (_, slip)) in ids.iter_mut().zip(ids::SLIPS) {
+            let reads = |file: &[u8]| ids::read(file, *slip);
+            if case::open_by(&reads, &case) != case::open(&case) {
+                let result = lockstep::check_misread(&case, given.calls, &run, &reads, &mut Seen::default());
+                tried.count(number, result.is_err());
+            }
+        }
+    }
+    ids
 }

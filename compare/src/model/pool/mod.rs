@@ -25,7 +25,7 @@ pub use places::Place;
 pub use question::{Answer, Call, Outcome, Question, Reply, Status};
 pub use settings::{GroupSetting, Settings};
 
-use super::log::{self, CallerId, Counters, LogId, Order};
+use super::log::{self, CallerId, Counters, LogId, Order, Reader};
 use crate::limits::{LOG_MAX, LOG_MIN, MESSAGES, STORE_BODY, refusal};
 use crate::met;
 use std::collections::VecDeque;
@@ -66,13 +66,18 @@ pub struct Pool {
 
 /// Opens a pool on the first n bytes of `log`. Err(number): refused, nothing changed.
 pub fn open(settings: &Settings, log: &[u8], n: usize, store: &[u8]) -> Result<Pool, u8> {
+    open_by(&log::readable, settings, log, n, store)
+}
+
+/// The same by any reader of the file.
+pub fn open_by(reads: Reader, settings: &Settings, log: &[u8], n: usize, store: &[u8]) -> Result<Pool, u8> {
     if !settings.valid() {
         return Err(refusal::SETTING);
     }
     if !(LOG_MIN..=LOG_MAX).contains(&log.len()) || n > log.len() || store.len() != STORE {
         return Err(refusal::LENGTH);
     }
-    let reading = log::readable(&log[..n])?;
+    let reading = reads(&log[..n])?;
     let mut bytes = log.to_vec();
     let (counters, order) = log::open(&mut bytes, &reading);
     let mut pool = Pool {
