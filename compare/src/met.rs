@@ -11,13 +11,15 @@ pub enum Where {
     Inside,
     /// Anywhere: by its nature outside the domain, or of a call that the Rust does not have.
     Anywhere,
+    /// Outside the domain alone; where it is met inside, the run fails.
+    Outside,
     /// By the Rust itself, where it is at hand.
     Rust,
     /// By no run, for this reason.
     Never(&'static str),
 }
 
-use Where::{Anywhere, Inside, Never, Rust};
+use Where::{Anywhere, Inside, Never, Outside, Rust};
 
 /// Every point, in the order of the table.
 pub const POINTS: &[(&str, Where)] = &[
@@ -28,10 +30,10 @@ pub const POINTS: &[(&str, Where)] = &[
     ("line: done, of no open record", Inside),
     ("line: skipped", Inside),
     ("line: two or four fields behind another spelling, skipped", Inside),
-    ("line: a record in another spelling, skipped", Anywhere),
-    ("line: a record in another spelling, skipped, of an open id", Anywhere),
-    ("line: done in another spelling, skipped", Anywhere),
-    ("line: done in another spelling, skipped, of no open record", Anywhere),
+    ("line: a record in another spelling, skipped", Outside),
+    ("line: a record in another spelling, skipped, of an open id", Outside),
+    ("line: done in another spelling, skipped", Outside),
+    ("line: done in another spelling, skipped, of no open record", Outside),
     ("opening: a message left", Inside),
     // Calls.
     ("admit: a record behind the others", Inside),
@@ -406,13 +408,15 @@ pub fn add(to: &mut Counts, more: &Counts) {
     }
 }
 
-/// The points that should have been met and were not, or were met and cannot be.
+/// The points that should have been met and were not, or were met where they cannot be.
 pub fn faults(counts: &Counts) -> Vec<String> {
     let fault = |at: usize| {
         let ((name, place), [inside, outside]) = (POINTS[at], counts[at]);
         match place {
             Inside if inside == 0 => Some(format!("never met inside the domain: {name}")),
             Anywhere if inside + outside == 0 => Some(format!("never met: {name}")),
+            Outside if inside > 0 => Some(format!("met inside the domain: {name}")),
+            Outside if outside == 0 => Some(format!("never met outside the domain: {name}")),
             Rust if inside == 0 && cfg!(oracle) => Some(format!("never met: {name}")),
             Never(reason) if inside + outside > 0 => Some(format!("met, though {reason}: {name}")),
             _ => None,

@@ -89,7 +89,7 @@ fn opening(file: &str) -> Opening {
 pub fn files() -> Vec<Stated> {
     let accepted = ACCEPTED.iter().map(|&(what, file, left, next, log)| leaves(what, file, left, next, log));
     let refused = REFUSED.iter().map(|&(what, file, number)| refused(what, file, number));
-    accepted.chain(refused).chain(limits()).collect()
+    accepted.chain(refused).chain(limits()).chain([crowd()]).collect()
 }
 
 /// What is left, message by message: id, name, body.
@@ -133,6 +133,7 @@ const ACCEPTED: &[Accepted] = &[
     ("a record 05", "05\t\t\n", &[], 0, ""),
     ("a done line 05", "5\t\t\n05\n", &[(5, "", "")], 6, "5\t\t\n"),
     ("a record and a done line 05", "05\trow\tx\n5\trow\ty\n05\n", &[(5, "row", "y")], 6, "5\trow\ty\n"),
+    ("a done line 05 of no record", "3\t\t\n05\n", &[(3, "", "")], 4, "3\t\t\n"),
     ("a record 05, done by 5", "05\trow\tx\n5\n", &[], 0, ""),
     ("another spelling raises no next id", "3\t\t\n+9\t\t\n07\t\t\n", &[(3, "", "")], 4, "3\t\t\n"),
     // More digits.
@@ -154,9 +155,15 @@ const ACCEPTED: &[Accepted] = &[
     // What was no id before either.
     ("a record -5", "-5\t\t\n", &[], 0, ""),
     ("a done line 5x", "5\t\t\n5x\n", &[(5, "", "")], 6, "5\t\t\n"),
+    ("a done line 5+", "5\t\t\n5+\n", &[(5, "", "")], 6, "5\t\t\n"),
+    ("a done line 1+5", "5\t\t\n1+5\n", &[(5, "", "")], 6, "5\t\t\n"),
+    ("a record /5, the sign before the digits", "/5\t\t\n", &[], 0, ""),
+    ("a record 5:, the sign behind the digits", "5:\t\t\n", &[], 0, ""),
     ("a done line -5", "5\t\t\n-5\n", &[(5, "", "")], 6, "5\t\t\n"),
     ("an empty field, and a plus alone", "\ta\tb\n+\ta\tb\n\n+\n", &[], 0, ""),
     ("two fields", "5\trow\n", &[], 0, ""),
+    ("two fields behind a record 5", "5\t\t\n5\t\n", &[(5, "", "")], 6, "5\t\t\n"),
+    ("four fields", "5\ta\tb\tc\n", &[], 0, ""),
     ("two and four fields in other spellings", "+5\trow\n05\trow\tx\ty\n", &[], 0, ""),
 ];
 
@@ -184,4 +191,18 @@ fn limits() -> [Stated; 5] {
         leaves("a name of 33 bytes under 05", &format!("05\t{long}\t\n"), &[], 0, ""),
         refused("a name of 33 bytes under 5, and a done line 05", &format!("5\t{long}\t\n05\n"), refusal::LEFT),
     ]
+}
+
+/// 600 records, in no order of their ids. Behind each stand a record and a done line with a zero before its id, which
+/// are skipped. Then two of three are done. So many are open at once that an opening needs further passes.
+fn crowd() -> Stated {
+    let record = |id: u64| format!("{id}\trow\t{id}\n");
+    let strewn = |id: u64| format!("{}0{id}\trow\tx\n0{id}\n", record(id));
+    let records: String = (0..600).map(|at| strewn(at * 7 % 600)).collect();
+    let done: String = (0..600).filter(|id| id % 3 != 0).map(|id| format!("{id}\n")).collect();
+    let left = || (0..600).step_by(3);
+    let bodies: Vec<(u64, String)> = left().map(|id| (id, id.to_string())).collect();
+    let messages: Vec<(u64, &str, &str)> = bodies.iter().map(|(id, body)| (*id, "row", body.as_str())).collect();
+    let log: String = left().map(record).collect();
+    leaves("600 records with others under 0 and their ids", &(records + &done), &messages, 600, &log)
 }

@@ -355,7 +355,7 @@ impl Maker {
 
 /// Whether an opening lies inside the domain, as far as `files::file` leaves it open. The Rust reads ids in other
 /// spellings too, and loses the CR at the end of a left body when it rewrites its log.
-fn opens_inside(pool: &Pool, file: &[u8]) -> bool {
+pub(crate) fn opens_inside(pool: &Pool, file: &[u8]) -> bool {
     let strips = pool.pending.iter().any(|&e| pool.body(e).last() == Some(&b'\r'));
     log::one_spelling(file) && !strips
 }

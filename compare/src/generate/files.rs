@@ -20,14 +20,15 @@ fn lines(rng: &mut Rng, settings: &Settings, first: fn(&mut Rng) -> String) -> V
     let lines = if rng.chance(3) { 0 } else { rng.below(9) };
     let mut file = String::new();
     for _ in 0..lines {
-        let fields: &[usize] = match rng.below(10) {
+        // What stands behind the first field, by its longest lengths.
+        let behind: &[usize] = match rng.below(10) {
             0 | 1 => &[],
             2 => &[NAME_MAX],
             3 => &[NAME_MAX, BODY_MAX, 8],
             _ => &[NAME_MAX, BODY_MAX],
         };
-        let mut line = if matches!(fields.len(), 0 | 2) { first(rng) } else { any_id(rng) };
-        for &most in fields {
+        let mut line = if matches!(behind.len(), 0 | 2) { first(rng) } else { any_id(rng) };
+        for &most in behind {
             line.push('\t');
             line.push_str(&field(rng, settings, most));
         }
@@ -103,7 +104,7 @@ fn id(rng: &mut Rng) -> String {
     }
 }
 
-/// The same, or an id in another spelling, now and then one of the largest.
+/// The same, or an id in another spelling, now and then one of the largest, or an id that ends in 0.
 fn any_id(rng: &mut Rng) -> String {
     match rng.below(24) {
         0..=7 => {
@@ -114,6 +115,7 @@ fn any_id(rng: &mut Rng) -> String {
             let number = u64::MAX - rng.below(3);
             respelled(rng, number)
         }
+        9 => format!("{}", 10 * rng.range(1, 11)),
         _ => id(rng),
     }
 }

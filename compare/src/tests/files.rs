@@ -1,7 +1,8 @@
 //! The files that the generators make, and those that are timed: ids in other spellings stand in those outside the
 //! domain of equality alone (docs/RULES.md, section 10).
-use super::settings;
+use super::{opened, settings};
 use crate::bench::logs;
+use crate::generate::case::opens_inside;
 use crate::generate::files;
 use crate::model::log::one_spelling;
 use crate::property;
@@ -29,6 +30,18 @@ fn other_files_often_have_other_spellings() {
     let often = |files: &[Vec<u8>]| files.iter().filter(|file| !one_spelling(file)).count() * 4 > files.len();
     assert!(often(&made(1_000, |rng| files::any(rng, &settings))));
     assert!(often(&made(1_000, |rng| property::files::any(rng, 10, &[b"row".to_vec()]))));
+}
+
+#[test]
+fn an_opening_on_another_spelling_is_not_inside_the_domain() {
+    let inside = |file: &[u8]| opens_inside(&opened(&settings(1, 64), 64, file).expect("an accepted opening"), file);
+    for file in [&b"05\t\t\n"[..], b"+5\n", b"5\t\t\n05\n"] {
+        assert!(!inside(file), "{}", file.escape_ascii());
+    }
+    // A line of two fields is skipped by both sides.
+    for file in [&b"5\t\t\n"[..], b"05\trow\n"] {
+        assert!(inside(file), "{}", file.escape_ascii());
+    }
 }
 
 #[test]

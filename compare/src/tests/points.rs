@@ -13,12 +13,43 @@ fn no_two_points_have_one_name() {
 #[test]
 fn a_run_that_meets_nothing_misses_all_points_but_those_that_cannot_be_met() {
     let needed = |place: Where| match place {
-        Where::Inside | Where::Anywhere => true,
+        Where::Inside | Where::Anywhere | Where::Outside => true,
         Where::Rust => cfg!(oracle),
         Where::Never(_) => false,
     };
     let missed = met::faults(&[[0; 2]; POINTS.len()]).len();
     assert_eq!(missed, POINTS.iter().filter(|point| needed(point.1)).count());
+}
+
+/// The faults of a run that met every point where it must, but one of them as often as this.
+fn faults_of(name: &str, met: [u64; 2]) -> Vec<String> {
+    let mut counts = [[1, 1]; POINTS.len()];
+    for (count, point) in counts.iter_mut().zip(POINTS) {
+        match point.1 {
+            Where::Outside => *count = [0, 1],
+            Where::Never(_) => *count = [0, 0],
+            _ => {}
+        }
+    }
+    counts[met::number(name)] = met;
+    met::faults(&counts)
+}
+
+#[test]
+fn a_point_outside_the_domain_must_not_be_met_inside_it() {
+    let name = "line: done in another spelling, skipped";
+    let (inside, unmet) = (format!("met inside the domain: {name}"), format!("never met outside the domain: {name}"));
+    assert_eq!(faults_of(name, [0, 1]), [""; 0]);
+    assert_eq!(faults_of(name, [1, 1]), [inside.as_str()]);
+    assert_eq!(faults_of(name, [1, 0]), [inside]);
+    assert_eq!(faults_of(name, [0, 0]), [unmet]);
+}
+
+#[test]
+fn the_points_of_other_spellings_lie_outside_the_domain() {
+    let outside: Vec<&str> = POINTS.iter().filter(|point| point.1 == Where::Outside).map(|point| point.0).collect();
+    assert_eq!(outside.len(), 4);
+    assert!(outside.iter().all(|name| name.contains("in another spelling, skipped")));
 }
 
 #[test]

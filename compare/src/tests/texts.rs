@@ -55,7 +55,7 @@ fn which_fields_are_ids() {
 /// spelling.
 #[test]
 fn an_id_is_what_is_written_for_it() {
-    for field in short_fields("+-0159 x").into_iter().chain(long_fields()) {
+    for field in short_fields("+-/0159: x").into_iter().chain(long_fields()) {
         let parsed: Option<u64> = field.parse().ok();
         let (same, other) = (parsed.filter(|id| id.to_string() == field), parsed.filter(|id| id.to_string() != field));
         assert_eq!((read_id(field.as_bytes()), other_spelling(field.as_bytes())), (same, other), "{field}");

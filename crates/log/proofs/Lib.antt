@@ -1,5 +1,6 @@
 -- The laws of the log, and its theorems (Recovery, RowEnds).
 pub mod OpeningLaws
+pub mod Skipped
 pub mod Room
 pub mod TabledLaws
 pub mod Steps

@@ -38,7 +38,7 @@ refusals-hold = refl
 
 pub spellings-hold : allTrue spellings ≡ true
 unfolding RowEnds.allTrue RowEnds.spellings RowEnds.sameBytes RowEnds.ids RowEnds.leaves RowEnds.refusedBy
-    RowEnds.rowName RowEnds.spelled RowEnds.five RowEnds.zeroFive RowEnds.plusFive RowEnds.lastId
+    RowEnds.rowName RowEnds.respelled RowEnds.five RowEnds.zeroFive RowEnds.plusFive RowEnds.lastId
     Format.escapeByte Format.escape Format.escaped Format.unescape Format.digits Format.printId Format.decimal
     Format.below64 Format.readDigits Format.readId Format.recordText Format.line Format.recordLine
     Format.joinHead Format.split Format.allButLast Format.lines Format.fields

@@ -1,5 +1,6 @@
 -- The definitions of the log.
 pub mod Opening
+pub mod Skipped
 pub mod Log
 pub mod Opened
 pub mod Table

@@ -123,9 +123,10 @@ refusals =
     []
 
 -- a record's line with its id in some spelling
-unfoldable pub spelled : List ℕ → List ℕ → List ℕ → List ℕ
-spelled id name body = line (id ++ TAB ∷ name ++ TAB ∷ body)
+unfoldable pub respelled : List ℕ → List ℕ → List ℕ → List ℕ
+respelled id name body = line (id ++ TAB ∷ name ++ TAB ∷ body)
 
+-- 5 as an id, behind a zero, and behind a plus sign
 unfoldable pub five : List ℕ
 five = 53 ∷ []
 
@@ -144,16 +145,16 @@ lastId =
 -- again, 00 does not remove 0, 00 sets nothing, and the last id behind a 0 is no 3. 0 and 10 are ids.
 unfoldable pub spellings : List Bool
 spellings =
-    leaves (opening (spelled zeroFive rowName (120 ∷ []) ++ spelled five rowName (121 ∷ []) ++ line zeroFive))
-    (5 ∷ []) 6 (spelled five rowName (121 ∷ [])) ∷
-    leaves (opening (spelled five rowName (120 ∷ []) ++ spelled plusFive rowName (121 ∷ [])))
-    (5 ∷ []) 6 (spelled five rowName (120 ∷ [])) ∷
-    leaves (opening (spelled (48 ∷ []) [] [] ++ line (48 ∷ 48 ∷ []))) (0 ∷ []) 1 (spelled (48 ∷ []) [] []) ∷
-    leaves (opening (spelled (48 ∷ 48 ∷ []) [] [])) [] 0 [] ∷
-    leaves (opening (spelled (48 ∷ []) [] [] ++ line (48 ∷ []))) [] 1 [] ∷
-    leaves (opening (spelled (49 ∷ 48 ∷ []) [] [])) (10 ∷ []) 11 (spelled (49 ∷ 48 ∷ []) [] []) ∷
-    leaves (opening (spelled (48 ∷ lastId) (97 ∷ []) (98 ∷ []))) [] 0 [] ∷
-    refusedBy (opening (spelled lastId (97 ∷ []) (98 ∷ []))) 3 ∷
+    leaves (opening (respelled zeroFive rowName (120 ∷ []) ++ respelled five rowName (121 ∷ []) ++ line zeroFive))
+    (5 ∷ []) 6 (respelled five rowName (121 ∷ [])) ∷
+    leaves (opening (respelled five rowName (120 ∷ []) ++ respelled plusFive rowName (121 ∷ [])))
+    (5 ∷ []) 6 (respelled five rowName (120 ∷ [])) ∷
+    leaves (opening (respelled (48 ∷ []) [] [] ++ line (48 ∷ 48 ∷ []))) (0 ∷ []) 1 (respelled (48 ∷ []) [] []) ∷
+    leaves (opening (respelled (48 ∷ 48 ∷ []) [] [])) [] 0 [] ∷
+    leaves (opening (respelled (48 ∷ []) [] [] ++ line (48 ∷ []))) [] 1 [] ∷
+    leaves (opening (respelled (49 ∷ 48 ∷ []) [] [])) (10 ∷ []) 11 (respelled (49 ∷ 48 ∷ []) [] []) ∷
+    leaves (opening (respelled (48 ∷ lastId) (97 ∷ []) (98 ∷ []))) [] 0 [] ∷
+    refusedBy (opening (respelled lastId (97 ∷ []) (98 ∷ []))) 3 ∷
     []
 
 unfoldable pub allTrue : List Bool → Bool

@@ -9,8 +9,9 @@ use borrow.Author.Tests.{ltb-true, ltb-false, eqb-false, lt-ltb, ne-eqb}
 use lib.Dec.{ltb}
 use lib.ListN.{length, getD}
 use Rattle.text.specs.Format.{DIGIT0, digits, printId, decimal, below64, readDigits, leadingZero, readId}
-use Rattle.text.specs.Format.{OneSpelling, fields}
-use Rattle.text.specs.Line.{putOf, doneOf, readFields, readLine, firstOf, idIn, LineSpelled}
+use Rattle.text.specs.Format.{OneSpelling, Message, fields}
+use Rattle.text.specs.Line.{Line, put, done, other, putOf, doneOf, readFields, readLine, firstOf}
+use Rattle.text.specs.Line.{FieldsOf, LineSpelled, Unspelled}
 use Rattle.text.proofs.Bridge.{decimal-head, decimal-grows}
 use Rattle.text.proofs.FormatLaws.{digits-say, digits-there}
 use Rattle.text.proofs.IdLaws.{read-start, zero-short, zero-first, readId-digits}
@@ -109,51 +110,127 @@ below-says (some k) n e = at (ltb k (2 ^ 64)) refl
     at true p = let same : k ≡ n = cc in (cc, omega (arith, ltb-true k (2 ^ 64) p))
     at false p = let z : _≡_ {A = ℕ} 0 1 = cc in absurd (omega arith)
 
-digits-spelled : (text : List ℕ) (n : ℕ) → leadingZero text ≡ false → readDigits text ≡ some n
-    → (text ≡ printId n) × (n < 2 ^ 64)
-unfolding readDigits
-digits-spelled [] n h e = let z : _≡_ {A = ℕ} 0 1 = cc in absurd (omega arith)
-digits-spelled (b ∷ bs) n h e =
-    let says = below-says (decimal 0 (b ∷ bs)) n e in
-    (spelled (b ∷ bs) n (omega arith) h (says .0) (says .1), says .1)
+-- what `readId` has found of a text that it reads as n
+record Found (text : List ℕ) (n : ℕ) : Type 0 where
+  printed : text ≡ printId n
+  below : n < 2 ^ 64
+  says : decimal 0 text ≡ some n
+  plain : leadingZero text ≡ false
 
-readId-spelled : (text : List ℕ) (n : ℕ) → readId text ≡ some n → (text ≡ printId n) × (n < 2 ^ 64)
+digits-found : (text : List ℕ) (n : ℕ) → leadingZero text ≡ false → readDigits text ≡ some n → Found text n
+unfolding readDigits
+digits-found [] n h e = let z : _≡_ {A = ℕ} 0 1 = cc in absurd (omega arith)
+digits-found (b ∷ bs) n h e =
+    let value = below-says (decimal 0 (b ∷ bs)) n e in
+    record {
+      printed = spelled (b ∷ bs) n (omega arith) h (value .0) (value .1);
+      below = value .1;
+      says = value .0;
+      plain = h;
+    }
+
+found : (text : List ℕ) (n : ℕ) → readId text ≡ some n → Found text n
 unfolding readId
-readId-spelled text n e = at (leadingZero text) refl
+found text n e = at (leadingZero text) refl
   where
-    at : (t : Bool) → leadingZero text ≡ t → (text ≡ printId n) × (n < 2 ^ 64)
+    at : (t : Bool) → leadingZero text ≡ t → Found text n
     at true p = let z : _≡_ {A = ℕ} 0 1 = cc in absurd (omega arith)
-    at false p = digits-spelled text n p (cc)
+    at false p = digits-found text n p (cc)
 
 pub one-spelling : (text : List ℕ) (n : ℕ) → OneSpelling text n
 one-spelling text n = record {
-  printed = λ e. readId-spelled text n e .0;
-  below = λ e. readId-spelled text n e .1;
+  printed = λ e. found text n e .printed;
+  below = λ e. found text n e .below;
   read = λ e l. ap readId e ∙ readId-printId n l;
+  says = λ e. found text n e .says;
+  plain = λ e. found text n e .plain;
 }
 
 -- so an id is printed as long as the text that it was read from
 pub readId-length : (text : List ℕ) (n : ℕ) → readId text ≡ some n → length (printId n) ≡ length text
 readId-length text n e = ap length (sym (one-spelling text n .printed e))
 
--- a line speaks of the id in its first field, and of no other
-done-id : (o : Option ℕ) → idIn (doneOf o) ≡ o
+-- what one field, and what three fields say
+one-done : (o : Option ℕ) (n : ℕ) → doneOf o ≡ done n → o ≡ some n
 unfolding doneOf
-done-id none = refl
-done-id (some id) = refl
+one-done none n e = let z : _≡_ {A = ℕ} 0 1 = cc in absurd (omega arith)
+one-done (some id) n e = let same : id ≡ n = cc in cc
 
-put-id : (o : Option ℕ) (name body : List ℕ) → idIn (putOf o name body) ≡ o
+one-put : (o : Option ℕ) (m : Message) → doneOf o ≡ put m → ⊥
+unfolding doneOf
+one-put none m e = let z : _≡_ {A = ℕ} 0 1 = cc in omega arith
+one-put (some id) m e = let z : _≡_ {A = ℕ} 0 1 = cc in omega arith
+
+three-done : (o : Option ℕ) (b c : List ℕ) (n : ℕ) → putOf o b c ≡ done n → ⊥
 unfolding putOf
-put-id none name body = refl
-put-id (some id) name body = refl
+three-done none b c n e = let z : _≡_ {A = ℕ} 0 1 = cc in omega arith
+three-done (some id) b c n e = let z : _≡_ {A = ℕ} 0 1 = cc in omega arith
 
-pub line-spelled : (text : List ℕ) → LineSpelled text
-unfolding readLine readFields
-line-spelled text n = at (fields text)
+three-put : (a b c : List ℕ) (m : Message) (o : Option ℕ) → readId a ≡ o → putOf o b c ≡ put m
+    → FieldsOf m (a ∷ b ∷ c ∷ [])
+unfolding putOf
+three-put a b c m none p e = let z : _≡_ {A = ℕ} 0 1 = cc in absurd (omega arith)
+three-put a b c m (some id) p e =
+    let same : m .id ≡ id = cc in
+    let read : OneSpelling a id = one-spelling a id in
+    record {
+      name = b;
+      body = c;
+      three = cc (read .printed p, same);
+      below = rw same (read .below p);
+      named = cc;
+      says = cc;
+    }
+
+module _ (text : List ℕ) where
+  done-fields : (n : ℕ) (fs : List (List ℕ)) → readFields fs ≡ done n → (fs ≡ printId n ∷ []) × (n < 2 ^ 64)
+  unfolding readFields
+  done-fields n [] e = let z : _≡_ {A = ℕ} 0 1 = cc in absurd (omega arith)
+  done-fields n (a ∷ []) e =
+      let read = one-spelling a n in
+      let is : readId a ≡ some n = one-done (readId a) n e in
+      (ap {B = List (List ℕ)} (λ t. t ∷ []) (read .printed is), read .below is)
+  done-fields n (a ∷ b ∷ []) e = let z : _≡_ {A = ℕ} 0 1 = cc in absurd (omega arith)
+  done-fields n (a ∷ b ∷ c ∷ []) e = absurd (three-done (readId a) b c n e)
+  done-fields n (a ∷ b ∷ c ∷ d ∷ rest) e = let z : _≡_ {A = ℕ} 0 1 = cc in absurd (omega arith)
+
+  record-fields : (m : Message) (fs : List (List ℕ)) → readFields fs ≡ put m → FieldsOf m fs
+  unfolding readFields
+  record-fields m [] e = let z : _≡_ {A = ℕ} 0 1 = cc in absurd (omega arith)
+  record-fields m (a ∷ []) e = absurd (one-put (readId a) m e)
+  record-fields m (a ∷ b ∷ []) e = let z : _≡_ {A = ℕ} 0 1 = cc in absurd (omega arith)
+  record-fields m (a ∷ b ∷ c ∷ []) e = three-put a b c m (readId a) refl e
+  record-fields m (a ∷ b ∷ c ∷ d ∷ rest) e = let z : _≡_ {A = ℕ} 0 1 = cc in absurd (omega arith)
+
+  done-back : (n : ℕ) → fields text ≡ printId n ∷ [] → n < 2 ^ 64 → readLine text ≡ done n
+  unfolding readLine readFields doneOf
+  done-back n are l = cc (are, readId-printId n l)
+
+  record-back : (m : Message) → FieldsOf m (fields text) → readLine text ≡ put m
+  unfolding readLine readFields putOf
+  record-back m are = rw (are .three) (rw (readId-printId (m .id) (are .below)) (rw (
+    sym (are .named),
+    sym (are .says),
+  ) refl))
+
+  pub line-spelled : LineSpelled text
+  unfolding readLine
+  line-spelled = record {
+    is-done = λ n. done-fields n (fields text);
+    done-is = done-back;
+    is-record = λ m. record-fields m (fields text);
+    record-is = record-back;
+  }
+
+-- so a line whose first field is no id's spelling says nothing
+pub unspelled : (text : List ℕ) → Unspelled text → readLine text ≡ other
+unspelled text strange = at (readLine text) refl
   where
-    at : (fs : List (List ℕ)) → idIn (readFields fs) ≡ some n → (firstOf fs ≡ printId n) × (n < 2 ^ 64)
-    at [] e = let z : _≡_ {A = ℕ} 0 1 = cc in absurd (omega arith)
-    at (a ∷ []) e = readId-spelled a n (sym (done-id (readId a)) ∙ e)
-    at (a ∷ b ∷ []) e = let z : _≡_ {A = ℕ} 0 1 = cc in absurd (omega arith)
-    at (a ∷ b ∷ c ∷ []) e = readId-spelled a n (sym (put-id (readId a) b c) ∙ e)
-    at (a ∷ b ∷ c ∷ d ∷ rest) e = let z : _≡_ {A = ℕ} 0 1 = cc in absurd (omega arith)
+    at : (l : Line) → readLine text ≡ l → readLine text ≡ other
+    at (put m) e =
+        let are = line-spelled text .is-record m e in
+        absurd (strange (m .id) (are .below) (ap firstOf (are .three)))
+    at (done n) e =
+        let are = line-spelled text .is-done n e in
+        absurd (strange n (are .1) (ap firstOf (are .0)))
+    at other e = e

@@ -92,16 +92,19 @@ leadingZero [] = false
 leadingZero (b ∷ []) = false
 leadingZero (b ∷ c ∷ bs) = eqb b DIGIT0
 
--- Reading an id: digits of such a value without a leading zero. So `0` is an id; `00`, `05` and `+5` are none
+-- Reading an id: one digit or more, of a value up to 2 ^ 64 - 1, without a leading zero. So `0` is an id; `00`, `05`
+-- and `+5` are none
 unfoldable pub readId : List ℕ → Option ℕ
 readId text = elim (leadingZero text) [ true ↦ none | false ↦ readDigits text ]
 
 -- One spelling for an id (proved of every text and number): what is read as n is exactly what n is printed as, and n
--- is below 2 ^ 64
+-- is below 2 ^ 64; this text says n in digits and has no leading zero
 pub record OneSpelling (text : List ℕ) (n : ℕ) : Type 0 where
   pub printed : readId text ≡ some n → text ≡ printId n
   pub below : readId text ≡ some n → n < 2 ^ 64
   pub read : text ≡ printId n → n < 2 ^ 64 → readId text ≡ some n
+  pub says : readId text ≡ some n → decimal 0 text ≡ some n
+  pub plain : readId text ≡ some n → leadingZero text ≡ false
 
 -- a message as the log has it (docs/RULES.md, 1): its id, group name and body
 pub record Message : Type 0 where

@@ -31,20 +31,23 @@ readFields (a ∷ b ∷ c ∷ d ∷ rest) = other
 unfoldable pub readLine : List ℕ → Line
 readLine text = readFields (fields text)
 
-abbrev pub firstOf : List (List ℕ) → List ℕ
-firstOf [] = []
-firstOf (l ∷ ls) = l
+-- the fields of a record: its id as it is printed, and its name and body in any escape
+pub record FieldsOf (m : Message) (fs : List (List ℕ)) : Type 0 where
+  pub name : List ℕ
+  pub body : List ℕ
+  pub three : fs ≡ printId (m .id) ∷ name ∷ body ∷ []
+  pub below : m .id < 2 ^ 64
+  pub named : m .name ≡ unescape name
+  pub says : m .body ≡ unescape body
 
--- the id that a line speaks of
-abbrev pub idIn : Line → Option ℕ
-idIn (put m) = some (m .id)
-idIn (done id) = some id
-idIn other = none
-
--- One spelling in every line (proved of every text): a record line or done line that speaks of n begins with what n is
--- printed as, and n is below 2 ^ 64
-abbrev pub LineSpelled : List ℕ → Type 0
-LineSpelled text = (n : ℕ) → idIn (readLine text) ≡ some n → (firstOf (fields text) ≡ printId n) × (n < 2 ^ 64)
+-- One spelling in every line (proved of every text): a line says that n is done exactly where it has one field, which
+-- is what n is printed as, and it is a record of m exactly where its three fields are those of m; n and m's id are
+-- below 2 ^ 64
+pub record LineSpelled (text : List ℕ) : Type 0 where
+  pub is-done : (n : ℕ) → readLine text ≡ done n → (fields text ≡ printId n ∷ []) × (n < 2 ^ 64)
+  pub done-is : (n : ℕ) → fields text ≡ printId n ∷ [] → n < 2 ^ 64 → readLine text ≡ done n
+  pub is-record : (m : Message) → readLine text ≡ put m → FieldsOf m (fields text)
+  pub record-is : (m : Message) → FieldsOf m (fields text) → readLine text ≡ put m
 
 -- the name and the body that a line has
 abbrev pub nameOf : Line → List ℕ
@@ -81,6 +84,15 @@ nameField text = nameIn (fields text)
 
 unfoldable pub bodyField : List ℕ → List ℕ
 bodyField text = bodyIn (fields text)
+
+-- the first of some texts
+abbrev pub firstOf : List (List ℕ) → List ℕ
+firstOf [] = []
+firstOf (l ∷ ls) = l
+
+-- the first field of a line is the spelling of no id
+abbrev pub Unspelled : List ℕ → Type 0
+Unspelled text = (n : ℕ) → n < 2 ^ 64 → firstOf (fields text) ≡ printId n → ⊥
 
 -- what the whole line that begins at a place says; nothing where there is none
 unfoldable pub lineAt : List ℕ → ℕ → Line

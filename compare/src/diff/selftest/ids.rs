@@ -10,6 +10,7 @@ pub const SLIPS: &[(&str, Slip)] = &[
     ("an id may have zeros in front", |field, _| without_zeros(field).to_vec()),
     ("zeros alone are the id 0", |field, _| if zeros(field) { b"0".to_vec() } else { field.to_vec() }),
     ("0 is no id", |field, _| if field == b"0" { Vec::new() } else { field.to_vec() }),
+    ("the leading zero is looked for at the end", |field, _| zero_at_the_end(field).to_vec()),
     ("a record may have any spelling", |field, fields| any_spelling(field, fields == 3)),
     ("a done line may have any spelling", |field, fields| any_spelling(field, fields == 1)),
 ];
@@ -41,6 +42,14 @@ fn without_zeros(field: &[u8]) -> &[u8] {
 
 fn zeros(field: &[u8]) -> bool {
     without_zeros(field) == b"0"
+}
+
+/// A field of two or more signs is no id where the last is a zero; before another last sign zeros are taken off.
+fn zero_at_the_end(field: &[u8]) -> &[u8] {
+    match field {
+        [_, .., b'0'] => b"",
+        _ => without_zeros(field),
+    }
 }
 
 /// The id that is meant, where the slip is made in lines of this kind.
