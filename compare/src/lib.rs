@@ -3,6 +3,7 @@
 //! `model` is docs/RULES.md as a plain program. It drives a run inside the domain of equality and writes down what
 //! must follow; `port` (the linked library, one function) must then give the same, and the Rust too.
 
+pub mod chains;
 pub mod lent;
 pub mod limits;
 pub mod met;
@@ -33,6 +34,7 @@ extern crate slab;
 pub mod bench;
 pub mod cuts;
 pub mod differences;
+pub mod mailboxes;
 pub mod property;
 pub mod recorded;
 pub mod spellings;

@@ -234,7 +234,9 @@ pub const POINTS: &[(&str, Where)] = &[
     ("settle: waiting", Inside),
     ("release: no mail", Inside),
     ("release: its mail goes back to pending", Inside),
+    ("release: two messages or more go back to pending", Inside),
     ("release: it never took a message, its mail is over", Inside),
+    ("release: it never took a message, logged mail and other mail are over", Inside),
     // Crashes and traps.
     ("crash: no message", Inside),
     ("crash: the message goes round again", Inside),
@@ -248,6 +250,7 @@ pub const POINTS: &[(&str, Where)] = &[
     ("Trapped: no", Inside),
     ("doomed: no mail", Inside),
     ("doomed: its mail goes back to pending", Inside),
+    ("doomed: two messages or more go back to pending", Inside),
     ("doomed: with a message in its hands", Inside),
     ("doomed: with none", Inside),
     // What is over, and its marks.

@@ -48,9 +48,27 @@ pub mod list {
         6 + 2 * super::slot(group, key)
     }
 
+    /// Those of all slots.
+    pub fn mailboxes() -> impl Iterator<Item = usize> + Clone {
+        (0..super::SLOTS).map(|slot| 6 + 2 * slot)
+    }
+
     /// What an actor has in its hands.
     pub fn hand(group: usize, key: usize) -> usize {
         7 + 2 * super::slot(group, key)
+    }
+
+    /// A list in words.
+    pub fn name(number: usize) -> String {
+        const PLACES: [&str; 6] =
+            ["what is free", "the inbox", "pending", "the batch", "what is over", "the step's hand"];
+        match PLACES.get(number) {
+            Some(place) => place.to_string(),
+            None => {
+                let (slot, of) = ((number - 6) / 2, ["the mailbox", "the hand"][number % 2]);
+                format!("{of} of actor {}/{}", slot / super::SLOTS_A_GROUP, slot % super::SLOTS_A_GROUP)
+            }
+        }
     }
 }
 

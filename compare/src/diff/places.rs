@@ -1,11 +1,10 @@
-//! Where each message stands, by an entry's tables.
-use crate::limits::MESSAGES;
-use crate::tables::{LISTS, SLOTS, SLOTS_A_GROUP, Tables, list};
+//! Where each message stands, by an entry's tables, and what came to the mailboxes since the entry before.
+use crate::chains::Chains;
+use crate::tables::{SLOTS, SLOTS_A_GROUP, Tables, list};
 
-/// The entries of every list, in order, and the list of every entry.
+/// The lists of messages, and what came to the mailboxes.
 pub struct Places {
-    lists: Vec<Vec<usize>>,
-    list_of: [usize; MESSAGES],
+    chains: Chains,
     delivered: Vec<Delivery>,
 }
 
@@ -18,26 +17,13 @@ pub struct Delivery {
 }
 
 impl Places {
-    /// Err where an entry does not stand in exactly one list.
+    /// Err where the lists are not chains in which each entry stands once.
     pub fn read(tables: &Tables) -> Result<Places, String> {
-        let lists: Vec<Vec<usize>> = (0..LISTS).map(|number| tables.list(number)).collect();
-        let mut list_of = [LISTS; MESSAGES];
-        for (number, entries) in lists.iter().enumerate() {
-            for &entry in entries {
-                match list_of.get_mut(entry) {
-                    Some(list) if *list == LISTS => *list = number,
-                    _ => return Err(format!("entry {entry} stands in list {number}, and not for the first time")),
-                }
-            }
-        }
-        match list_of.iter().position(|list| *list == LISTS) {
-            Some(entry) => Err(format!("entry {entry} stands in no list")),
-            None => Ok(Places { lists, list_of, delivered: Vec::new() }),
-        }
+        Ok(Places { chains: Chains::read(tables)?, delivered: Vec::new() })
     }
 
     pub fn list(&self, number: usize) -> &[usize] {
-        &self.lists[number]
+        self.chains.list(number)
     }
 
     /// These places, with what came to the mailboxes since `before`.
@@ -45,8 +31,8 @@ impl Places {
         let routed = [list::INBOX, list::PENDING, list::BATCH];
         for slot in 0..SLOTS {
             let (group, key) = (slot / SLOTS_A_GROUP, slot % SLOTS_A_GROUP);
-            for &entry in &self.lists[list::mailbox(group, key)] {
-                if routed.contains(&before.list_of[entry]) {
+            for &entry in self.chains.list(list::mailbox(group, key)) {
+                if routed.contains(&before.chains.list_of(entry)) {
                     self.delivered.push(Delivery { group, key, entry });
                 }
             }

@@ -1,5 +1,6 @@
 //! The tables that the port shows beside the plain program's state: every list of messages, by what the messages are
 //! (which entry of the store one has is free), every actor, and the lists of keys.
+use crate::chains::Chains;
 use crate::limits::MESSAGES;
 use crate::model::pool::Pool;
 use crate::tables::{ActorRow, MessageRow, OpenRecord, Tables, group_row, list, slot, text};
@@ -21,7 +22,8 @@ pub struct Sides<'a> {
 
 impl<'a> Sides<'a> {
     pub fn compare(&self) -> Result<(), String> {
-        self.every_entry_once()?;
+        // Every list is a chain, and each entry of the store stands in one list, once.
+        Chains::read(&self.tables)?;
         self.records()?;
         let pool = self.pool;
         self.list("inbox", list::INBOX, pool.inbox.iter().copied())?;
@@ -29,22 +31,8 @@ impl<'a> Sides<'a> {
         self.list("batch", list::BATCH, pool.batch.iter().copied())?;
         self.list("over", list::OVER, pool.over.iter().copied())?;
         self.list("the step's hand", list::HAND, pool.hand.iter().copied())?;
-        (0..pool.groups.len()).try_for_each(|group| self.group(group))
-    }
-
-    /// Each entry of the store stands in one list, once, and the lists' lengths and ends fit their links.
-    fn every_entry_once(&self) -> Result<(), String> {
-        let mut times = [0; MESSAGES];
-        let slots = crate::tables::SLOTS;
-        for row in 0..list::mailbox(0, 0) + 2 * slots {
-            for entry in self.tables.list(row) {
-                *times.get_mut(entry).ok_or_else(|| format!("list {row} has an entry {entry}"))? += 1;
-            }
-        }
-        match times.iter().position(|times| *times != 1) {
-            Some(entry) => Err(format!("entry {entry} stands in the lists {} times", times[entry])),
-            None => Ok(()),
-        }
+        (0..pool.groups.len()).try_for_each(|group| self.group(group))?;
+        same("free entries", self.tables.list_len(list::FREE), MESSAGES - pool.live_messages())
     }
 
     /// The table of open records says what the log's bytes say.

@@ -4,8 +4,10 @@
 use super::decoder::{Expected, expected};
 use super::list::{List, Opening, Size};
 use super::{files, settings, texts};
+use crate::chains::Chains;
 use crate::lent::{LOG_FILL, STORE_FILL};
 use crate::limits::{LOG_MAX, LOG_MIN, STORE};
+use crate::output::{Answer, Entry, Output};
 use crate::port;
 use crate::rng::Rng;
 use crate::script::{SHOW_LOG, SHOW_STORE};
@@ -137,16 +139,34 @@ impl Wild {
         }
         match &expects.store {
             Some(store) if self.store.slice() != store => Err("another store".into()),
+            _ if code == port::OK => self.chained(script, expects.out.len()),
             _ => Ok(()),
         }
     }
+
+    /// What the port wrote in a run to the script's end: the tables that it shows have chains.
+    fn chained(&mut self, script: &[u8], written: usize) -> Result<(), String> {
+        let show = header_number(script, 1).ok_or("no header")?;
+        let output = Output::read(&self.out.slice()[..written], show, self.store.slice().len())?;
+        // After a refused opening all tables are zero.
+        if let [Entry { answer: Answer::Refused(_), .. }] = output.entries.as_slice() {
+            return Ok(());
+        }
+        let mut tables = output.entries.iter().filter_map(|entry| entry.tables);
+        tables.try_for_each(|tables| Chains::read(&tables).map(drop))
+    }
+}
+
+/// A number of the script's header.
+fn header_number(script: &[u8], at: usize) -> Option<u64> {
+    let bytes = script.get(at * NUMBER..(at + 1) * NUMBER)?;
+    Some(u64::from_le_bytes(bytes.try_into().unwrap()))
 }
 
 /// The length that the script names in its header's number `at`, if it can be lent; now and then another.
 fn lent_length(script: &[u8], at: usize, rng: &mut Rng, usual: usize) -> usize {
-    let named = script.get(at * NUMBER..(at + 1) * NUMBER);
-    let named = named.map(|bytes| u64::from_le_bytes(bytes.try_into().unwrap()));
-    let named = named.and_then(|length| usize::try_from(length).ok()).filter(|length| *length <= LONGEST);
+    let named = header_number(script, at).and_then(|length| usize::try_from(length).ok());
+    let named = named.filter(|length| *length <= LONGEST);
     match rng.below(40) {
         0 => rng.below(LONGEST as u64) as usize,
         1 => named.unwrap_or(usual).saturating_sub(1),

@@ -2,7 +2,9 @@
 //! The port is held to the plain program, so the plain program is held to the rules here. Needs neither the port nor
 //! the Rust: `cargo test --lib --no-default-features`.
 mod actors;
+mod chains;
 mod files;
+mod mailboxes;
 mod openings;
 mod points;
 mod records;

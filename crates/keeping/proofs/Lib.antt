@@ -7,3 +7,4 @@ pub mod LivingSteps
 pub mod LivingRouting
 pub mod LivingTicking
 pub mod LivingTurn
+pub mod MailSteps

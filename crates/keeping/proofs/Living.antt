@@ -7,7 +7,7 @@ use mathlib.Core.List.{List, []}
 use Prim.Native.Nat.{ℕ, zero, suc, _+_, _*_, _-_, _≤_, _<_}
 use native.Mathlib.Omega.{arith}
 use native.Mathlib.Decide.{ℕ-discrete, decLt}
-use borrow.Author.Tests.{lt-ltb, le-ltb, ltb-true, leb-false, leb-true}
+use borrow.Author.Tests.{lt-ltb, le-ltb, ltb-true, leb-false}
 use lib.Dec.{ltb, leb}
 use lib.ListN.{length, set, take, drop, length-set, length-append, length-drop, take-append-drop}
 use lib.Seq.{getD-set-same, getD-set-other, set-out}
@@ -47,7 +47,9 @@ use Rattle.group.specs.Roster.{ROWS, slabRow, readyRow, idleRow, waitingRow, sl
 use Rattle.group.specs.Roster.{scheduleOf, Spawned, modeFor, spawnKey, spawnBy, spawnOf, overAll}
 use Rattle.ticking.specs.Settle.{removeKey}
 use Rattle.places.proofs.Through.{mailbox-is, first-rule, all-rule}
+use Rattle.places.proofs.Moves.{hand-is}
 use Rattle.places.proofs.Steps.{pick-rule}
+use Rattle.mailboxes.proofs.Operations.{low-slot}
 use Rattle.keeping.specs.Keeping.{Calm}
 use Rattle.keeping.specs.Living.{mailLen, handLen, stepHand, given, Lives, StepHands, EndHands, FixedHands}
 use Rattle.keeping.specs.Living.{EvalHands, AtLives}
@@ -60,10 +62,6 @@ pub record Slot (g k : ℕ) : Type 0 where
   pub is : slotAt g k ≡ 16 * g + k
   pub mail : mailboxOf (slotAt g k) ≡ 6 + 2 * (16 * g + k)
   pub hand : handOf (slotAt g k) ≡ 7 + 2 * (16 * g + k)
-
-hand-is : (slot : ℕ) → slot < 128 → handOf slot ≡ 7 + 2 * slot
-unfolding handOf
-hand-is slot slot-is = rw (lt-ltb slot 128 slot-is)
 
 slot-number : (g k : ℕ) → slotAt g k < 128 → ((g < 8) × (k < 16)) × (slotAt g k ≡ 16 * g + k)
 unfolding slotOf
@@ -225,34 +223,12 @@ unfolding overFirst
 over-left t rows good from high is = first-left t good from (placeOver rows (firstOf t from)) high is
     (over-place rows (firstOf t from))
 
-pub all-left : (t : Table) → Good t → (from to : ℕ) → 5 ≤ from → from < LISTS → to < 5 → lenOf (moveAll t from to) from
-    ≡ 0
-all-left t good from to high is low =
-    let m : MovedAll t from to (moveAll t from to) = move-all (record {
-      good = good;
-      from-is = is;
-      to-is = omega arith;
-      apart = λ e. omega arith;
-    }) in
-    omega (arith, length-view (moveAll t from to) from, ap length (m .left))
-
 pub over-all-less : (n : ℕ) (t rows : Table) → Good t → (from : ℕ) → Less t (overAll t rows from n)
 unfolding overAll
 over-all-less zero t rows good from = less-same t
 over-all-less (suc n) t rows good from =
     less-then t (overFirst t rows from) _ (over-less t rows good from) (over-all-less n (overFirst t rows from) rows
     (over-good t rows good from) from)
-
-pub over-all-left : (n : ℕ) (t rows : Table) → Good t → (from : ℕ) → 5 ≤ from → from < LISTS
-    → lenOf (overAll t rows from n) from ≡ lenOf t from - n
-unfolding overAll
-over-all-left zero t rows good from high is = omega arith
-over-all-left (suc n) t rows good from high is =
-    omega (
-      arith,
-      over-all-left n (overFirst t rows from) rows (over-good t rows good from) from high is,
-      over-left t rows good from high is,
-    )
 
 -- ---- what shorter lists keep
 
@@ -634,15 +610,6 @@ past-slot g k out = go (decLt (slotAt g k) 128)
         by : (b : Bool) → leb 8 g ≡ b → slotAt g k ≡ 128
         by true e = rw e
         by false e = absurd (out (leb-false 8 g e))
-
-low-slot : (g k : ℕ) → g < 8 → k < 16 → slotAt g k ≡ 16 * g + k
-unfolding slotOf
-low-slot g k g-is k-is = by (leb 8 g) refl (leb 16 k) refl
-  where
-    by : (a : Bool) → leb 8 g ≡ a → (b : Bool) → leb 16 k ≡ b → slotAt g k ≡ 16 * g + k
-    by true e b f = absurd (omega (arith, leb-true 8 g e))
-    by false e true f = absurd (omega (arith, leb-true 16 k f))
-    by false e false f = rw (e, f)
 
 live-here : (keys : Table) (g k : ℕ) → g < 8 → k < 16 → given keys g k ≡ true → liveOf keys g k ≡ true
 unfolding liveOf

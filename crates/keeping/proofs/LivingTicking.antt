@@ -1,17 +1,19 @@
 -- Waking, stepping, settling and crashing keep the invariant of who holds messages. Assumes nothing.
-use mathlib.Core.Path.{_≡_, refl, _∙_, subst}
+use mathlib.Core.Path.{_≡_, refl, sym, ap, _∙_, subst}
 use mathlib.Core.Bool.{Bool, true, false}
+use mathlib.Core.List.{[]}
 use Prim.Native.Nat.{ℕ, _+_, _*_, _-_, _≤_, _<_}
 use native.Mathlib.Omega.{arith}
 use borrow.Author.Tests.{eqb-true}
 use lib.Dec.{eqb, ltb, leb}
-use lib.ListN.{set}
+use lib.ListN.{length, set}
 use Rattle.lists.specs.declared.Found.{Found}
 use Rattle.lists.specs.declared.keys.Key.{Key}
 use Rattle.lists.specs.declared.keys.Key.the-variants as key
 use Rattle.lists.specs.Links.{LISTS, Table, lenOf, headOf, moveAll, mailboxOf, handOf}
 use Rattle.lists.specs.Family.{Good}
 use Rattle.lists.specs.KeyLists.{blankRow, keysAt, frontOf, popFront}
+use Rattle.lists.proofs.Family.{length-view}
 use Rattle.lists.proofs.Moves.{move-all-good}
 use Rattle.actor.specs.declared.question.Reply.{Reply}
 use Rattle.actor.specs.declared.question.YesIn.{YesIn}
@@ -53,11 +55,14 @@ use Rattle.ticking.specs.Settle.{PENDING, slotOn, stepEnd, settleOf}
 use Rattle.ticking.specs.Crash as crashing
 use Rattle.ticking.specs.Crash.{Dying, Crashing, crashOf, trapReply, trappedReply, doomedOf}
 use Rattle.places.proofs.Steps.{pick-rule}
+use Rattle.mailboxes.specs.Mailboxes.{mailbox}
+use Rattle.mailboxes.proofs.Moves.{empty-out}
+use Rattle.mailboxes.proofs.Unread.{unread}
 use Rattle.keeping.specs.Living.{mailLen, handLen, stepHand, Lives, StepHands, EndHands, Lively, IsFixed}
 use Rattle.keeping.specs.Living.{AtLives}
 use Rattle.keeping.proofs.Living.{Slot, live-slot, Less, less-same, less-then, less-at, less-lives, first-less}
-use Rattle.keeping.proofs.Living.{first-left, all-less, all-left, over-less, over-left, over-all-less}
-use Rattle.keeping.proofs.Living.{over-all-left, Same, same-both, same-then, same-lives, same-live, set-row}
+use Rattle.keeping.proofs.Living.{first-left, all-less, over-less, over-left, over-all-less, Same, same-both}
+use Rattle.keeping.proofs.Living.{same-then, same-lives, same-live, set-row}
 use Rattle.keeping.proofs.Living.{ready-row, idle-row, waiting-row, high-row, push-row, put-same, put-schedule}
 use Rattle.keeping.proofs.Living.{remove-lives}
 use Rattle.keeping.proofs.LivingSteps.{FixedNextHands, EvalNextHands, eval-begins}
@@ -244,23 +249,21 @@ pub record Emptied (t r : Table) (g k : ℕ) : Type 0 where
   pub less : Less t r
   pub mail : Slot g k → mailLen r g k ≡ 0
 
+no-mail : (r : Table) (g k : ℕ) → mailbox r (16 * g + k) ≡ [] → mailLen r g k ≡ 0
+no-mail r g k none = sym (length-view r (6 + 2 * (16 * g + k))) ∙ ap length none
+
 back-empties : (t : Table) → Good t → (g k : ℕ) → Emptied t (moveAll t (mailboxOf (slotAt g k)) PENDING) g k
 back-empties t good g k = record {
   less = all-less t good (mailboxOf (slotAt g k)) PENDING (omega arith);
-  mail = λ S. rw (S .mail) (all-left t good (6 + 2 * (16 * g + k)) PENDING (omega arith)
-      (omega (arith, S .group, S .key)) (omega arith));
+  mail = λ S. rw (S .is) (no-mail _ g k (empty-out (16 * g + k) (omega (arith, S .group, S .key)) t good PENDING
+      (omega arith) .mail));
 }
 
 over-empties : (t rows : Table) → Good t → (g k : ℕ)
     → Emptied t (overAll t rows (mailboxOf (slotAt g k)) (lenOf t (mailboxOf (slotAt g k)))) g k
 over-empties t rows good g k = record {
   less = over-all-less (lenOf t (mailboxOf (slotAt g k))) t rows good (mailboxOf (slotAt g k));
-  mail = λ S. rw (S .mail)
-      (omega (
-        arith,
-        over-all-left (lenOf t (6 + 2 * (16 * g + k))) t rows good (6 + 2 * (16 * g + k)) (omega arith)
-            (omega (arith, S .group, S .key)),
-      ));
+  mail = λ S. rw (S .is) (no-mail _ g k (unread (16 * g + k) (omega (arith, S .group, S .key)) t rows good .mail));
 }
 
 go-empties : (t rows : Table) → Good t → (g k : ℕ) (consumed : Bool) (q : ℕ)

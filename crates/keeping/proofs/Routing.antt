@@ -60,7 +60,7 @@ seed-reply-calm keys actors g r = seed-by-calm keys actors g (yesIn r)
 -- ---- the inbox is taken in
 
 -- what holds of the batch and of one message more holds of the intake
-intake-rule : (t : Table) (q backlog left : ℕ) (P : Linked → Type 0) → P (batchOf t)
+pub intake-rule : (t : Table) (q backlog left : ℕ) (P : Linked → Type 0) → P (batchOf t)
     → P (record { links = moveFirst t INBOX PENDING; at = at.Intake (left - 1) }) → P (intakeOf t q backlog left)
 unfolding intakeOf
 intake-rule t q backlog left P batch more =
@@ -88,17 +88,17 @@ intake-calm t q backlog left = intake-rule t q backlog left (λ (s : Linked). Ca
 -- ---- the batch is routed
 
 -- a message is over, or delivered, or Boot is asked for it, or none is left
-record Routes (t rows : Table) (q left : ℕ) (P : Sent → Type 0) : Type 0 where
-  over : (keys actors : Table) → P (to.lostTo (to.undeliverable t rows left) keys actors q)
-  sent : (keys actors : Table) (g k : ℕ) → P (to.deliver t keys actors g k q left)
-  asks : (keys actors : Table) (g : ℕ) → P (record {
+pub record Routes (t rows : Table) (q left : ℕ) (P : Sent → Type 0) : Type 0 where
+  pub over : (keys actors : Table) → P (to.lostTo (to.undeliverable t rows left) keys actors q)
+  pub sent : (keys actors : Table) (g k : ℕ) → P (to.deliver t keys actors g k q left)
+  pub asks : (keys actors : Table) (g : ℕ) → P (record {
     links = t;
     keys = keys;
     actors = actors;
     routed =
         to.routedTo (at.RouteBoot g left) q;
   })
-  done : (keys actors : Table) → P (to.clockNext t keys actors q)
+  pub done : (keys actors : Table) → P (to.clockNext t keys actors q)
 
 -- what holds of these four holds of every way through routing
 module _ (t rows : Table) (q left : ℕ) (P : Sent → Type 0) (ways : Routes t rows q left P) where
@@ -146,7 +146,7 @@ module _ (t rows : Table) (q left : ℕ) (P : Sent → Type 0) (ways : Routes t 
       (messageAt rows e .name) count)
   by-first groups count store keys actors found.Nothing = ways .done keys actors
 
-  route-rule : (groups : Table) (count : ℕ) (store : List ℕ) (keys actors : Table)
+  pub route-rule : (groups : Table) (count : ℕ) (store : List ℕ) (keys actors : Table)
       → P (routeOf groups count store t rows keys actors q left)
   unfolding to.routeOf
   route-rule groups count store keys actors =
@@ -163,7 +163,7 @@ module _ (t rows : Table) (q left : ℕ) (P : Sent → Type 0) (ways : Routes t 
   by-reply keys actors g yes.No = by-boot keys actors g false
   by-reply keys actors g yes.Other = ways .asks keys actors g
 
-  reply-rule : (keys actors : Table) (g : ℕ) (r : Reply) → P (routeReply t rows keys actors g q left r)
+  pub reply-rule : (keys actors : Table) (g : ℕ) (r : Reply) → P (routeReply t rows keys actors g q left r)
   unfolding to.routeReply
   reply-rule keys actors g r = by-reply keys actors g (yesIn r)
 

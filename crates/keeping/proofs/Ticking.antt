@@ -162,7 +162,7 @@ module _ (t : Table) (q : ℕ) (P : Table → Begun → Type 0)
       (readying.cursorAt g k clock (pops - 1)) stepped
   front-rule keys actors stepped g clock pops key.Nothing = none _ stepped (omega arith)
 
-  ready-rule : (keys actors : Table) (stepped : Bool) (g clock pops : ℕ)
+  pub ready-rule : (keys actors : Table) (stepped : Bool) (g clock pops : ℕ)
       → P (readyOf t keys actors q stepped g clock pops .links) (readyOf t keys actors q stepped g clock pops .begun)
   unfolding readyOf
   ready-rule keys actors stepped g clock pops =
@@ -259,7 +259,7 @@ settle-ok r t rows keys actors c step.Failed q = omega arith
 -- ---- a message crashed
 
 -- past the last slot there is no hand
-no-hand : (slot : ℕ) → (slot < 128 → ⊥) → LISTS ≤ handOf slot
+pub no-hand : (slot : ℕ) → (slot < 128 → ⊥) → LISTS ≤ handOf slot
 unfolding handOf
 no-hand slot none = rw (le-ltb slot 128 (omega arith)) (omega arith)
 

@@ -1,3 +1,4 @@
 -- Definitions and statements.
 pub mod Keeping
 pub mod Living
+pub mod MailSteps

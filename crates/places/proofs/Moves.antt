@@ -39,7 +39,7 @@ desk-batch = low-desk 3 (omega arith) (omega arith)
 pub desk-hand : Desk HAND
 desk-hand = low-desk HAND (omega arith) (omega arith)
 
-hand-is : (slot : ℕ) → slot < 128 → handOf slot ≡ 7 + 2 * slot
+pub hand-is : (slot : ℕ) → slot < 128 → handOf slot ≡ 7 + 2 * slot
 unfolding handOf
 hand-is slot slot-is = rw (lt-ltb slot 128 slot-is)
 

@@ -15,10 +15,12 @@ use Rattle.log.specs.Recovery as disk
 use Rattle.places.specs.Places.{stands}
 use Rattle.handing.specs.Handing.{idsOf}
 use Rattle.lists.proofs.Family.{length-view}
+use Rattle.mailboxes.proofs.Chained.{good-chained}
 use Rattle.keeping.specs.Living.{given, Lives}
 use Rattle.keeping.proofs.LivingTurn.{few-hand}
 use Rattle.rail.specs.Rail.{Call, World, Lent, Accepts, opens, fileIn, begin, after, mailboxAt, handAt, Living}
-use Rattle.rail.specs.Rail.{Reopens, Holds, WholeRail, TailsKept, RefusedSame, OrdersFit, AdmitsLoaded}
+use Rattle.rail.specs.Rail.{Reopens, Holds, WholeRail, MailboxesChained, TailsKept, RefusedSame, OrdersFit}
+use Rattle.rail.specs.Rail.{AdmitsLoaded}
 use Rattle.rail.proofs.Invariant.{Steady}
 use Rattle.rail.proofs.Calls.{run-steady, size-is, tail-kept, order-fits}
 use Rattle.rail.proofs.Refused.{refused-stays}
@@ -91,6 +93,9 @@ pub whole-rail : WholeRail
 whole-rail l ok calls =
     steady-holds l (limitsOf l) (after l calls) (after-steady l ok calls)
     (reopens l ok (after l calls) (after-steady l ok calls))
+
+pub mailboxes-chained : MailboxesChained
+mailboxes-chained l ok calls = good-chained (after l calls .state .links) (after-steady l ok calls .works .sound .good)
 
 -- ---- every call of every list
 

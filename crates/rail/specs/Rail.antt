@@ -28,6 +28,7 @@ use Rattle.actor.specs.declared.question.Question.the-variants as ask
 use Rattle.actor.specs.declared.question.Asked.{Asked}
 use Rattle.actor.specs.declared.question.Asked.the-variants as asked
 use Rattle.places.specs.Places.{stands, mailTotal}
+use Rattle.mailboxes.specs.Mailboxes.{Chained}
 use Rattle.keeping.specs.Living.{given}
 use Rattle.handing.specs.Handing.{handed, idsOf}
 use Rattle.setup.specs.declared.settings.Settings.{Settings}
@@ -476,6 +477,11 @@ pub record Holds (l : Lent) (w : World) : Type 0 where
 -- THE STATEMENT: every opening that is accepted, every list of calls
 abbrev pub WholeRail : Type 0
 WholeRail = (l : Lent) → Accepts l → (calls : List Call) → Holds l (after l calls)
+
+-- Every mailbox is a chain through the message table, without a circle, and no message is in two
+-- (crates/mailboxes/specs/Mailboxes): every opening that is accepted, every list of calls
+abbrev pub MailboxesChained : Type 0
+MailboxesChained = (l : Lent) → Accepts l → (calls : List Call) → Chained (after l calls .state .links)
 
 -- ---- what holds of every call of every list
 

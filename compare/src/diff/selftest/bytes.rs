@@ -15,6 +15,10 @@ pub const SLIPS: &[(&str, Slip)] = &[
     ("a delivery is dropped", delivery),
     ("two keys of a list are swapped", keys),
     ("two messages of a list are swapped", messages),
+    ("two messages of a mailbox are swapped", mail),
+    ("a mailbox runs in a circle", circle),
+    ("a message in a mailbox is free too", shared),
+    ("the end of a mailbox is lost", end_lost),
     ("a mark is dropped", mark),
     ("a flag of an actor", actor),
     ("a message's attempts", attempts),
@@ -123,7 +127,7 @@ fn log(slipped: &mut Slipped, rng: &mut Rng) -> Option<()> {
 fn delivery(slipped: &mut Slipped, rng: &mut Rng) -> Option<()> {
     let mail = |at: usize| {
         let tables = slipped.tables(at);
-        (0..tables::SLOTS).map(|slot| tables.list_len(6 + 2 * slot)).sum::<usize>()
+        list::mailboxes().map(|mailbox| tables.list_len(mailbox)).sum::<usize>()
     };
     let at = slipped.any(rng, |at, _| at > 0 && mail(at) > mail(at - 1))?;
     let (from, to) = (slipped.tables_at(at - 1), slipped.tables_at(at));
@@ -148,17 +152,60 @@ fn keys(slipped: &mut Slipped, rng: &mut Rng) -> Option<()> {
 }
 
 fn messages(slipped: &mut Slipped, rng: &mut Rng) -> Option<()> {
-    let long = |at: usize| (list::INBOX..tables::LISTS).find(|&number| slipped.tables(at).list_len(number) > 1);
+    let (at, number) = long(slipped, rng, list::INBOX..tables::LISTS)?;
+    swap_first_two(slipped, at, number)
+}
+
+fn mail(slipped: &mut Slipped, rng: &mut Rng) -> Option<()> {
+    let (at, mailbox) = long(slipped, rng, list::mailboxes())?;
+    swap_first_two(slipped, at, mailbox)
+}
+
+/// Any entry in which one of these lists has two messages or more, and the number of that list.
+fn long(slipped: &Slipped, rng: &mut Rng, lists: impl Iterator<Item = usize> + Clone) -> Option<(usize, usize)> {
+    let long = |at: usize| lists.clone().find(|&number| slipped.tables(at).list_len(number) > 1);
     let at = slipped.any(rng, |at, _| long(at).is_some())?;
-    let number = long(at)?;
+    Some((at, long(at)?))
+}
+
+/// The list is a chain still.
+fn swap_first_two(slipped: &mut Slipped, at: usize, number: usize) -> Option<()> {
     let tables = slipped.tables(at);
     let [first, last, length, _] = tables.link(number);
     let second = tables.link(first as usize)[3];
-    let cell = |row: u64, cell: usize| LINKS_AT + (row as usize * LINK + cell) * NUMBER;
-    slipped.put(at, cell(number as u64, 0), second);
-    slipped.put(at, cell(number as u64, 1), if length == 2 { first } else { last });
-    slipped.put(at, cell(first, 3), tables.link(second as usize)[3]);
-    slipped.put(at, cell(second, 3), first);
+    slipped.put(at, cell(number, 0), second);
+    slipped.put(at, cell(number, 1), if length == 2 { first } else { last });
+    slipped.put(at, cell(first as usize, 3), tables.link(second as usize)[3]);
+    slipped.put(at, cell(second as usize, 3), first);
+    Some(())
+}
+
+/// A cell of the links.
+fn cell(row: usize, cell: usize) -> usize {
+    LINKS_AT + (row * LINK + cell) * NUMBER
+}
+
+/// The first message names itself as the next.
+fn circle(slipped: &mut Slipped, rng: &mut Rng) -> Option<()> {
+    let (at, mailbox) = long(slipped, rng, list::mailboxes())?;
+    let [first, ..] = slipped.tables(at).link(mailbox);
+    slipped.put(at, cell(first as usize, 3), first);
+    Some(())
+}
+
+/// The first message names the first free entry as the next.
+fn shared(slipped: &mut Slipped, rng: &mut Rng) -> Option<()> {
+    let (at, mailbox) = long(slipped, rng, list::mailboxes())?;
+    let tables = slipped.tables(at);
+    let ([first, ..], [free, _, length, _]) = (tables.link(mailbox), tables.link(list::FREE));
+    (length > 0).then(|| slipped.put(at, cell(first as usize, 3), free))
+}
+
+/// The row of the mailbox has its first message as the last. Nothing else shows it until the next delivery.
+fn end_lost(slipped: &mut Slipped, rng: &mut Rng) -> Option<()> {
+    let (at, mailbox) = long(slipped, rng, list::mailboxes())?;
+    let [first, ..] = slipped.tables(at).link(mailbox);
+    slipped.put(at, cell(mailbox, 1), first);
     Some(())
 }
 

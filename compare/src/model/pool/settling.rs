@@ -55,9 +55,16 @@ impl Pool {
             met!("release: no mail");
         } else if actor.consumed {
             met!("release: its mail goes back to pending");
+            if actor.mailbox.len() > 1 {
+                met!("release: two messages or more go back to pending");
+            }
             self.pending.extend(actor.mailbox);
         } else {
             met!("release: it never took a message, its mail is over");
+            let logged = actor.mailbox.iter().filter(|&&e| self.message(e).id.is_some()).count();
+            if 0 < logged && logged < actor.mailbox.len() {
+                met!("release: it never took a message, logged mail and other mail are over");
+            }
             for e in actor.mailbox {
                 self.is_over(e);
             }
@@ -104,6 +111,9 @@ impl Pool {
         match actor.mailbox.is_empty() {
             true => met!("doomed: no mail"),
             false => met!("doomed: its mail goes back to pending"),
+        }
+        if actor.mailbox.len() > 1 {
+            met!("doomed: two messages or more go back to pending");
         }
         self.pending.extend(actor.mailbox);
         self.crashes = self.crashes.saturating_add(1);

@@ -1,0 +1,523 @@
+-- At every point of a turn, every reply and every mark at most one mailbox changes, by one of the four operations.
+-- Assumes nothing.
+use mathlib.Core.Path.{refl}
+use mathlib.Core.Bool.{Bool, true, false}
+use mathlib.Core.List.{List}
+use Prim.Native.Nat.{ℕ, _-_, _≤_, _<_}
+use native.Mathlib.Omega.{arith}
+use native.Mathlib.Decide.{decLt}
+use lib.Dec.{eqb, ltb, leb}
+use lib.ListN.{set}
+use Rattle.lists.specs.declared.Found.{Found}
+use Rattle.lists.specs.declared.Found.the-variants as found
+use Rattle.lists.specs.declared.keys.Key.{Key}
+use Rattle.lists.specs.declared.keys.Key.the-variants as key
+use Rattle.lists.specs.Links.{LISTS, FREE, Table, lenOf, firstOf, moveFirst, moveAll, mailboxOf, handOf}
+use Rattle.lists.specs.Family.{Good}
+use Rattle.lists.specs.KeyLists.{keysAt, frontOf, popFront}
+use Rattle.lists.proofs.Moves.{move-first}
+use Rattle.log.specs.declared.Counters.{Counters}
+use Rattle.actor.specs.declared.message.Caller.{Caller}
+use Rattle.actor.specs.declared.message.Caller.the-variants as caller
+use Rattle.actor.specs.declared.message.Logged.{Logged}
+use Rattle.actor.specs.declared.question.Status.{Status}
+use Rattle.actor.specs.declared.question.Status.the-variants as status
+use Rattle.actor.specs.declared.question.Outcome.{Outcome}
+use Rattle.actor.specs.declared.question.Outcome.the-variants as outcome
+use Rattle.actor.specs.declared.question.Reply.{Reply}
+use Rattle.actor.specs.declared.question.YesIn.{YesIn}
+use Rattle.actor.specs.declared.question.YesIn.the-variants as yes
+use Rattle.actor.specs.declared.question.ClockIn.{ClockIn}
+use Rattle.actor.specs.declared.question.ClockIn.the-variants as clock
+use Rattle.actor.specs.declared.question.CountIn.{CountIn}
+use Rattle.actor.specs.declared.question.CountIn.the-variants as count
+use Rattle.actor.specs.declared.question.RanIn.{RanIn}
+use Rattle.actor.specs.declared.question.RanIn.the-variants as ran
+use Rattle.actor.specs.declared.state.Mode.{Mode}
+use Rattle.actor.specs.declared.state.Mode.the-variants as mode
+use Rattle.actor.specs.Questions.{yesIn, clockIn, countIn, ranIn, isTold}
+use Rattle.actor.specs.Messages.{messageAt}
+use Rattle.actor.specs.Actors.{actorAt, putActor, beganStep, hasRun, deadlineOf}
+use Rattle.setup.specs.Entry as entry
+use Rattle.steps.specs.declared.step.Step.{Step}
+use Rattle.steps.specs.declared.step.Step.the-variants as step
+use Rattle.steps.specs.declared.fixed.FixedAsk.{FixedAsk}
+use Rattle.steps.specs.declared.fixed.FixedAsk.the-variants as fixed
+use Rattle.steps.specs.declared.eval.EvalAsk.{EvalAsk}
+use Rattle.steps.specs.declared.eval.EvalAsk.the-variants as eval
+use Rattle.steps.specs.declared.eval.Limit.{Limit}
+use Rattle.steps.specs.Steps.{OVER, HAND, callerFirst, overFirst, takeMail}
+use Rattle.steps.specs.StepFixed.{FixedBoth, FixedLinks, stepFixed}
+use Rattle.steps.specs.StepFixed as one
+use Rattle.steps.specs.StepEval.{EvalStarted, EvalBoth, stepEval}
+use Rattle.steps.specs.StepEval as two
+use Rattle.group.specs.declared.at.At.the-variants as at
+use Rattle.group.specs.declared.at.Cursor.{Cursor}
+use Rattle.group.specs.Settings.{groupAt}
+use Rattle.group.specs.Roster.{DOOMED, slotAt, overAll}
+use Rattle.routing.specs.Intake.{INBOX, PENDING, BATCH, Linked, batchOf, intakeOf}
+use Rattle.routing.specs.Route as to
+use Rattle.routing.specs.Route.{Sent}
+use Rattle.ticking.specs.declared.crash.Losses.{Losses}
+use Rattle.ticking.specs.declared.ready.Begun.{Begun}
+use Rattle.ticking.specs.Ready as readying
+use Rattle.ticking.specs.Ready.{readyOf}
+use Rattle.ticking.specs.Settle as settling
+use Rattle.ticking.specs.Settle.{slotOn, settleOf}
+use Rattle.ticking.specs.Crash as crashing
+use Rattle.ticking.specs.Crash.{Dying, Crashing, crashOf, doomedOf}
+use Rattle.turn.specs.Go.{goRoute, goReady, goSettle, goCrash, goDoomed, goOf}
+use Rattle.turn.specs.Step as turn
+use Rattle.turn.specs.Step.{markFirst}
+use Rattle.turn.specs.Resume.{routeResumed, fixedResumed, limitOf, evalResumed, resumeOf}
+use Rattle.mailboxes.specs.Mailboxes.{mailList}
+use Rattle.mailboxes.specs.Operations.{slotNumber}
+use Rattle.mailboxes.proofs.Moves.{put-at-end, put-at-front, empty-out}
+use Rattle.mailboxes.proofs.Unread as emptied
+use Rattle.mailboxes.proofs.Operations.{takes, retires}
+use Rattle.places.specs.Places.{Desk}
+use Rattle.places.proofs.Through.{Aside, aside-desk, aside-mailbox, Through, same-through, then-through, first-rule}
+use Rattle.places.proofs.Through.{first-through, all-through, over-through, over-all-through}
+use Rattle.places.proofs.Moves.{desk-inbox, desk-pending, desk-batch, desk-hand, desk-held}
+use Rattle.places.proofs.Steps.{pick-rule}
+use Rattle.keeping.specs.MailSteps.{MailSame, MailStep, unchanged, delivered, pushedBack, took, sentBack}
+use Rattle.keeping.specs.MailSteps.{unread, retired, EveryPoint, EveryReply, EveryMark, EveryArrival}
+use Rattle.keeping.proofs.Living.{Slot, slot-is}
+use Rattle.keeping.proofs.Routing.{intake-rule, Routes, route-rule, reply-rule}
+use Rattle.keeping.proofs.Ticking.{ready-rule, no-hand}
+
+-- ---- no mailbox changes
+
+-- the first message of a list below the mailboxes goes to another one
+low-move : (t : Table) → Good t → (from to : ℕ) → from < 6 → to < 6 → MailSame t (moveFirst t from to)
+low-move t good from to f g =
+    first-rule t good from to (MailSame t) (λ slot low. refl)
+    (λ pair slot low. move-first pair .others (mailList slot) (λ e. omega arith) (λ e. omega arith))
+
+module _ (groups rows t : Table) (good : Good t) where
+  nothing : MailStep groups rows t t
+  nothing = unchanged (λ slot low. refl)
+
+  -- messages went to or from a slot that there is not
+  aside-step : (r : Table) (slot : ℕ) → 128 ≤ slot → Through t rows r slot → MailStep groups rows t r
+  aside-step r slot past went = unchanged (λ s low. went .others s low (λ e. omega arith))
+
+  -- messages went between lists that are no mailboxes
+  elsewhere : {r : Table} → Through t rows r 128 → MailStep groups rows t r
+  elsewhere {r = r} went = aside-step r 128 (omega arith) went
+
+-- ---- moves between lists that are no mailboxes
+
+module _ (t rows : Table) (good : Good t) (from : ℕ) (f : Desk from) where
+  move-quiet : (to : ℕ) → Desk to → Through t rows (moveFirst t from to) 128
+  move-quiet to g = first-through t rows good from 128 (aside-desk 128 from f) to (aside-desk 128 to g)
+
+  all-quiet : (to : ℕ) → Desk to → Through t rows (moveAll t from to) 128
+  all-quiet to g = all-through t rows good from 128 (aside-desk 128 from f) to (aside-desk 128 to g)
+
+  -- the first message is over
+  over-quiet : Through t rows (overFirst t rows from) 128
+  over-quiet = over-through t rows good from 128 (aside-desk 128 from f)
+
+-- ---- a mailbox, whatever the slot: where there is no such mailbox nothing moves
+
+-- what holds where there is such a mailbox, and where there is none, holds
+slot-rule : (slot : ℕ) (P : Type 0) → (slot < 128 → P) → (128 ≤ slot → P) → P
+slot-rule slot P there none = go (decLt slot 128)
+  where
+    go : Dec (slot < 128) → P
+    go (yes p) = there p
+    go (no p) = none (omega arith)
+
+module _ (groups t rows : Table) (good : Good t) (slot : ℕ) where
+  -- the first message of the batch is put at its end
+  delivery : MailStep groups rows t (moveFirst t BATCH (mailboxOf slot))
+  delivery =
+      slot-rule slot _ (λ low. delivered slot low (put-at-end slot low t good BATCH (omega arith)))
+      (λ past. aside-step groups rows t good _ slot past (first-through t rows good BATCH slot
+      (aside-desk slot BATCH desk-batch) (mailboxOf slot) (aside-mailbox slot)))
+
+  -- all of it goes to the end of pending
+  sending-back : MailStep groups rows t (moveAll t (mailboxOf slot) PENDING)
+  sending-back =
+      slot-rule slot _ (λ low. sentBack slot low (empty-out slot low t good PENDING (omega arith)))
+      (λ past. aside-step groups rows t good _ slot past (all-through t rows good (mailboxOf slot) slot
+      (aside-mailbox slot) PENDING (aside-desk slot PENDING desk-pending)))
+
+  -- all of it is over
+  dropping : MailStep groups rows t (overAll t rows (mailboxOf slot) (lenOf t (mailboxOf slot)))
+  dropping =
+      slot-rule slot _ (λ low. unread slot low (emptied.unread slot low t rows good))
+      (λ past. aside-step groups rows t good _ slot past (over-all-through (lenOf t (mailboxOf slot)) t rows good
+      (mailboxOf slot) slot (aside-mailbox slot)))
+
+-- ---- a step of an eval actor: mail is taken as it begins, and then no mailbox changes
+
+abbrev EvalQuiet : Table → Table → EvalBoth → Type 0
+EvalQuiet t rows s = Through t rows (s .links) 128
+
+module _ (t rows l : Table) (slot : ℕ) (good : Good t) where
+  -- the message of the step's hand is over; its caller, where there is one, is told first
+  over-eval : EvalQuiet t rows (two.evalOver t rows l slot)
+  unfolding two.evalOver
+  over-eval =
+      let over = over-quiet t rows good HAND desk-hand in
+      pick-rule (EvalQuiet t rows) (eqb (lenOf (overFirst t rows HAND) (mailboxOf slot)) 0) (λ e. over) (λ e. over)
+
+  tell-eval : (o : Outcome) → EvalQuiet t rows (two.evalTell t rows l slot o)
+  unfolding two.evalTell
+  tell-eval o = go (callerFirst rows (firstOf t HAND))
+    where
+      go : (c : Caller) → EvalQuiet t rows (two.evalTold t rows l slot o c)
+      go (caller.From id) = same-through t rows 128 good
+      go caller.Nobody = over-eval
+
+module _ (t rows l : Table) (slot : ℕ) (good : Good t) (low : slot < 128) where
+  -- a reply that does not fit, and one that only leads on, moves nothing
+  quiet : Through t rows t 128
+  quiet = same-through t rows 128 good
+
+  held-to-hand : Through t rows (moveFirst t (handOf slot) HAND) 128
+  held-to-hand = move-quiet t rows good (handOf slot) (desk-held slot low) HAND desk-hand
+
+  hand-to-held : Through t rows (moveFirst t HAND (handOf slot)) 128
+  hand-to-held = move-quiet t rows good HAND desk-hand (handOf slot) (desk-held slot low)
+
+  -- the run ends
+  finish-eval : (o : Outcome) → EvalQuiet t rows (two.evalFinish t rows l slot o)
+  unfolding two.evalFinish
+  finish-eval o = then-through held-to-hand (tell-eval (moveFirst t (handOf slot) HAND) rows _ slot
+      (held-to-hand .good) o)
+
+  clocked-eval : (c : ℕ) → EvalQuiet t rows (two.evalClocked t rows l slot c)
+  unfolding two.evalClocked
+  clocked-eval c = pick-rule (EvalQuiet t rows) (leb (deadlineOf (actorAt l slot .run)) c)
+      (λ e. finish-eval outcome.Late) (λ e. quiet)
+
+  ran-eval : (s : Status) → EvalQuiet t rows (two.evalRan t rows l slot s)
+  unfolding two.evalRan
+  ran-eval status.Done = finish-eval outcome.Ran
+  ran-eval status.Exit = finish-eval outcome.Ran
+  ran-eval status.Preempted = quiet
+  ran-eval status.Event = finish-eval outcome.StuckReceive
+  ran-eval status.HostCall = quiet
+  ran-eval status.Error = finish-eval outcome.Raised
+  ran-eval status.Broke = finish-eval outcome.Broke
+
+  dispatched-eval : (n : ℕ) → EvalQuiet t rows (two.evalDispatched t rows l slot n)
+  unfolding two.evalDispatched
+  dispatched-eval n = pick-rule (EvalQuiet t rows) (ltb 0 n) (λ e. quiet) (λ e. finish-eval outcome.StuckHostCall)
+
+  by-clock : (r : ClockIn) → EvalQuiet t rows (two.clockBy t rows l slot r)
+  by-clock (clock.Of ns) = clocked-eval ns
+  by-clock clock.Other = quiet
+
+  by-boot : (r : YesIn) → EvalQuiet t rows (two.bootBy t rows l slot r)
+  unfolding two.evalBooted
+  by-boot yes.Yes = quiet
+  by-boot yes.No = tell-eval t rows l slot good outcome.Unbooted
+  by-boot yes.Other = quiet
+
+  by-start : (limit : Limit) (r : ClockIn) → EvalQuiet t rows (two.startBy t l slot limit r)
+  unfolding two.evalStarted
+  by-start limit (clock.Of ns) = hand-to-held
+  by-start limit clock.Other = quiet
+
+  by-run-eval : (start : Bool) (r : RanIn) → EvalQuiet t rows (two.runBy t rows l slot start r)
+  by-run-eval start (ran.Of s) = ran-eval s
+  by-run-eval start ran.Other = quiet
+
+  by-dispatch-eval : (r : CountIn) → EvalQuiet t rows (two.dispatchBy t rows l slot r)
+  by-dispatch-eval (count.Of n) = dispatched-eval n
+  by-dispatch-eval count.Other = quiet
+
+  eval-quiet : (limit : Limit) (a : EvalAsk) (r : Reply) → EvalQuiet t rows (stepEval t rows l slot limit a r)
+  unfolding two.stepEval two.clockReply two.bootReply two.startReply two.runReply two.dispatchReply two.tellReply
+  eval-quiet limit eval.Clock r = by-clock (clockIn r)
+  eval-quiet limit eval.Boot r = by-boot (yesIn r)
+  eval-quiet limit eval.StartClock r = by-start limit (clockIn r)
+  eval-quiet limit (eval.Run start) r = by-run-eval start (ranIn r)
+  eval-quiet limit eval.Dispatch r = by-dispatch-eval (countIn r)
+  eval-quiet limit (eval.Tell o) r = pick-rule (EvalQuiet t rows) (isTold r) (λ e. over-eval t rows l slot good)
+      (λ e. quiet)
+
+-- ---- a step of a fixed actor: after Drain mail is taken, and after Push it is put back where the answer is no
+
+module _ (groups t rows l : Table) (slot : ℕ) (good : Good t) (low : slot < 128) where
+  -- the first message of the mailbox is taken into the step's hand
+  taken : (q : ℕ) → MailStep groups rows t (takeMail t l slot q .links)
+  taken q = took slot low (takes t l slot q good low)
+
+  held-over : MailStep groups rows t (overFirst t rows (handOf slot))
+  held-over = elsewhere groups rows t good (over-quiet t rows good (handOf slot) (desk-held slot low))
+
+  failed-fixed : MailStep groups rows t (one.fixedFailed t slot .links)
+  unfolding one.fixedFailed
+  failed-fixed = elsewhere groups rows t good (held-to-hand t rows l slot good low)
+
+  ran-fixed : (s : Status) → MailStep groups rows t (one.fixedRan t rows slot s .links)
+  unfolding one.fixedRan
+  ran-fixed status.Done = held-over
+  ran-fixed status.Exit = held-over
+  ran-fixed status.Preempted = nothing groups rows t good
+  ran-fixed status.Event = held-over
+  ran-fixed status.HostCall = nothing groups rows t good
+  ran-fixed status.Error = failed-fixed
+  ran-fixed status.Broke = failed-fixed
+
+  dispatched-fixed : (n : ℕ) → MailStep groups rows t (one.fixedDispatched t slot n .links)
+  unfolding one.fixedDispatched
+  dispatched-fixed n =
+      pick-rule (λ (f : FixedLinks). MailStep groups rows t (f .links)) (ltb 0 n) (λ e. nothing groups rows t good)
+      (λ e. failed-fixed)
+
+  by-run : (start : Bool) (r : RanIn) → MailStep groups rows t (one.runBy t rows slot start r .links)
+  by-run start (ran.Of s) = ran-fixed s
+  by-run start ran.Other = nothing groups rows t good
+
+  by-drain : (q : ℕ) (r : CountIn) → MailStep groups rows t (one.drainBy t l slot q r .links)
+  unfolding one.fixedDrained
+  by-drain q (count.Of n) =
+      pick-rule (λ (s : FixedBoth). MailStep groups rows t (s .links)) (ltb 0 n) (λ e. nothing groups rows t good)
+      (λ e. taken q)
+  by-drain q count.Other = nothing groups rows t good
+
+  by-push : (q : ℕ) (r : YesIn) → MailStep groups rows t (one.pushBy t l slot q r .links)
+  unfolding one.fixedPushed
+  by-push q yes.Yes = elsewhere groups rows t good (hand-to-held t rows l slot good low)
+  by-push q yes.No = pushedBack slot low (put-at-front slot low t good HAND (omega arith))
+  by-push q yes.Other = nothing groups rows t good
+
+  by-dispatch : (r : CountIn) → MailStep groups rows t (one.dispatchBy t slot r .links)
+  by-dispatch (count.Of n) = dispatched-fixed n
+  by-dispatch count.Other = nothing groups rows t good
+
+  fixed-step : (q : ℕ) (a : FixedAsk) (r : Reply) → MailStep groups rows t (stepFixed t rows l slot q a r .links)
+  unfolding one.stepFixed one.runReply one.drainReply one.pushReply one.dispatchReply
+  fixed-step q (fixed.Run start) r = by-run start (ranIn r)
+  fixed-step q fixed.Drain r = by-drain q (countIn r)
+  fixed-step q fixed.Push r = by-push q (yesIn r)
+  fixed-step q fixed.Dispatch r = by-dispatch (countIn r)
+
+-- ---- taking in and routing
+
+intake-step : (groups t rows : Table) (q backlog left : ℕ) → Good t
+    → MailStep groups rows t (intakeOf t q backlog left .links)
+unfolding batchOf
+intake-step groups t rows q backlog left good =
+    intake-rule t q backlog left (λ (s : Linked). MailStep groups rows t (s .links))
+    (elsewhere groups rows t good (all-quiet t rows good PENDING desk-pending BATCH desk-batch))
+    (elsewhere groups rows t good (move-quiet t rows good INBOX desk-inbox PENDING desk-pending))
+
+abbrev SentStep : Table → Table → Table → Sent → Type 0
+SentStep groups rows t s = MailStep groups rows t (s .links)
+
+-- only a delivery changes a mailbox
+route-ways : (groups t rows : Table) (q left : ℕ) → Good t → Routes t rows q left (SentStep groups rows t)
+unfolding to.undeliverable to.deliver to.deliverTo
+route-ways groups t rows q left good = record {
+  over = λ keys actors. elsewhere groups rows t good (over-quiet t rows good BATCH desk-batch);
+  sent = λ keys actors g k. delivery groups t rows good (slotAt g k);
+  asks = λ keys actors g. nothing groups rows t good;
+  done = λ keys actors. nothing groups rows t good;
+}
+
+-- ---- a step begins
+
+-- that of an eval actor without a run takes mail
+begin-by-step : (groups rows t actors : Table) (c : Cursor) (slot q : ℕ) → Good t → slot < 128 → (m : Mode)
+    → MailStep groups rows t (readying.beginBy t actors c slot q m .links)
+unfolding readying.beginEval two.evalStart
+begin-by-step groups rows t actors c slot q good low mode.Fixed = nothing groups rows t good
+begin-by-step groups rows t actors c slot q good low mode.Eval =
+    pick-rule (λ (s : EvalStarted). MailStep groups rows t (s .links)) (hasRun (actorAt actors slot .run))
+    (λ e. nothing groups rows t good)
+    (λ e. taken groups t rows actors slot good low q)
+
+begin-step : (groups rows t actors : Table) (c : Cursor) (slot q : ℕ) → Good t → slot < 128
+    → MailStep groups rows t (readying.beginStep t actors c slot q .links)
+unfolding readying.beginStep
+begin-step groups rows t actors c slot q good low =
+    begin-by-step groups rows t (putActor actors slot (beganStep (actorAt actors slot))) c slot
+    q good low (actorAt actors slot .mode)
+
+ready-step : (groups rows t keys actors : Table) (q : ℕ) (b : Bool) (g clock pops : ℕ) → Good t
+    → MailStep groups rows t (readyOf t keys actors q b g clock pops .links)
+ready-step groups rows t keys actors q b g clock pops good =
+    ready-rule t q (λ (r : Table) (s : Begun). MailStep groups rows t r) (λ a stepped calm. nothing groups rows t good)
+    (λ l c low. begin-step groups rows t l c (slotOn c) q good low) keys actors b g clock pops
+
+-- ---- a step ends
+
+-- the mailbox of an actor that ended or raised goes back to pending, or is over
+let-go-step : (groups t rows : Table) (slot : ℕ) (consumed : Bool) (q : ℕ) → Good t
+    → MailStep groups rows t (settling.letGo t rows slot consumed q .links)
+unfolding settling.letGo
+let-go-step groups t rows slot true q good = sending-back groups t rows good slot
+let-go-step groups t rows slot false q good = dropping groups t rows good slot
+
+settle-step : (groups t rows keys actors : Table) (c : Cursor) (s : Step) (q : ℕ) → Good t
+    → MailStep groups rows t (settleOf t rows keys actors c s q .links)
+unfolding settleOf settling.releaseOf
+settle-step groups t rows keys actors c step.Done q good =
+    let-go-step groups t rows (slotOn c) (actorAt actors (slotOn c) .consumed)
+    q good
+settle-step groups t rows keys actors c (step.Parked p) q good = nothing groups rows t good
+settle-step groups t rows keys actors c step.Failed q good = let-go-step groups t rows (slotOn c)
+    (actorAt actors (slotOn c) .consumed) q good
+
+-- ---- a message crashed
+
+-- it is tried again, and then pending, or over
+module _ (groups t rows : Table) (g slot : ℕ) (good : Good t) (from dead : ℕ) (f : Aside slot from) where
+  entry-through : (e : ℕ) → Through t rows (crashing.crashedEntry groups t rows g from e dead .links) slot
+  unfolding crashing.crashedEntry
+  entry-through e =
+      pick-rule (λ (d : Dying). Through t rows (d .links) slot)
+      (ltb (messageAt rows e .attempts) (groupAt groups g .retry))
+      (λ b. first-through t rows good from slot f PENDING (aside-desk slot PENDING desk-pending))
+      (λ b. over-through t rows good from slot f)
+
+  found-through : (e : Found) → Through t rows (crashing.crashedFound groups t rows g from dead e .links) slot
+  found-through (found.Entry e) = entry-through e
+  found-through found.Nothing = same-through t rows slot good
+
+  crashed-through : Through t rows (crashing.crashedFirst groups t rows g from dead .links) slot
+  unfolding crashing.crashedFirst
+  crashed-through = found-through (firstOf t from)
+
+crash-step : (groups t rows : Table) (c : Cursor) (l : Losses) → Good t
+    → MailStep groups rows t (crashOf groups t rows c l .links)
+unfolding crashOf
+crash-step groups t rows c l good =
+    elsewhere groups rows t good (crashed-through groups t rows (c .group) 128 good HAND (l .dead) (aside-desk 128 HAND
+    desk-hand))
+
+-- ---- those that were trapped are retired
+
+-- past the last slot there is no hand
+aside-hand : (slot : ℕ) → 128 ≤ slot → Aside slot (handOf slot)
+aside-hand slot past =
+    let none : LISTS ≤ handOf slot = no-hand slot (λ low. omega arith) in
+    record { place = omega arith; no-mail = λ s s-is other e. omega arith }
+
+module _ (groups t rows : Table) (c : Cursor) (q : ℕ) (l : Losses) (good : Good t) where
+  -- where there is no such slot nothing moves
+  past-step : (keys : Table) (k n : ℕ) → 128 ≤ slotAt (c .group) k
+      → MailStep groups rows t (crashing.doomedKey groups t rows keys c k n q l .links)
+  unfolding crashing.doomedKey
+  past-step keys k n past =
+      let slot = slotAt (c .group) k in
+      let back = all-through t rows good (mailboxOf slot) slot (aside-mailbox slot) PENDING (aside-desk slot PENDING
+      desk-pending) in
+      aside-step groups rows t good _ slot past
+      (then-through back (crashed-through groups (crashing.mailBack t slot) rows
+      (c .group) slot (back .good) (handOf slot) (l .dead) (aside-hand slot past)))
+
+  doomed-key-step : (keys : Table) (k n : ℕ)
+      → MailStep groups rows t (crashing.doomedKey groups t rows keys c k n q l .links)
+  doomed-key-step keys k n = slot-rule (slotAt (c .group) k) _ (λ low. there (slot-is (c .group) k low))
+      (past-step keys k n)
+    where
+      there : Slot (c .group) k → MailStep groups rows t (crashing.doomedKey groups t rows keys c k n q l .links)
+      there s = retired (c .group) (slotNumber (c .group) k) (omega (arith, s .group, s .key))
+          (retires groups t rows keys c k n q l good (s .group) (s .key))
+
+  doomed-front-step : (keys : Table) (left : ℕ) (k : Key)
+      → MailStep groups rows t (crashing.doomedFront groups t rows keys c left q l k .links)
+  doomed-front-step keys left (key.At k) = doomed-key-step (set keys DOOMED (popFront (keysAt keys DOOMED))) k
+      (left - 1)
+  doomed-front-step keys left key.Nothing = nothing groups rows t good
+
+  doomed-step : (keys : Table) (left : ℕ) → MailStep groups rows t (doomedOf groups t rows keys c left q l .links)
+  unfolding doomedOf
+  doomed-step keys left =
+      pick-rule (λ (s : Crashing). MailStep groups rows t (s .links)) (eqb left 0) (λ e. nothing groups rows t good)
+      (λ e. doomed-front-step keys left (frontOf (keysAt keys DOOMED)))
+
+-- ---- every point
+
+pub every-point : EveryPoint
+unfolding goOf goRoute goReady goSettle goCrash goDoomed
+every-point at.Rest n limits store groups t rows keys actors good = nothing groups rows t good
+every-point (at.Seed g) n limits store groups t rows keys actors good = nothing groups rows t good
+every-point (at.SeedBoot g) n limits store groups t rows keys actors good = nothing groups rows t good
+every-point (at.Intake left) n limits store groups t rows keys actors good = intake-step groups t rows (n .queued)
+    (limits .backlog) left good
+every-point (at.Route left) n limits store groups t rows keys actors good =
+    route-rule t rows (n .queued) left (SentStep groups rows t) (route-ways groups t rows (n .queued) left good)
+    groups (limits .groups)
+    store keys actors
+every-point (at.RouteBoot g left) n limits store groups t rows keys actors good = nothing groups rows t good
+every-point at.TickClock n limits store groups t rows keys actors good = nothing groups rows t good
+every-point (at.Wake g clock) n limits store groups t rows keys actors good = nothing groups rows t good
+every-point (at.WakeNext g clock left) n limits store groups t rows keys actors good = nothing groups rows t good
+every-point (at.WakePoll g k clock left) n limits store groups t rows keys actors good = nothing groups rows t good
+every-point (at.Ready g clock pops) n limits store groups t rows keys actors good =
+    ready-step groups rows t keys actors
+    (n .queued) (n .stepped) g clock pops good
+every-point (at.Fixed c a) n limits store groups t rows keys actors good = nothing groups rows t good
+every-point (at.Eval c a) n limits store groups t rows keys actors good = nothing groups rows t good
+every-point (at.StepEnd c e) n limits store groups t rows keys actors good = nothing groups rows t good
+every-point (at.Sends c s) n limits store groups t rows keys actors good = nothing groups rows t good
+every-point (at.Settle c s) n limits store groups t rows keys actors good = settle-step groups t rows keys actors c s
+    (n .queued) good
+every-point (at.Crash c) n limits store groups t rows keys actors good = crash-step groups t rows c (n .losses) good
+every-point (at.AskTrap c) n limits store groups t rows keys actors good = nothing groups rows t good
+every-point (at.Trap c) n limits store groups t rows keys actors good = nothing groups rows t good
+every-point (at.Trapped c k) n limits store groups t rows keys actors good = nothing groups rows t good
+every-point (at.Doomed c left) n limits store groups t rows keys actors good = doomed-step groups t rows c
+    (n .queued) (n .losses) good keys left
+
+-- ---- every reply
+
+pub every-reply : EveryReply
+unfolding resumeOf routeResumed fixedResumed evalResumed
+every-reply at.Rest n limits groups t rows keys actors r good ok = nothing groups rows t good
+every-reply (at.Seed g) n limits groups t rows keys actors r good ok = nothing groups rows t good
+every-reply (at.SeedBoot g) n limits groups t rows keys actors r good ok = nothing groups rows t good
+every-reply (at.Intake left) n limits groups t rows keys actors r good ok = nothing groups rows t good
+every-reply (at.Route left) n limits groups t rows keys actors r good ok = nothing groups rows t good
+every-reply (at.RouteBoot g left) n limits groups t rows keys actors r good ok =
+    reply-rule t rows (n .queued) left (SentStep groups rows t) (route-ways groups t rows (n .queued) left good)
+    keys actors g r
+every-reply at.TickClock n limits groups t rows keys actors r good ok = nothing groups rows t good
+every-reply (at.Wake g clock) n limits groups t rows keys actors r good ok = nothing groups rows t good
+every-reply (at.WakeNext g clock left) n limits groups t rows keys actors r good ok = nothing groups rows t good
+every-reply (at.WakePoll g k clock left) n limits groups t rows keys actors r good ok = nothing groups rows t good
+every-reply (at.Ready g clock pops) n limits groups t rows keys actors r good ok = nothing groups rows t good
+every-reply (at.Fixed c a) n limits groups t rows keys actors r good (low, full) =
+    fixed-step groups t rows actors (slotAt (c .group) (c .key)) good low (n .queued) a r
+every-reply (at.Eval c a) n limits groups t rows keys actors r good low =
+    elsewhere groups rows t good
+    (eval-quiet t rows actors (slotAt (c .group) (c .key)) good low (limitOf limits groups c) a r)
+every-reply (at.StepEnd c e) n limits groups t rows keys actors r good ok = nothing groups rows t good
+every-reply (at.Sends c s) n limits groups t rows keys actors r good ok = nothing groups rows t good
+every-reply (at.Settle c s) n limits groups t rows keys actors r good ok = nothing groups rows t good
+every-reply (at.Crash c) n limits groups t rows keys actors r good ok = nothing groups rows t good
+every-reply (at.AskTrap c) n limits groups t rows keys actors r good ok = nothing groups rows t good
+every-reply (at.Trap c) n limits groups t rows keys actors r good ok = nothing groups rows t good
+every-reply (at.Trapped c k) n limits groups t rows keys actors r good ok = nothing groups rows t good
+every-reply (at.Doomed c left) n limits groups t rows keys actors r good ok = nothing groups rows t good
+
+-- ---- every mark, and every message that comes
+
+mark-found : (bytes : List ℕ) (records t rows : Table) (n : Counters) (limit : ℕ) → Good t → (e : Found)
+    → MailSame t (turn.markFound bytes records t rows n limit e .links)
+mark-found bytes records t rows n limit good (found.Entry e) = low-move t good OVER FREE (omega arith) (omega arith)
+mark-found bytes records t rows n limit good found.Nothing = λ slot low. refl
+
+pub every-mark : EveryMark
+unfolding markFirst
+every-mark bytes records t rows n limit good = mark-found bytes records t rows n limit good (firstOf t OVER)
+
+kept-found : (store : List ℕ) (t rows : Table) (name body : List ℕ) (who : Caller) (id : Logged) (to : ℕ) → Good t
+    → to < 6 → (e : Found) → MailSame t (entry.keepFound store t rows name body who id to e .links)
+unfolding entry.keepAt
+kept-found store t rows name body who id to good low (found.Entry e) = low-move t good FREE to (omega arith) low
+kept-found store t rows name body who id to good low found.Nothing = λ slot s-is. refl
+
+pub every-arrival : EveryArrival
+unfolding entry.keepOf
+every-arrival store t rows name body who id to good low =
+    kept-found store t rows name body who id to good low (firstOf t FREE)

@@ -1,0 +1,4 @@
+-- Definitions and statements.
+pub mod Mailboxes
+pub mod Operations
+pub mod Examples
