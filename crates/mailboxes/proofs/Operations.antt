@@ -37,6 +37,8 @@ pub low-slot : (g k : ℕ) → g < 8 → k < 16 → slotAt g k ≡ slotNumber g 
 unfolding slotOf
 low-slot g k group key = rw (lt-leb 8 g group, lt-leb 16 k key)
 
+-- ---- put at the end, put at the front, take, empty
+
 pub delivers : Delivers
 unfolding deliver deliverTo
 delivers t keys actors g k queued left good group key =

@@ -22,9 +22,9 @@ use Rattle.routing.specs.Route.{deliver}
 use Rattle.ticking.specs.Settle.{PENDING, releaseOf}
 use Rattle.mailboxes.specs.Mailboxes.{mailbox, mailList}
 
--- these numbers, in this order
-abbrev is : List ℕ → List ℕ → Bool
-is found stated = sameBytes found stated
+-- a list has these entries, or ids, in this order
+abbrev has : List ℕ → List ℕ → Bool
+has list stated = sameBytes list stated
 
 -- entry 0 goes to the first of these lists, entry 1 to the second, and so on; the others are free
 unfoldable pub dealt : Table → List ℕ → Table
@@ -93,12 +93,12 @@ idsOver = map (λ (e : ℕ). loggedNumber (messageAt rows e .id)) (view unread O
 
 unfoldable pub examples : List Bool
 examples =
-    is (mailbox waiting 0) (4 ∷ 9 ∷ []) ∷ is (view waiting BATCH) (2 ∷ []) ∷
-    is (mailbox delivered 0) (4 ∷ 9 ∷ 2 ∷ []) ∷ is (view delivered BATCH) [] ∷
-    is (mailbox taken 0) (9 ∷ 2 ∷ []) ∷ is (view taken HAND) (4 ∷ []) ∷
-    is (mailbox pushedBack 0) (4 ∷ 9 ∷ 2 ∷ []) ∷ is (view pushedBack HAND) [] ∷
-    is (mailbox sentBack 0) [] ∷ is (view sentBack PENDING) (view taken PENDING ++ (9 ∷ 2 ∷ [])) ∷
-    is (mailbox frontOfNone 0) (7 ∷ []) ∷ is (mailbox thenEnd 0) (7 ∷ 8 ∷ []) ∷
-    is (mailbox unread 0) [] ∷ is (view unread OVER) (0 ∷ 2 ∷ []) ∷ is idsOver (5 ∷ 6 ∷ []) ∷
-    is (view unread FREE) (upFrom 3 253 ++ (1 ∷ [])) ∷
+    has (mailbox waiting 0) (4 ∷ 9 ∷ []) ∷ has (view waiting BATCH) (2 ∷ []) ∷
+    has (mailbox delivered 0) (4 ∷ 9 ∷ 2 ∷ []) ∷ has (view delivered BATCH) [] ∷
+    has (mailbox taken 0) (9 ∷ 2 ∷ []) ∷ has (view taken HAND) (4 ∷ []) ∷
+    has (mailbox pushedBack 0) (4 ∷ 9 ∷ 2 ∷ []) ∷ has (view pushedBack HAND) [] ∷
+    has (mailbox sentBack 0) [] ∷ has (view sentBack PENDING) (view taken PENDING ++ (9 ∷ 2 ∷ [])) ∷
+    has (mailbox frontOfNone 0) (7 ∷ []) ∷ has (mailbox thenEnd 0) (7 ∷ 8 ∷ []) ∷
+    has (mailbox unread 0) [] ∷ has (view unread OVER) (0 ∷ 2 ∷ []) ∷ has idsOver (5 ∷ 6 ∷ []) ∷
+    has (view unread FREE) (upFrom 3 253 ++ (1 ∷ [])) ∷
     []
