@@ -6,7 +6,7 @@ use mathlib.Core.List.{List}
 use Prim.Native.Nat.{ℕ, _-_, _≤_, _<_}
 use native.Mathlib.Omega.{arith}
 use native.Mathlib.Decide.{decLt}
-use lib.Dec.{eqb, ltb, leb}
+use lib.Dec.{eqb, ltb}
 use lib.ListN.{set}
 use Rattle.lists.specs.declared.Found.{Found}
 use Rattle.lists.specs.declared.Found.the-variants as found
@@ -18,38 +18,30 @@ use Rattle.lists.specs.KeyLists.{keysAt, frontOf, popFront}
 use Rattle.lists.proofs.Moves.{move-first}
 use Rattle.log.specs.declared.Counters.{Counters}
 use Rattle.actor.specs.declared.message.Caller.{Caller}
-use Rattle.actor.specs.declared.message.Caller.the-variants as caller
 use Rattle.actor.specs.declared.message.Logged.{Logged}
 use Rattle.actor.specs.declared.question.Status.{Status}
 use Rattle.actor.specs.declared.question.Status.the-variants as status
-use Rattle.actor.specs.declared.question.Outcome.{Outcome}
-use Rattle.actor.specs.declared.question.Outcome.the-variants as outcome
 use Rattle.actor.specs.declared.question.Reply.{Reply}
 use Rattle.actor.specs.declared.question.YesIn.{YesIn}
 use Rattle.actor.specs.declared.question.YesIn.the-variants as yes
-use Rattle.actor.specs.declared.question.ClockIn.{ClockIn}
-use Rattle.actor.specs.declared.question.ClockIn.the-variants as clock
 use Rattle.actor.specs.declared.question.CountIn.{CountIn}
 use Rattle.actor.specs.declared.question.CountIn.the-variants as count
 use Rattle.actor.specs.declared.question.RanIn.{RanIn}
 use Rattle.actor.specs.declared.question.RanIn.the-variants as ran
 use Rattle.actor.specs.declared.state.Mode.{Mode}
 use Rattle.actor.specs.declared.state.Mode.the-variants as mode
-use Rattle.actor.specs.Questions.{yesIn, clockIn, countIn, ranIn, isTold}
+use Rattle.actor.specs.Questions.{yesIn, countIn, ranIn}
 use Rattle.actor.specs.Messages.{messageAt}
-use Rattle.actor.specs.Actors.{actorAt, putActor, beganStep, hasRun, deadlineOf}
+use Rattle.actor.specs.Actors.{actorAt, putActor, beganStep, hasRun}
 use Rattle.setup.specs.Entry as entry
 use Rattle.steps.specs.declared.step.Step.{Step}
 use Rattle.steps.specs.declared.step.Step.the-variants as step
 use Rattle.steps.specs.declared.fixed.FixedAsk.{FixedAsk}
 use Rattle.steps.specs.declared.fixed.FixedAsk.the-variants as fixed
-use Rattle.steps.specs.declared.eval.EvalAsk.{EvalAsk}
-use Rattle.steps.specs.declared.eval.EvalAsk.the-variants as eval
-use Rattle.steps.specs.declared.eval.Limit.{Limit}
-use Rattle.steps.specs.Steps.{OVER, HAND, callerFirst, overFirst, takeMail}
+use Rattle.steps.specs.Steps.{OVER, HAND, overFirst, takeMail}
 use Rattle.steps.specs.StepFixed.{FixedBoth, FixedLinks, stepFixed}
 use Rattle.steps.specs.StepFixed as one
-use Rattle.steps.specs.StepEval.{EvalStarted, EvalBoth, stepEval}
+use Rattle.steps.specs.StepEval.{EvalStarted}
 use Rattle.steps.specs.StepEval as two
 use Rattle.group.specs.declared.at.At.the-variants as at
 use Rattle.group.specs.declared.at.Cursor.{Cursor}
@@ -75,11 +67,11 @@ use Rattle.mailboxes.specs.Operations.{slotNumber}
 use Rattle.mailboxes.proofs.Moves.{put-at-end, put-at-front, empty-out}
 use Rattle.mailboxes.proofs.Unread as emptied
 use Rattle.mailboxes.proofs.Operations.{takes, retires}
-use Rattle.places.specs.Places.{Desk}
 use Rattle.places.proofs.Through.{Aside, aside-desk, aside-mailbox, Through, same-through, then-through, first-rule}
-use Rattle.places.proofs.Through.{first-through, all-through, over-through, over-all-through}
+use Rattle.places.proofs.Through.{first-through, all-through, over-through, over-all-through, desk-move, desk-all}
+use Rattle.places.proofs.Through.{desk-over}
 use Rattle.places.proofs.Moves.{desk-inbox, desk-pending, desk-batch, desk-hand, desk-held}
-use Rattle.places.proofs.Steps.{pick-rule}
+use Rattle.places.proofs.Steps.{pick-rule, held-to-hand, hand-to-held, eval-through}
 use Rattle.keeping.specs.MailSteps.{MailSame, MailStep, unchanged, delivered, pushedBack, took, sentBack}
 use Rattle.keeping.specs.MailSteps.{unread, retired, EveryPoint, EveryReply, EveryMark, EveryArrival}
 use Rattle.keeping.proofs.Living.{Slot, slot-is}
@@ -105,19 +97,6 @@ module _ (groups rows t : Table) (good : Good t) where
   -- messages went between lists that are no mailboxes
   elsewhere : {r : Table} → Through t rows r 128 → MailStep groups rows t r
   elsewhere {r = r} went = aside-step r 128 (omega arith) went
-
--- ---- moves between lists that are no mailboxes
-
-module _ (t rows : Table) (good : Good t) (from : ℕ) (f : Desk from) where
-  move-quiet : (to : ℕ) → Desk to → Through t rows (moveFirst t from to) 128
-  move-quiet to g = first-through t rows good from 128 (aside-desk 128 from f) to (aside-desk 128 to g)
-
-  all-quiet : (to : ℕ) → Desk to → Through t rows (moveAll t from to) 128
-  all-quiet to g = all-through t rows good from 128 (aside-desk 128 from f) to (aside-desk 128 to g)
-
-  -- the first message is over
-  over-quiet : Through t rows (overFirst t rows from) 128
-  over-quiet = over-through t rows good from 128 (aside-desk 128 from f)
 
 -- ---- a mailbox, whatever the slot: where there is no such mailbox nothing moves
 
@@ -151,96 +130,6 @@ module _ (groups t rows : Table) (good : Good t) (slot : ℕ) where
       (λ past. aside-step groups rows t good _ slot past (over-all-through (lenOf t (mailboxOf slot)) t rows good
       (mailboxOf slot) slot (aside-mailbox slot)))
 
--- ---- a step of an eval actor: mail is taken as it begins, and then no mailbox changes
-
-abbrev EvalQuiet : Table → Table → EvalBoth → Type 0
-EvalQuiet t rows s = Through t rows (s .links) 128
-
-module _ (t rows l : Table) (slot : ℕ) (good : Good t) where
-  -- the message of the step's hand is over; its caller, where there is one, is told first
-  over-eval : EvalQuiet t rows (two.evalOver t rows l slot)
-  unfolding two.evalOver
-  over-eval =
-      let over = over-quiet t rows good HAND desk-hand in
-      pick-rule (EvalQuiet t rows) (eqb (lenOf (overFirst t rows HAND) (mailboxOf slot)) 0) (λ e. over) (λ e. over)
-
-  tell-eval : (o : Outcome) → EvalQuiet t rows (two.evalTell t rows l slot o)
-  unfolding two.evalTell
-  tell-eval o = go (callerFirst rows (firstOf t HAND))
-    where
-      go : (c : Caller) → EvalQuiet t rows (two.evalTold t rows l slot o c)
-      go (caller.From id) = same-through t rows 128 good
-      go caller.Nobody = over-eval
-
-module _ (t rows l : Table) (slot : ℕ) (good : Good t) (low : slot < 128) where
-  -- a reply that does not fit, and one that only leads on, moves nothing
-  quiet : Through t rows t 128
-  quiet = same-through t rows 128 good
-
-  held-to-hand : Through t rows (moveFirst t (handOf slot) HAND) 128
-  held-to-hand = move-quiet t rows good (handOf slot) (desk-held slot low) HAND desk-hand
-
-  hand-to-held : Through t rows (moveFirst t HAND (handOf slot)) 128
-  hand-to-held = move-quiet t rows good HAND desk-hand (handOf slot) (desk-held slot low)
-
-  -- the run ends
-  finish-eval : (o : Outcome) → EvalQuiet t rows (two.evalFinish t rows l slot o)
-  unfolding two.evalFinish
-  finish-eval o = then-through held-to-hand (tell-eval (moveFirst t (handOf slot) HAND) rows _ slot
-      (held-to-hand .good) o)
-
-  clocked-eval : (c : ℕ) → EvalQuiet t rows (two.evalClocked t rows l slot c)
-  unfolding two.evalClocked
-  clocked-eval c = pick-rule (EvalQuiet t rows) (leb (deadlineOf (actorAt l slot .run)) c)
-      (λ e. finish-eval outcome.Late) (λ e. quiet)
-
-  ran-eval : (s : Status) → EvalQuiet t rows (two.evalRan t rows l slot s)
-  unfolding two.evalRan
-  ran-eval status.Done = finish-eval outcome.Ran
-  ran-eval status.Exit = finish-eval outcome.Ran
-  ran-eval status.Preempted = quiet
-  ran-eval status.Event = finish-eval outcome.StuckReceive
-  ran-eval status.HostCall = quiet
-  ran-eval status.Error = finish-eval outcome.Raised
-  ran-eval status.Broke = finish-eval outcome.Broke
-
-  dispatched-eval : (n : ℕ) → EvalQuiet t rows (two.evalDispatched t rows l slot n)
-  unfolding two.evalDispatched
-  dispatched-eval n = pick-rule (EvalQuiet t rows) (ltb 0 n) (λ e. quiet) (λ e. finish-eval outcome.StuckHostCall)
-
-  by-clock : (r : ClockIn) → EvalQuiet t rows (two.clockBy t rows l slot r)
-  by-clock (clock.Of ns) = clocked-eval ns
-  by-clock clock.Other = quiet
-
-  by-boot : (r : YesIn) → EvalQuiet t rows (two.bootBy t rows l slot r)
-  unfolding two.evalBooted
-  by-boot yes.Yes = quiet
-  by-boot yes.No = tell-eval t rows l slot good outcome.Unbooted
-  by-boot yes.Other = quiet
-
-  by-start : (limit : Limit) (r : ClockIn) → EvalQuiet t rows (two.startBy t l slot limit r)
-  unfolding two.evalStarted
-  by-start limit (clock.Of ns) = hand-to-held
-  by-start limit clock.Other = quiet
-
-  by-run-eval : (start : Bool) (r : RanIn) → EvalQuiet t rows (two.runBy t rows l slot start r)
-  by-run-eval start (ran.Of s) = ran-eval s
-  by-run-eval start ran.Other = quiet
-
-  by-dispatch-eval : (r : CountIn) → EvalQuiet t rows (two.dispatchBy t rows l slot r)
-  by-dispatch-eval (count.Of n) = dispatched-eval n
-  by-dispatch-eval count.Other = quiet
-
-  eval-quiet : (limit : Limit) (a : EvalAsk) (r : Reply) → EvalQuiet t rows (stepEval t rows l slot limit a r)
-  unfolding two.stepEval two.clockReply two.bootReply two.startReply two.runReply two.dispatchReply two.tellReply
-  eval-quiet limit eval.Clock r = by-clock (clockIn r)
-  eval-quiet limit eval.Boot r = by-boot (yesIn r)
-  eval-quiet limit eval.StartClock r = by-start limit (clockIn r)
-  eval-quiet limit (eval.Run start) r = by-run-eval start (ranIn r)
-  eval-quiet limit eval.Dispatch r = by-dispatch-eval (countIn r)
-  eval-quiet limit (eval.Tell o) r = pick-rule (EvalQuiet t rows) (isTold r) (λ e. over-eval t rows l slot good)
-      (λ e. quiet)
-
 -- ---- a step of a fixed actor: after Drain mail is taken, and after Push it is put back where the answer is no
 
 module _ (groups t rows l : Table) (slot : ℕ) (good : Good t) (low : slot < 128) where
@@ -249,11 +138,11 @@ module _ (groups t rows l : Table) (slot : ℕ) (good : Good t) (low : slot < 12
   taken q = took slot low (takes t l slot q good low)
 
   held-over : MailStep groups rows t (overFirst t rows (handOf slot))
-  held-over = elsewhere groups rows t good (over-quiet t rows good (handOf slot) (desk-held slot low))
+  held-over = elsewhere groups rows t good (desk-over t rows good (handOf slot) (desk-held slot low))
 
   failed-fixed : MailStep groups rows t (one.fixedFailed t slot .links)
   unfolding one.fixedFailed
-  failed-fixed = elsewhere groups rows t good (held-to-hand t rows l slot good low)
+  failed-fixed = elsewhere groups rows t good (held-to-hand t rows slot good low)
 
   ran-fixed : (s : Status) → MailStep groups rows t (one.fixedRan t rows slot s .links)
   unfolding one.fixedRan
@@ -284,7 +173,7 @@ module _ (groups t rows l : Table) (slot : ℕ) (good : Good t) (low : slot < 12
 
   by-push : (q : ℕ) (r : YesIn) → MailStep groups rows t (one.pushBy t l slot q r .links)
   unfolding one.fixedPushed
-  by-push q yes.Yes = elsewhere groups rows t good (hand-to-held t rows l slot good low)
+  by-push q yes.Yes = elsewhere groups rows t good (hand-to-held t rows slot good low)
   by-push q yes.No = pushedBack slot low (put-at-front slot low t good HAND (omega arith))
   by-push q yes.Other = nothing groups rows t good
 
@@ -306,8 +195,8 @@ intake-step : (groups t rows : Table) (q backlog left : ℕ) → Good t
 unfolding batchOf
 intake-step groups t rows q backlog left good =
     intake-rule t q backlog left (λ (s : Linked). MailStep groups rows t (s .links))
-    (elsewhere groups rows t good (all-quiet t rows good PENDING desk-pending BATCH desk-batch))
-    (elsewhere groups rows t good (move-quiet t rows good INBOX desk-inbox PENDING desk-pending))
+    (elsewhere groups rows t good (desk-all t rows good PENDING desk-pending BATCH desk-batch))
+    (elsewhere groups rows t good (desk-move t rows good INBOX desk-inbox PENDING desk-pending))
 
 abbrev SentStep : Table → Table → Table → Sent → Type 0
 SentStep groups rows t s = MailStep groups rows t (s .links)
@@ -316,7 +205,7 @@ SentStep groups rows t s = MailStep groups rows t (s .links)
 route-ways : (groups t rows : Table) (q left : ℕ) → Good t → Routes t rows q left (SentStep groups rows t)
 unfolding to.undeliverable to.deliver to.deliverTo
 route-ways groups t rows q left good = record {
-  over = λ keys actors. elsewhere groups rows t good (over-quiet t rows good BATCH desk-batch);
+  over = λ keys actors. elsewhere groups rows t good (desk-over t rows good BATCH desk-batch);
   sent = λ keys actors g k. delivery groups t rows good (slotAt g k);
   asks = λ keys actors g. nothing groups rows t good;
   done = λ keys actors. nothing groups rows t good;
@@ -490,7 +379,7 @@ every-reply (at.Fixed c a) n limits groups t rows keys actors r good (low, full)
     fixed-step groups t rows actors (slotAt (c .group) (c .key)) good low (n .queued) a r
 every-reply (at.Eval c a) n limits groups t rows keys actors r good low =
     elsewhere groups rows t good
-    (eval-quiet t rows actors (slotAt (c .group) (c .key)) good low (limitOf limits groups c) a r)
+    (eval-through t rows actors (slotAt (c .group) (c .key)) good low (limitOf limits groups c) a r)
 every-reply (at.StepEnd c e) n limits groups t rows keys actors r good ok = nothing groups rows t good
 every-reply (at.Sends c s) n limits groups t rows keys actors r good ok = nothing groups rows t good
 every-reply (at.Settle c s) n limits groups t rows keys actors r good ok = nothing groups rows t good

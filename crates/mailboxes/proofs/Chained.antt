@@ -28,9 +28,9 @@ last-at d xs some =
 
 -- the links by their cells
 module _ (t : Table) (k : ℕ) where
-  many-is : cell t k 2 ≡ lenOf t k
+  many-cell : cell t k 2 ≡ lenOf t k
   unfolding linkAt
-  many-is = refl
+  many-cell = refl
 
   first-cell : cell t k 0 ≡ headOf t k
   unfolding linkAt
@@ -47,7 +47,7 @@ module _ (t : Table) (k : ℕ) where
 -- of a list of well-formed links
 view-is-chain : (t : Table) → Good t → (k : ℕ) → IsChain t k (view t k)
 view-is-chain t good k = record {
-  many = many-is t k ∙ sym (length-view t k);
+  many = many-cell t k ∙ sym (length-view t k);
   first = λ some. first-cell t k ∙ sym (first-view t k some);
   following = λ i more. next-cell t (getD (view t k) i 0) ∙ after-is t (getD (view t k) i 0) k i more refl;
   last = λ some. last-cell t k ∙ (sym (good .lasts k) ∙ last-at (tailOf t k) (view t k) some);
@@ -58,7 +58,7 @@ unfolding view
 chain-is-view t k es is =
     chain-only t es (headOf t k) (λ some. sym (first-cell t k) ∙ is .first some)
     (λ i more. sym (next-cell t (getD es i 0)) ∙ is .following i more)
-    ∙ ap (λ n. chain t n (headOf t k)) (sym (is .many) ∙ many-is t k)
+    ∙ ap (λ n. chain t n (headOf t k)) (sym (is .many) ∙ many-cell t k)
 
 pub good-chained : (t : Table) → Good t → Chained t
 good-chained t good slot slot-is = record {

@@ -21,7 +21,7 @@ use Rattle.places.proofs.Totals.{id-first, id-append, id-split, rows-le
 use Rattle.places.proofs.Through.{mailbox-is, aside-desk, aside-mailbox, Through, mail-desk, mail-fits, mail-by}
 use Rattle.places.proofs.Through.{moved-exchange, moved-to-front-exchange, free-change, exchange-through}
 use Rattle.places.proofs.Through.{through-by, through-desk, through-keeps, first-through, all-through}
-use Rattle.places.proofs.Through.{over-through, over-all-through}
+use Rattle.places.proofs.Through.{desk-move, desk-all, desk-over, over-all-through}
 
 -- the mailboxes begin at list 6
 low-desk : (k : ℕ) → 0 < k → k < 6 → Desk k
@@ -60,20 +60,15 @@ module _ (t rows : Table) (q : ℕ) (sound : Sound t rows q) where
   same-keeps = record { sound = sound; same = λ x. refl }
 
   pub move-keeps : (from to : ℕ) → Desk from → Desk to → Keeps t rows (moveFirst t from to) rows q
-  move-keeps from to f g =
-      through-desk t rows _ q 128 sound (first-through t rows (sound .good) from 128 (aside-desk 128 from f) to
-      (aside-desk 128 to g)) (omega arith)
+  move-keeps from to f g = through-desk t rows _ q 128 sound (desk-move t rows (sound .good) from f to g) (omega arith)
 
   pub move-all-keeps : (from to : ℕ) → Desk from → Desk to → Keeps t rows (moveAll t from to) rows q
   move-all-keeps from to f g =
-      through-desk t rows _ q 128 sound (all-through t rows (sound .good) from 128 (aside-desk 128 from f) to
-      (aside-desk 128 to g)) (omega arith)
+      through-desk t rows _ q 128 sound (desk-all t rows (sound .good) from f to g) (omega arith)
 
   -- the first message of a place is over: a logged one waits for its mark, any other is free
   pub over-keeps : (from : ℕ) → Desk from → Keeps t rows (overFirst t rows from) rows q
-  over-keeps from f =
-      through-desk t rows _ q 128 sound (over-through t rows (sound .good) from 128 (aside-desk 128 from f))
-      (omega arith)
+  over-keeps from f = through-desk t rows _ q 128 sound (desk-over t rows (sound .good) from f) (omega arith)
 
   -- whatever the slot: where there is no such mailbox nothing moves
   pub to-mailbox : (from slot : ℕ) → Desk from → Keeps t rows (moveFirst t from (mailboxOf slot)) rows

@@ -7,6 +7,7 @@ use native.Mathlib.Decide.{ℕ-discrete}
 use borrow.Author.Tests.{eq-eqb, ne-eqb}
 use lib.Dec.{eqb, ltb, leb}
 use Rattle.lists.specs.Links.{pick, Table, lenOf, firstOf, moveFirst, mailboxOf, handOf}
+use Rattle.lists.specs.Family.{Good}
 use Rattle.actor.specs.declared.message.Caller.{Caller}
 use Rattle.actor.specs.declared.message.Caller.the-variants as caller
 use Rattle.actor.specs.declared.question.Status.{Status}
@@ -35,17 +36,18 @@ use Rattle.steps.specs.StepFixed as one
 use Rattle.steps.specs.StepEval.{EvalStarted, EvalBoth, evalStart, stepEval}
 use Rattle.steps.specs.StepEval as two
 use Rattle.places.specs.Places.{Sound, Keeps, HandFull, NextFull}
-use Rattle.places.proofs.Moves.{desk-hand, desk-held, then-keeps, same-keeps, move-keeps, over-keeps}
-use Rattle.places.proofs.Moves.{take-keeps, take-fills, back-keeps}
+use Rattle.places.proofs.Through.{Through, same-through, then-through, through-desk, desk-move, desk-over}
+use Rattle.places.proofs.Moves.{desk-hand, desk-held, same-keeps, over-keeps, take-keeps, take-fills}
+use Rattle.places.proofs.Moves.{back-keeps}
 
 -- what a transition of a fixed actor keeps
 pub record FixedKeeps (t rows : Table) (s : FixedBoth) : Type 0 where
   pub keeps : Keeps t rows (s .links) rows (s .step .queued)
   pub full : NextFull (s .step .next) (s .links)
 
--- what a transition of an eval actor keeps
-abbrev EvalKeeps : Table → Table → ℕ → EvalBoth → Type 0
-EvalKeeps t rows q s = Keeps t rows (s .links) rows q
+-- a transition of an eval actor: no mailbox changes
+abbrev EvalThrough : Table → Table → EvalBoth → Type 0
+EvalThrough t rows s = Through t rows (s .links) 128
 
 -- what holds of both branches holds of the choice
 pub pick-rule : {A : Type 0} (P : A → Type 0) (b : Bool) {x y : A} → (b ≡ true → P x) → (b ≡ false → P y)
@@ -69,31 +71,105 @@ mail-rule t l slot q P none some = go (ℕ-discrete (lenOf t (mailboxOf slot)) 0
     go (yes p) = rw (eq-eqb (lenOf t (mailboxOf slot)) 0 p) none
     go (no p) = rw (ne-eqb (lenOf t (mailboxOf slot)) 0 p) (some (omega arith))
 
--- the message of the step's hand is over; its caller, where there is one, is told first
-module _ (t rows l : Table) (q slot : ℕ) (sound : Sound t rows q) where
-  over-eval : EvalKeeps t rows q (two.evalOver t rows l slot)
+-- between the hand of an actor and that of the step
+module _ (t rows : Table) (slot : ℕ) (good : Good t) (low : slot < 128) where
+  pub held-to-hand : Through t rows (moveFirst t (handOf slot) HAND) 128
+  held-to-hand = desk-move t rows good (handOf slot) (desk-held slot low) HAND desk-hand
+
+  pub hand-to-held : Through t rows (moveFirst t HAND (handOf slot)) 128
+  hand-to-held = desk-move t rows good HAND desk-hand (handOf slot) (desk-held slot low)
+
+-- ---- a reply to an eval actor: no mailbox changes
+
+module _ (t rows l : Table) (slot : ℕ) (good : Good t) where
+  -- the message of the step's hand is over; its caller, where there is one, is told first
+  over-eval : EvalThrough t rows (two.evalOver t rows l slot)
   unfolding two.evalOver
   over-eval =
-      let over = over-keeps t rows q sound HAND desk-hand in
-      pick-rule (EvalKeeps t rows q) (eqb (lenOf (overFirst t rows HAND) (mailboxOf slot)) 0) (λ e. over) (λ e. over)
+      let over = desk-over t rows good HAND desk-hand in
+      pick-rule (EvalThrough t rows) (eqb (lenOf (overFirst t rows HAND) (mailboxOf slot)) 0) (λ e. over) (λ e. over)
 
-  tell-eval : (o : Outcome) → EvalKeeps t rows q (two.evalTell t rows l slot o)
+  tell-eval : (o : Outcome) → EvalThrough t rows (two.evalTell t rows l slot o)
   unfolding two.evalTell
   tell-eval o = go (callerFirst rows (firstOf t HAND))
     where
-      go : (c : Caller) → EvalKeeps t rows q (two.evalTold t rows l slot o c)
-      go (caller.From id) = same-keeps t rows q sound
+      go : (c : Caller) → EvalThrough t rows (two.evalTold t rows l slot o c)
+      go (caller.From id) = same-through t rows 128 good
       go caller.Nobody = over-eval
+
+module _ (t rows l : Table) (slot : ℕ) (good : Good t) (low : slot < 128) where
+  -- a reply that does not fit, and one that only leads on, moves nothing
+  quiet : Through t rows t 128
+  quiet = same-through t rows 128 good
+
+  -- the run ends
+  finish-eval : (o : Outcome) → EvalThrough t rows (two.evalFinish t rows l slot o)
+  unfolding two.evalFinish
+  finish-eval o =
+      let held = held-to-hand t rows slot good low in
+      then-through held (tell-eval (moveFirst t (handOf slot) HAND) rows _ slot (held .good) o)
+
+  clocked-eval : (c : ℕ) → EvalThrough t rows (two.evalClocked t rows l slot c)
+  unfolding two.evalClocked
+  clocked-eval c = pick-rule (EvalThrough t rows) (leb (deadlineOf (actorAt l slot .run)) c)
+      (λ e. finish-eval outcome.Late) (λ e. quiet)
+
+  ran-eval : (s : Status) → EvalThrough t rows (two.evalRan t rows l slot s)
+  unfolding two.evalRan
+  ran-eval status.Done = finish-eval outcome.Ran
+  ran-eval status.Exit = finish-eval outcome.Ran
+  ran-eval status.Preempted = quiet
+  ran-eval status.Event = finish-eval outcome.StuckReceive
+  ran-eval status.HostCall = quiet
+  ran-eval status.Error = finish-eval outcome.Raised
+  ran-eval status.Broke = finish-eval outcome.Broke
+
+  dispatched-eval : (n : ℕ) → EvalThrough t rows (two.evalDispatched t rows l slot n)
+  unfolding two.evalDispatched
+  dispatched-eval n = pick-rule (EvalThrough t rows) (ltb 0 n) (λ e. quiet) (λ e. finish-eval outcome.StuckHostCall)
+
+  by-clock : (r : ClockIn) → EvalThrough t rows (two.clockBy t rows l slot r)
+  by-clock (clock.Of ns) = clocked-eval ns
+  by-clock clock.Other = quiet
+
+  by-boot : (r : YesIn) → EvalThrough t rows (two.bootBy t rows l slot r)
+  unfolding two.evalBooted
+  by-boot yes.Yes = quiet
+  by-boot yes.No = tell-eval t rows l slot good outcome.Unbooted
+  by-boot yes.Other = quiet
+
+  by-start : (limit : Limit) (r : ClockIn) → EvalThrough t rows (two.startBy t l slot limit r)
+  unfolding two.evalStarted
+  by-start limit (clock.Of ns) = hand-to-held t rows slot good low
+  by-start limit clock.Other = quiet
+
+  by-ran : (start : Bool) (r : RanIn) → EvalThrough t rows (two.runBy t rows l slot start r)
+  by-ran start (ran.Of s) = ran-eval s
+  by-ran start ran.Other = quiet
+
+  by-dispatched : (r : CountIn) → EvalThrough t rows (two.dispatchBy t rows l slot r)
+  by-dispatched (count.Of n) = dispatched-eval n
+  by-dispatched count.Other = quiet
+
+  pub eval-through : (limit : Limit) (a : EvalAsk) (r : Reply) → EvalThrough t rows (stepEval t rows l slot limit a r)
+  unfolding two.stepEval two.clockReply two.bootReply two.startReply two.runReply two.dispatchReply two.tellReply
+  eval-through limit eval.Clock r = by-clock (clockIn r)
+  eval-through limit eval.Boot r = by-boot (yesIn r)
+  eval-through limit eval.StartClock r = by-start limit (clockIn r)
+  eval-through limit (eval.Run start) r = by-ran start (ranIn r)
+  eval-through limit eval.Dispatch r = by-dispatched (countIn r)
+  eval-through limit (eval.Tell o) r = pick-rule (EvalThrough t rows) (isTold r) (λ e. over-eval t rows l slot good)
+      (λ e. quiet)
+
+-- ---- what a step keeps
 
 module _ (t rows l : Table) (q slot : ℕ) (sound : Sound t rows q) (slot-is : slot < 128) where
   same : Keeps t rows t rows q
   same = same-keeps t rows q sound
 
-  held-to-hand : Keeps t rows (moveFirst t (handOf slot) HAND) rows q
-  held-to-hand = move-keeps t rows q sound (handOf slot) HAND (desk-held slot slot-is) desk-hand
-
-  hand-to-held : Keeps t rows (moveFirst t HAND (handOf slot)) rows q
-  hand-to-held = move-keeps t rows q sound HAND (handOf slot) desk-hand (desk-held slot slot-is)
+  -- where no mailbox changes
+  quiet-keeps : {r : Table} → Through t rows r 128 → Keeps t rows r rows q
+  quiet-keeps {r = r} went = through-desk t rows r q 128 sound went (omega arith)
 
   held-over : Keeps t rows (overFirst t rows (handOf slot)) rows q
   held-over = over-keeps t rows q sound (handOf slot) (desk-held slot slot-is)
@@ -102,7 +178,7 @@ module _ (t rows l : Table) (q slot : ℕ) (sound : Sound t rows q) (slot-is : s
 
   failed-keeps : FixedKeeps t rows (one.keptFixed l q (one.fixedFailed t slot))
   unfolding one.fixedFailed
-  failed-keeps = record { keeps = held-to-hand; full = omega arith }
+  failed-keeps = record { keeps = quiet-keeps (held-to-hand t rows slot (sound .good) slot-is); full = omega arith }
 
   ran-keeps : (s : Status) → FixedKeeps t rows (one.keptFixed l q (one.fixedRan t rows slot s))
   unfolding one.fixedRan
@@ -128,7 +204,8 @@ module _ (t rows l : Table) (q slot : ℕ) (sound : Sound t rows q) (slot-is : s
 
   pushed-keeps : 0 < lenOf t HAND → (b : Bool) → FixedKeeps t rows (one.fixedPushed t l slot q b)
   unfolding one.fixedPushed
-  pushed-keeps some true = record { keeps = hand-to-held; full = omega arith }
+  pushed-keeps some true =
+      record { keeps = quiet-keeps (hand-to-held t rows slot (sound .good) slot-is); full = omega arith }
   pushed-keeps some false = record { keeps = back-keeps t rows q sound slot slot-is some; full = omega arith }
 
   dispatched-keeps : (n : ℕ) → FixedKeeps t rows (one.keptFixed l q (one.fixedDispatched t slot n))
@@ -171,67 +248,6 @@ module _ (t rows l : Table) (q slot : ℕ) (sound : Sound t rows q) (slot-is : s
       (λ e. mail-rule t l slot q (λ (m : MailTaken). Keeps t rows (m .links) rows (m .mail .queued)) same
       (λ some. take-keeps t rows q sound slot slot-is some))
 
-  finish-eval : (o : Outcome) → EvalKeeps t rows q (two.evalFinish t rows l slot o)
-  unfolding two.evalFinish
-  finish-eval o = then-keeps held-to-hand (tell-eval (moveFirst t (handOf slot) HAND) rows _ q slot
-      (held-to-hand .sound) o)
-
-  clocked-eval : (c : ℕ) → EvalKeeps t rows q (two.evalClocked t rows l slot c)
-  unfolding two.evalClocked
-  clocked-eval c = pick-rule (EvalKeeps t rows q) (leb (deadlineOf (actorAt l slot .run)) c)
-      (λ e. finish-eval outcome.Late) (λ e. same)
-
-  booted-eval : (b : Bool) → EvalKeeps t rows q (two.evalBooted t rows l slot b)
-  unfolding two.evalBooted
-  booted-eval true = same
-  booted-eval false = tell-eval t rows l q slot sound outcome.Unbooted
-
-  started-eval : (limit : Limit) (c : ℕ) → EvalKeeps t rows q (two.evalStarted t l slot limit c)
-  unfolding two.evalStarted
-  started-eval limit c = hand-to-held
-
-  ran-eval : (s : Status) → EvalKeeps t rows q (two.evalRan t rows l slot s)
-  unfolding two.evalRan
-  ran-eval status.Done = finish-eval outcome.Ran
-  ran-eval status.Exit = finish-eval outcome.Ran
-  ran-eval status.Preempted = same
-  ran-eval status.Event = finish-eval outcome.StuckReceive
-  ran-eval status.HostCall = same
-  ran-eval status.Error = finish-eval outcome.Raised
-  ran-eval status.Broke = finish-eval outcome.Broke
-
-  dispatched-eval : (n : ℕ) → EvalKeeps t rows q (two.evalDispatched t rows l slot n)
-  unfolding two.evalDispatched
-  dispatched-eval n = pick-rule (EvalKeeps t rows q) (ltb 0 n) (λ e. same) (λ e. finish-eval outcome.StuckHostCall)
-
-  by-clock : (r : ClockIn) → EvalKeeps t rows q (two.clockBy t rows l slot r)
-  by-clock (clock.Of ns) = clocked-eval ns
-  by-clock clock.Other = same
-
-  by-boot : (r : YesIn) → EvalKeeps t rows q (two.bootBy t rows l slot r)
-  by-boot yes.Yes = booted-eval true
-  by-boot yes.No = booted-eval false
-  by-boot yes.Other = same
-
-  by-start : (limit : Limit) (r : ClockIn) → EvalKeeps t rows q (two.startBy t l slot limit r)
-  by-start limit (clock.Of ns) = started-eval limit ns
-  by-start limit clock.Other = same
-
-  by-run-eval : (start : Bool) (r : RanIn) → EvalKeeps t rows q (two.runBy t rows l slot start r)
-  by-run-eval start (ran.Of s) = ran-eval s
-  by-run-eval start ran.Other = same
-
-  by-dispatch-eval : (r : CountIn) → EvalKeeps t rows q (two.dispatchBy t rows l slot r)
-  by-dispatch-eval (count.Of n) = dispatched-eval n
-  by-dispatch-eval count.Other = same
-
   pub eval-keeps : (limit : Limit) (a : EvalAsk) (r : Reply) → Keeps t rows (stepEval t rows l slot limit a r .links)
       rows q
-  unfolding two.stepEval two.clockReply two.bootReply two.startReply two.runReply two.dispatchReply two.tellReply
-  eval-keeps limit eval.Clock r = by-clock (clockIn r)
-  eval-keeps limit eval.Boot r = by-boot (yesIn r)
-  eval-keeps limit eval.StartClock r = by-start limit (clockIn r)
-  eval-keeps limit (eval.Run start) r = by-run-eval start (ranIn r)
-  eval-keeps limit eval.Dispatch r = by-dispatch-eval (countIn r)
-  eval-keeps limit (eval.Tell o) r = pick-rule (EvalKeeps t rows q) (isTold r) (λ e. over-eval t rows l q slot sound)
-      (λ e. same)
+  eval-keeps limit a r = quiet-keeps (eval-through t rows l slot (sound .good) slot-is limit a r)

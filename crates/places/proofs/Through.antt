@@ -323,6 +323,17 @@ module _ (t rows : Table) (good : Good t) (from slot : ℕ) (f : Aside slot from
       go [] is = free-through (λ x. rw is (id-none x rows))
       go (e ∷ es) is = by e es is (messageAt rows e .id) refl
 
+-- between places that are no mailboxes no mailbox changes
+module _ (t rows : Table) (good : Good t) (from : ℕ) (f : Desk from) where
+  pub desk-move : (to : ℕ) → Desk to → Through t rows (moveFirst t from to) 128
+  desk-move to g = first-through t rows good from 128 (aside-desk 128 from f) to (aside-desk 128 to g)
+
+  pub desk-all : (to : ℕ) → Desk to → Through t rows (moveAll t from to) 128
+  desk-all to g = all-through t rows good from 128 (aside-desk 128 from f) to (aside-desk 128 to g)
+
+  pub desk-over : Through t rows (overFirst t rows from) 128
+  desk-over = over-through t rows good from 128 (aside-desk 128 from f)
+
 -- the first n messages are over
 pub over-all-through : (n : ℕ) (t rows : Table) → Good t → (from slot : ℕ) → Aside slot from
     → Through t rows (overAll t rows from n) slot
