@@ -12,7 +12,9 @@ The answer to a `returns`, in the order of the code on the way there:
 
     let e1 = PATH .CALL .ensures in                  for each call: what it ensures
     let h1 = simp (e1, ..) at (PATH .TEST) in        for each test or match: what it says, in terms of the definitions
-    simp (e1, .., h1, ..)                            or `simp (..) e3`, where the last call gives the whole result
+    simp (e1, .., h1, ..)                            or `simp (..) e3`, where the last call gives the whole result;
+                                                     `← e2` of a call that ensures an equation of a record of slices,
+                                                     of which the result has parts
 
 All of it is read off what the prover generates for the function (target/generated/CRATE): the paths, the kinds of the
 tests (`==`, `<`, `<=` on numbers, or a bool), and which call's result goes into which test and into the result. The
@@ -22,12 +24,16 @@ A line of tools/answers.txt says otherwise for one function, where that reading 
 
     CRATE FN | unfold=Module.name,.. | if2=raw match=all
 
-`unfold=` (nothing behind it: none) in place of the contract's definitions; for a test or `match` (every match of the
-function) `raw` takes what it says as it stands, and `all` rewrites it by every call before it.
+`unfold=` (nothing behind it: none) in place of the contract's definitions, those of a crate below as
+crate.Module.name; for a test or `match` (every match of the function) `raw` takes what it says as it stands, and
+`all` rewrites it by every call before it.
 
-What it cannot do: loops and what comes after them, an `if` whose branches join again, an index or a sum that must fit,
-and a call that ensures an equation of records of which only a part is wanted. It leaves those needs as the prover
-offers them, and says which. Nothing that it writes is trusted: the prover checks every proof.
+A contract may hold for all values of something, `⌜ ((x : A) (y z : B) → ..) ⌝`: the answer takes them behind `c`.
+
+What it cannot do: loops and what comes after them, an `if` whose branches join again, an index or a sum that must fit.
+It leaves those needs as the prover offers them, and says which. Nor can it use a call whose own contract holds for all
+values of something, unless that call gives the whole result; what it writes there the prover refuses. Nothing that it
+writes is trusted: the prover checks every proof.
 """
 import os
 import re
@@ -78,6 +84,10 @@ class Function:
             end += 1
         return ' '.join(' '.join(self.lines[at:end]).split())
 
+    def paragraph(self, at):
+        """The lines from this one up to an empty one."""
+        return ' '.join(self.lines[at:self.lines.index('', at)])
+
     def fields(self, at, indent):
         """The fields of the record that begins at a line, in order, with their types."""
         out, at = {}, at + 1
@@ -109,8 +119,8 @@ class Function:
                 self.of[to] |= more
                 changed |= bool(more)
         for place, text in self.calls.items():
-            callee = re.search(r'Called\.Called (ps·?\d*)', text)
-            kinds = next((self.body(at + 1) for at, line in enumerate(self.lines)
+            callee = re.search(r"Called'?\.Called (ps·?\d*)", text)
+            kinds = next((self.paragraph(at) for at, line in enumerate(self.lines)
                           if callee and line.startswith(f'abbrev pub {callee.group(1)} :')), '')
             if 'Mut' in kinds:
                 self.changing.add(place)
@@ -182,8 +192,17 @@ def lines(function, calls, facts, options):
     e = {at: f'e{number + 1}' for number, at in enumerate(used)}
     out, shown = [], 0
 
+    changing = [at for at in ends if calls[at][1] in function.changing]
+    parts = {at for at in changing if records(calls[at][0])}
+
+    def shows(at):
+        # a record's equation is used from right to left, so what goes into the call is first said as the goal says it
+        made_of = set().union(*(function.of.get(local, set()) for local in function.taken.get(calls[at][0], [])))
+        into = [e[b] for b in used if b < at and b not in changing and calls[b][0] in made_of]
+        return f'simp ({", ".join(into)}) at ({calls[at][2]})' if at in parts and into else calls[at][2]
+
     def show(until):
-        return [f'let {e[at]} = {calls[at][2]} in' for at in used if shown <= at < until]
+        return [f'let {e[at]} = {shows(at)} in' for at in used if shown <= at < until]
 
     for number, (before, text, _, _) in enumerate(facts):
         out, shown = out + show(before), before
@@ -191,12 +210,46 @@ def lines(function, calls, facts, options):
             text = f'simp ({", ".join(e[at] for at in through[number])}) at ({text})'
         out.append(f'let h{number + 1} = {text} in')
     # the one call that changes something, if it is the last and gives the result too
-    changing = [at for at in ends if calls[at][1] in function.changing]
     whole = function.packed and changing == [len(calls) - 1] and calls[-1][0] in function.of.get(0, set())
     last = e[changing[0]] if whole else None
-    names = [e[at] for at in ends if e[at] != last] + [f'h{number + 1}' for number in range(len(facts))]
+    for_all = ' _' * len(bound(source_of(calls[-1][0])).split()) if whole else ''
+    names = [('← ' if at in parts else '') + e[at] for at in ends if e[at] != last]
+    names += [f'h{number + 1}' for number in range(len(facts))]
     by = [f'simp ({", ".join(names)})'] if names else []
-    return out + show(len(calls)) + [' '.join(by + [last] if last else by) or 'refl']
+    ends_in = [f'({last}{for_all})' if for_all else last] if last else []
+    return out + show(len(calls)) + [' '.join(by + ends_in) or 'refl']
+
+
+def source_of(call):
+    """The text of what a function ensures, by the name of a call of it."""
+    name = re.sub(r'\d+$', '', call).replace('-', '_')
+    for top, _, files in os.walk('crates'):
+        for file in sorted(files):
+            if file.endswith('.rt') and top.split('/')[2:3] == ['src']:
+                ensures = ensured(os.path.join(top, file), name)
+                if ensures:
+                    return ensures
+    return ''
+
+
+def records(call):
+    """Whether a function ensures an equation of a record of the slices that it changes."""
+    return 'record {' in source_of(call).split('≡')[0]
+
+
+def ensured(source, name):
+    """The text of what a function of a file ensures, or nothing."""
+    # from the function's name to its body, which the next function stands behind
+    whole = re.search(r'\bfn %s\b(?:(?!\bfn\b).)*' % name, open(source).read(), re.S)
+    ensures = re.search(r'\bensures\b(.*?\})\s*\{', whole.group(0), re.S) if whole else None
+    return ensures.group(1) if ensures else ''
+
+
+def bound(ensures):
+    """The names that a contract holds for all values of."""
+    binders = re.search(r'⌜\s*\(((?:\([^():]*:[^()]*\)\s*)+)→', ensures)
+    groups = re.findall(r'\(([^():]*):', binders.group(1)) if binders else []
+    return ''.join(' ' + name for group in groups for name in group.split())
 
 
 def contract(crate, fn):
@@ -204,10 +257,7 @@ def contract(crate, fn):
     module, _, name = fn.rpartition('/')
     source = next(path for path in (f'crates/{crate}/src/{module or "lib"}.rt', f'crates/{crate}/src/main.rt')
                   if os.path.exists(path))
-    # from the function's name to its body, which the next function stands behind
-    whole = re.search(r'\bfn %s\b(?:(?!\bfn\b).)*' % name, open(source).read(), re.S)
-    ensures = re.search(r'\bensures\b(.*?\})\s*\{', whole.group(0), re.S) if whole else None
-    return ensures.group(1) if ensures else ''
+    return ensured(source, name)
 
 
 def definitions(crate, text):
@@ -234,6 +284,12 @@ def overrides(crate, fn):
                 unfold = [tuple(name.rsplit('.', 1)) for name in unfold.split(',') if name]
             return unfold, words
     return None, {}
+
+
+def specs(crate, module):
+    """A module of specs/: the crate's own, or CRATE.MODULE of a crate below."""
+    below, _, rest = module.partition('.')
+    return f'Rattle.{below}.specs.{rest}' if below.islower() else f'Rattle.{crate}.specs.{module}'
 
 
 def offered(text):
@@ -263,12 +319,12 @@ def write(crate, fn, folder):
         if lines is None:
             print(f'{fn}: {need} is left to you: {what} is on the way')
             continue
-        head = f'{opened}{need} c =\n' + ''.join(f'    {line}\n' for line in lines)
+        head = f'{opened}{need} c{bound(ensures)} =\n' + ''.join(f'    {line}\n' for line in lines)
         pattern = rf'^{need} c(?: κs)? = (?:search needs|\?)\n'
         text, times = re.subn(pattern, lambda _: head, text, count=1, flags=re.M)
         written += times
     lemmas = sorted({lemma for pair in TESTS.values() for lemma in pair if f'{lemma} _ _ (' in text})
-    uses = [f'use Rattle.{crate}.specs.{module}.{{{name}}}' for module, name in names]
+    uses = [f'use {specs(crate, module)}.{{{name}}}' for module, name in names]
     uses += [f'use borrow.Author.Tests.{{{", ".join(lemmas)}}}'] if lemmas else []
     lines = [line for line in text.split('\n') if not line.startswith('use borrow.Author.Tests.')]
     if 'search needs' not in text:

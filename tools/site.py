@@ -14,7 +14,8 @@ It reads the names, the types and the contracts in src/ and specs/. CALL takes t
 covered. A parameter is a slice, a number or a plain struct; each `&mut` slice goes to one of CALL and THEN.
 LAW, of proofs/LAWS.antt, makes F's promise of CALL's and THEN's. Its arguments are F's parameters in their order, a
 slice as its list at entry, and for a `&mut` slice the list at exit behind it; then the counters, the answer and the
-result that CALL and THEN gave; then the two promises."""
+result that CALL and THEN gave; then the two promises. A promise may hold for all values of something: then the law
+takes and gives it so."""
 import os, re, sys
 sys.path.insert(0, os.path.dirname(__file__))
 from ctx import Ctx, locals_of, leave, tidy
@@ -156,12 +157,13 @@ def promise(fn, values, exits, entries, result):
     elif type_ not in (RESULT.name, COUNTERS.name, ANSWER.name):
         d = Source(own, fn.source.module).declared(type_)
         bring(d.module(crate, 'specs.declared'), d.name)
-    for w in re.findall(r'(?<![\w.])[A-Za-z]\w*', fn.left + ' ' + fn.right):
+    for w in re.findall(r'(?<![\w.])[A-Za-z]\w*', fn.for_all + fn.left + ' ' + fn.right):
         if w in fn.source.ghost:
             bring(outside(fn.source.ghost[w], own, crate), w)
     left, right = side(fn.left), side(fn.right)
     paren = lambda t: t if re.fullmatch(r'\w+', t) else f'({t})'
-    return f'_≡_ {{A = {type_}}} {paren(left)} {paren(right)}'
+    equation = f'_≡_ {{A = {type_}}} {paren(left)} {paren(right)}'
+    return f'({fn.for_all}→ {equation})' if fn.for_all else equation
 
 def exits_at(fn, v):
     return {name: at(v, i) for i, (name, _) in enumerate(fn.params)}

@@ -37,7 +37,11 @@ class Function:
         m = re.search(head + rest, text, re.M | re.S)
         params, self.result, self.binder, promise, self.body = m.groups()
         self.params = [tuple(p.strip().split(': ', 1)) for p in re.split(r',(?![^\[]*\])', params) if p.strip()]
-        left, _, right = one_line(promise).partition(' ≡ ')
+        promise = one_line(promise)
+        # the promise may hold for all values of something
+        m = re.fullmatch(r'\(((?:\([^()]*\) )+)→ (.*)\)', promise)
+        self.for_all, promise = m.groups() if m else ('', promise)
+        left, _, right = promise.partition(' ≡ ')
         self.left, self.right = left, right
 
 class Source:
@@ -88,4 +92,5 @@ def codomain(crate, head):
             for other in sorted(glob.glob(f'crates/{crate}/specs/*.antt')):
                 if re.search(rf'^pub record {re.escape(name)} :', open(other).read(), re.M):
                     return name, f"Rattle.{crate}.specs.{other.split('/')[-1][:-5]}"
-            return name, None
+            below = re.search(rf'^use (Rattle·[^·\s]+\.specs\.[^·\s]+)\.\{{[^}}]*\b{re.escape(name)}\b[^}}]*\}}', open(file).read(), re.M)
+            return name, below.group(1) if below and 'declared' not in below.group(1) else None

@@ -6,8 +6,8 @@ export PYTHONDONTWRITEBYTECODE=1
 wal() { python3 tools/stepped.py log wal "$1" Counters "$2" counters "$3" "$4" "$5" "$6" $7; }
 
 python3 tools/held.py lines Lines log at Turn line at Line Lines turnAt next turn_at reader turn_from
-wal append Stepped Answer answer Log:Did,state,appendOf \
-    '_≡_ {A = Did} (record { wal = state @log @records P; answer = R }) (appendOf (state #log #records X) #name #body)' \
+wal append Stepped Answer answer Log:DidAppend,state,appendOf \
+    '_≡_ {A = DidAppend} (record { wal = state @log @records P; answer = R }) (appendOf (state #log #records X) #name #body)' \
     'log:mut:u8 records:mut:rows name:shr:u8 body:shr:u8'
 wal mark SteppedDue Due due Log:DidMark,state,markOf \
     '_≡_ {A = DidMark} (record { wal = state @log @records P; due = R }) (markOf #limit (state #log #records X) (#id .0))' \
@@ -16,4 +16,4 @@ wal sync SteppedDue Due due Log:syncOf '_≡_ {A = SteppedDue} (record { counter
 python3 tools/looped.py
 python3 tools/site.py door admit admit_logged AdmitLaws.admitted
 python3 tools/site.py turn step mark_id MarkLaws.marked-id
-python3 tools/site.py pool calls sync_free SyncLaws.synced
+python3 tools/site.py pool calls sync_log SyncLaws.synced

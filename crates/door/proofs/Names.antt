@@ -1,6 +1,6 @@
--- Admission and routing mean one group: the group of a name given as bytes is the one that is found for the name in the
--- entry of the body store where it was written. So a message that is kept for a loaded program is routed to a group that
--- may have an actor, and one for any other program would not be. Assumes nothing.
+-- Admission and routing mean one group: the group of a name given as bytes is the one that is found for the name in
+-- the entry of the body store where it was written. So a message that is kept for a loaded program is routed to a
+-- group that may have an actor, and one for any other program would not be. Assumes nothing.
 use mathlib.Core.Path.{_≡_, refl, sym, ap, _∙_}
 use mathlib.Core.Bool.{true, false}
 use mathlib.Core.List.{List, []}
@@ -19,7 +19,7 @@ use Rattle.actor.proofs.Back.{message-put}
 use Rattle.group.specs.declared.settings.Named.{Named}
 use Rattle.group.specs.declared.settings.Named.the-variants as found
 use Rattle.group.specs.Settings.{groupAt, agrees, named, groupFor, hasName, groupNamed, mayRun, loadedIn}
-use Rattle.setup.specs.Entry.{storeEntry, newRow, keepAt, keepOf}
+use Rattle.setup.specs.Entry.{Messages, Arrival, storeEntry, newRow, keepAt, keepOf}
 use Rattle.setup.proofs.Parts.{name-back}
 use Rattle.door.specs.Loaded.{OneGroup, Routes, LoadedAt}
 
@@ -81,18 +81,18 @@ module _ (groups : Table) (count : ℕ) (name : List ℕ) where
       go found.Nothing is = let z : _≡_ {A = ℕ} 0 1 = cc in absurd (omega arith)
 
   -- what is kept in the first free entry, for a program that is loaded, is routed to a group that may have an actor
-  pub kept-loaded : (store : List ℕ) (t rows : Table) (body : List ℕ) (who : Caller) (id : Logged) (to e : ℕ)
-      → length store ≡ 40960 → length rows ≡ 256 → e < 256 → length name ≤ 32
-      → firstOf t FREE ≡ Entry e → loadedIn groups name count ≡ true
-      → LoadedAt groups count (keepOf store t rows name body who id to .store)
-      (keepOf store t rows name body who id to .rows) e
+  pub kept-loaded : (m : Messages) (body : List ℕ) (who : Caller) (id : Logged) (to e : ℕ)
+      → length (m .store) ≡ 40960 → length (m .rows) ≡ 256 → e < 256 → length name ≤ 32
+      → firstOf (m .links) FREE ≡ Entry e → loadedIn groups name count ≡ true
+      → (let a : Arrival = record { name = name; body = body; caller = who; id = id } in
+      LoadedAt groups count (keepOf m a to .store) (keepOf m a to .rows) e)
   unfolding keepOf keepAt
-  kept-loaded store t rows body who id to e long sized inside short free loaded =
+  kept-loaded m body who id to e long sized inside short free loaded =
       let g = loaded-group loaded in
-      rw (free, message-put rows e (newRow (length name) (length body) who id) (omega arith))
+      rw (free, message-put (m .rows) e (newRow (length name) (length body) who id) (omega arith))
       (record {
         group = g .0;
-        found = one-group groups count store name body e long inside short ∙ g .1 .0;
+        found = one-group groups count (m .store) name body e long inside short ∙ g .1 .0;
         ceiling = g .1 .1;
       })
 

@@ -1,57 +1,32 @@
--- An opening: refused by 1, a setting outside its range; 2, a lent size; 3 and 4, what the log says; else the tables
--- at the start, the messages left in pending in rising id order, and the order of a replace.
-use mathlib.Core.Bool.{Bool, true, false}
-use mathlib.Core.List.{List, [], _∷_}
+-- An opening: refused by its table (crates/front/specs/Refusals); else the tables at the start, the messages left in
+-- pending in rising id order, and the order of a replace.
+use mathlib.Core.Bool.{false}
+use mathlib.Core.List.{[], _∷_}
 use Prim.Native.Nat.{ℕ}
-use lib.Dec.{eqb}
 use lib.ListN.{length, replicate}
-use Rattle.lists.specs.Links.{pick, Table, startFrom}
+use Rattle.lists.specs.Links.{Table, startFrom}
 use Rattle.lists.specs.KeyLists.{blankRow}
 use Rattle.log.specs.declared.Counters.{Counters}
 use Rattle.log.specs.declared.Order.{Order}
 use Rattle.log.specs.declared.Answer as of-log
 use Rattle.log.specs.declared.Answer.the-variants as logged
 use Rattle.log.specs.Opened as log
-use Rattle.actor.specs.declared.question.Question.the-variants as ask
+use Rattle.actor.specs.declared.question.Question.the-variants as question
 use Rattle.actor.specs.declared.question.Asked.the-variants as asked
 use Rattle.group.specs.declared.at.At.the-variants as at
 use Rattle.setup.specs.declared.settings.Settings.{Settings}
-use Rattle.setup.specs.Settings.{settingsFit, groupsFrom}
+use Rattle.setup.specs.Settings.{groupsFrom}
 use Rattle.setup.specs.Tables.{Placed, putLeft}
 use Rattle.turn.specs.declared.state.What.the-variants as what
 use Rattle.turn.specs.declared.state.Disk.{Disk}
 use Rattle.turn.specs.declared.state.Disk.the-variants as disk
 use Rattle.turn.specs.declared.state.Limits.{Limits}
-use Rattle.front.specs.declared.state.Pool.{Pool}
-use Rattle.front.specs.declared.state.Refusal.{Refusal}
-use Rattle.front.specs.declared.state.Refusal.the-variants as refusal
-use Rattle.front.specs.declared.state.Answer.the-variants as answer
-use Rattle.front.specs.declared.state.Told.{Told}
-use Rattle.front.specs.State.{logRefusal, refusedBy}
-
--- the tables that an opening fills, and the pool
-pub record Filled : Type 0 where
-  pub groups : Table
-  pub links : Table
-  pub rows : Table
-  pub keys : Table
-  pub told : Told
-
-pub record PoolOpened : Type 0 where
-  pub bytes : List ℕ
-  pub store : List ℕ
-  pub records : Table
-  pub groups : Table
-  pub links : Table
-  pub rows : Table
-  pub keys : Table
-  pub told : Told
-
--- the lent tables: 8 groups, 262 lists, 256 messages, 34 lists of keys, 128 actors
-unfoldable pub tablesSized : ℕ → ℕ → ℕ → ℕ → ℕ → Bool
-tablesSized groups links rows keys actors =
-    pick (eqb groups 8) (pick (eqb links 262) (pick (eqb rows 256) (pick (eqb keys 34) (eqb actors 128) false) false)
-    false) false
+use Rattle.turn.specs.declared.state.Pool.{Pool}
+use Rattle.turn.specs.State.{State}
+use Rattle.front.specs.declared.answer.Answer.the-variants as answer
+use Rattle.front.specs.declared.answer.Called.{Called}
+use Rattle.front.specs.Answers.{Did, logRefusal, refused}
+use Rattle.front.specs.Refusals.{Lent, judged, byTable, openRefusals}
 
 abbrev pub limitsFrom : Settings → ℕ → Limits
 limitsFrom s groups = record {
@@ -85,68 +60,122 @@ newPool limits n d =
 abbrev pub noPool : Pool
 noPool = newPool (record { groups = 0; inbox = 0; backlog = 0; «compact_at» = 0; tick = 0 }) log.noCounters disk.Failed
 
-abbrev pub openTold : Settings → ℕ → Counters → Order → Told
-openTold s groups n o = record {
-  pool = newPool (limitsFrom s groups) n (disk.Waits o what.Nothing);
-  answer =
-      answer.Open (asked.Open (ask.Store o));
+-- ---- the tables that an opening fills
+
+-- the lent tables, but for the log's and the actors
+pub record Tables : Type 0 where
+  pub groups : Table
+  pub links : Table
+  pub rows : Table
+  pub keys : Table
+
+-- what they are filled from: the settings, and what the log left
+pub record Found : Type 0 where
+  pub settings : Settings
+  pub given : Table
+  pub left : Table
+  pub counters : Counters
+
+-- the tables filled, with the pool and the answer
+pub record Filled : Type 0 where
+  pub groups : Table
+  pub links : Table
+  pub rows : Table
+  pub keys : Table
+  pub called : Called
+
+-- the order of the replace waits, and is shown
+abbrev pub openCalled : Found → Order → Called
+openCalled f o = record {
+  pool = newPool (limitsFrom (f .settings) (length (f .given))) (f .counters) (disk.Waits o what.Nothing);
+  answer = answer.Open (asked.Open (question.Store o));
 }
 
-abbrev pub filledBy : Table → Placed → Table → Told → Filled
-filledBy groups p keys told = record { groups = groups; links = p .links; rows = p .rows; keys = keys; told = told }
+abbrev pub filledWith : Found → Order → Tables → Placed → Filled
+filledWith f o t p = record {
+  groups = groupsFrom (f .settings .«max_actors») (t .groups) (f .given);
+  links = p .links;
+  rows = p .rows;
+  keys = replicate (length (t .keys)) blankRow;
+  called = openCalled f o;
+}
 
-unfoldable pub openPool : Settings → Table → Table → Counters → Order → Table → Table → Table → Table → Filled
-openPool s given left n o groups t rows keys =
-    filledBy (groupsFrom (s .«max_actors») groups given) (putLeft (startFrom 0 (length t)) rows left 0 (n .count))
-    (replicate (length keys) blankRow) (openTold s (length given) n o)
+unfoldable pub filledBy : Found → Order → Tables → Filled
+filledBy f o t =
+    filledWith f o t (putLeft (startFrom 0 (length (t .links))) (t .rows) (f .left) 0 (f .counters .count))
+
+-- ---- the opening
 
 -- the messages left by the log: a table of 256 rows
 abbrev pub noLeft : Table
 noLeft = replicate 256 (0 ∷ 0 ∷ 0 ∷ [])
 
--- turned away: nothing has changed
-abbrev pub notOpened : List ℕ → List ℕ → Table → Table → Table → Table → Table → Refusal → PoolOpened
-notOpened bytes store records groups t rows keys r =
-    record {
-      bytes = bytes;
-      store = store;
-      records = records;
-      groups = groups;
-      links = t;
-      rows = rows;
-      keys = keys;
-      told = refusedBy noPool r;
-    }
+abbrev pub tablesIn : Lent → Tables
+tablesIn l = record { groups = l .groups; links = l .links; rows = l .rows; keys = l .keys }
 
-abbrev pub openedPool : log.Opened → Filled → PoolOpened
-openedPool o f =
-    record {
-      bytes = o .log;
-      store = o .store;
-      records = o .table;
-      groups = f .groups;
-      links = f .links;
-      rows =
-          f .rows;
-      keys = f .keys;
-      told = f .told;
-    }
+abbrev pub foundBy : Lent → log.Opened → Found
+foundBy l o = record {
+  settings = l .settings;
+  given = l .groupsGiven;
+  left = o .left;
+  counters = o .step .counters;
+}
+
+-- refused: what was lent is as it was, and the pool takes no call
+abbrev pub unopened : Lent → State
+unopened l = record {
+  pool = noPool;
+  bytes = l .bytes;
+  records = l .records;
+  store = l .store;
+  groups = l .groups;
+  links = l .links;
+  rows = l .rows;
+  keys = l .keys;
+  actors = l .actors;
+}
+
+abbrev pub openedWith : Lent → log.Opened → Filled → Did
+openedWith l o f = record {
+  state = record {
+    pool = f .called .pool;
+    bytes = o .log;
+    records = o .table;
+    store = o .store;
+    groups = f .groups;
+    links = f .links;
+    rows = f .rows;
+    keys = f .keys;
+    actors = l .actors;
+  };
+  answer = f .called .answer;
+}
+
+-- what the log left, where it was not opened
+abbrev pub leftAlone : Lent → log.Opened → State
+leftAlone l o = record {
+  pool = noPool;
+  bytes = o .log;
+  records = o .table;
+  store = o .store;
+  groups = l .groups;
+  links = l .links;
+  rows = l .rows;
+  keys = l .keys;
+  actors = l .actors;
+}
 
 -- by what the log answered
-abbrev pub openedBy : Settings → Table → Table → Table → Table → Table → log.Opened → of-log.Answer → PoolOpened
-openedBy s given groups t rows keys o (logged.Ordered order) =
-    openedPool o (openPool s given (o .left) (o .step .counters) order groups t rows keys)
-openedBy s given groups t rows keys o (logged.Refused r) = notOpened (o .log) (o .store) (o .table) groups t rows keys
-    (logRefusal r)
+abbrev pub openedIn : Lent → log.Opened → of-log.Answer → Did
+openedIn l o (logged.Ordered order) = openedWith l o (filledBy (foundBy l o) order (tablesIn l))
+openedIn l o (logged.Refused r) = refused (leftAlone l o) (logRefusal r)
 
-abbrev pub openedLog : Settings → Table → Table → Table → Table → Table → log.Opened → PoolOpened
-openedLog s given groups t rows keys o = openedBy s given groups t rows keys o (o .step .answer)
+unfoldable pub openedBy : Lent → log.Opened → Did
+openedBy l o = openedIn l o (o .step .answer)
 
-unfoldable pub openOf : Settings → Table → List ℕ → ℕ → List ℕ → Table → Table → Table → Table → Table → Table
-    → PoolOpened
-openOf s given bytes n store records groups t rows keys actors =
-    pick (settingsFit s given)
-    (pick (tablesSized (length groups) (length t) (length rows) (length keys) (length actors))
-    (openedLog s given groups t rows keys (log.openOf bytes n store records noLeft))
-    (notOpened bytes store records groups t rows keys refusal.Sizes))
-    (notOpened bytes store records groups t rows keys refusal.Setting)
+-- the log is opened: the file is the first bytes of the lent log
+unfoldable pub openEffect : Lent → Did
+openEffect l = openedBy l (log.openOf (l .bytes) (l .size) (l .store) (l .records) noLeft)
+
+unfoldable pub openOf : Lent → Did
+openOf l = byTable (unopened l) (judged (openRefusals l)) (openEffect l)

@@ -1,53 +1,29 @@
 // A message from outside, for a program that is loaded: logged if nobody waits for its outcome, then queued in the
 // inbox.
 ghost use mathlib.Core.Path.{_≡_};
-ghost use Rattle.door.specs.Admit.{admitCheck, answeredOf, admitLogged, admitFit, admitFree, admitOf};
+ghost use mathlib.Core.List.{List};
+ghost use Prim.Native.Nat.{ℕ};
+ghost use Rattle.lists.specs.Links.{Table};
+ghost use Rattle.log.specs.Log.{state};
+ghost use Rattle.door.specs.Admit.{loggedBy, admitLogged, admitCalled, admitOf};
 use actor::message::Caller;
+use actor::message::CallerId;
 use actor::message::Logged;
-use front::state;
-use front::state::Check;
-use front::state::Pool;
-use front::state::Refusal;
-use front::state::Told;
-use group::settings;
+use front::answer;
+use front::answer::Called;
+use front::refusals;
+use front::refusals::Check;
 use log::Counters;
 use log::LogId;
 use log::wal;
 use setup::entry;
+use turn::state;
 use turn::state::Disk;
+use turn::state::Pool;
 use turn::state::What;
 
-// 5, 17, 6, 7 and 8, in this order; `loaded`: the program of the name is.
-fn admit_check(pool: Pool, links: &[[u64; 4]], loaded: bool, name: usize, body: usize) -> Check
-    ensures { λ r. ⌜ r ≡ admitCheck pool (now (links .entry)) loaded name body ⌝ }
-{
-    let long = state::length_check(name, body);
-    match long {
-        Check::Refuse(r) => Check::Refuse(r),
-        Check::Fine => {
-            let most = pool.limits.inbox;
-            let closed = pool.closed;
-            let waiting = lists::length_of(links, lists::INBOX);
-            let free = lists::length_of(links, lists::FREE);
-            if !loaded {
-                return Check::Refuse(Refusal::NotLoaded);
-            }
-            if most <= waiting {
-                return Check::Refuse(Refusal::InboxFull);
-            }
-            if closed {
-                return Check::Refuse(Refusal::Closed);
-            }
-            if free == 0 {
-                return Check::Refuse(Refusal::TooMany);
-            }
-            Check::Fine
-        }
-    }
-}
-
-// What the log answered, acted on: in the inbox under the id that was the next, with the counters as they are now; or
-// turned away.
+// What the log answered, acted on, with the counters as they are now: in the inbox under the id that was the next; or
+// refused.
 fn admit_answered(
     pool: Pool,
     counters: Counters,
@@ -57,18 +33,42 @@ fn admit_answered(
     rows: &mut [[u64; 7]],
     name: &[u8],
     body: &[u8],
-) -> Told
+) -> Called
     ensures { λ r. ⌜
-        record { store = now (store .exit); links = now (links .exit); rows = now (rows .exit); told = r }
-        ≡ answeredOf
-        pool counters answer (now (store .entry)) (now (links .entry)) (now (rows .entry)) (now (name .entry))
-        (now (body .entry))
+        ((after before : List ℕ) (recordsAfter recordsBefore groups keys actors : Table) →
+        record {
+          state = record {
+            pool = r .pool;
+            bytes = after;
+            records = recordsAfter;
+            store = now (store .exit);
+            groups = groups;
+            links = now (links .exit);
+            rows = now (rows .exit);
+            keys = keys;
+            actors = actors;
+          };
+          answer = r .answer;
+        }
+        ≡ loggedBy
+        (record {
+          pool = pool;
+          bytes = before;
+          records = recordsBefore;
+          store = now (store .entry);
+          groups = groups;
+          links = now (links .entry);
+          rows = now (rows .entry);
+          keys = keys;
+          actors = actors;
+        })
+        (now (name .entry)) (now (body .entry))
+        (record { wal = state after recordsAfter counters; answer = answer }))
         ⌝ }
 {
     match answer {
         log::Answer::Ordered(order) => {
-            let turn = pool.turn;
-            let before = turn.log;
+            let before = state::counters_of(pool);
             let id = LogId(before.next);
             entry::keep(
                 store,
@@ -82,9 +82,9 @@ fn admit_answered(
             );
             let disk = Disk::Waits(order, What::Record);
             let p = state::with_disk(pool, counters, disk);
-            state::shown_now(p, links, rows)
+            answer::shown_now(p, links, rows)
         }
-        log::Answer::Refused(r) => state::refused(pool, state::log_refusal(r)),
+        log::Answer::Refused(r) => answer::refused(pool, answer::log_refusal(r)),
     }
 }
 
@@ -98,19 +98,36 @@ fn admit_logged(
     rows: &mut [[u64; 7]],
     name: &[u8],
     body: &[u8],
-) -> Told
+) -> Called
     ensures { λ r. ⌜
+        ((groups keys actors : Table) →
         record {
-          bytes = now (log .exit);
-          records = now (records .exit);
-          store = now (store .exit);
-          links = now (links .exit);
-          rows = now (rows .exit);
-          told = r;
+          state = record {
+            pool = r .pool;
+            bytes = now (log .exit);
+            records = now (records .exit);
+            store = now (store .exit);
+            groups = groups;
+            links = now (links .exit);
+            rows = now (rows .exit);
+            keys = keys;
+            actors = actors;
+          };
+          answer = r .answer;
         }
         ≡ admitLogged
-        pool (now (log .entry)) (now (records .entry)) (now (store .entry)) (now (links .entry))
-        (now (rows .entry)) (now (name .entry)) (now (body .entry))
+        (record {
+          pool = pool;
+          bytes = now (log .entry);
+          records = now (records .entry);
+          store = now (store .entry);
+          groups = groups;
+          links = now (links .entry);
+          rows = now (rows .entry);
+          keys = keys;
+          actors = actors;
+        })
+        (now (name .entry)) (now (body .entry)))
         ⌝ }
 {
     let mut counters = state::counters_of(pool);
@@ -119,82 +136,57 @@ fn admit_logged(
 }
 
 // A caller's message is not logged.
-fn admit_fit(
+fn admit_called(
     pool: Pool,
-    log: &mut [u8],
-    records: &mut [[u64; 3]],
     store: &mut [u8],
     links: &mut [[u64; 4]],
     rows: &mut [[u64; 7]],
     name: &[u8],
     body: &[u8],
-    caller: Caller,
-) -> Told
+    caller: CallerId,
+) -> Called
     ensures { λ r. ⌜
+        ((bytes : List ℕ) (records groups keys actors : Table) →
         record {
-          bytes = now (log .exit);
-          records = now (records .exit);
-          store = now (store .exit);
-          links = now (links .exit);
-          rows = now (rows .exit);
-          told = r;
+          state = record {
+            pool = r .pool;
+            bytes = bytes;
+            records = records;
+            store = now (store .exit);
+            groups = groups;
+            links = now (links .exit);
+            rows = now (rows .exit);
+            keys = keys;
+            actors = actors;
+          };
+          answer = r .answer;
         }
-        ≡ admitFit
-        pool (now (log .entry)) (now (records .entry)) (now (store .entry)) (now (links .entry))
-        (now (rows .entry)) (now (name .entry)) (now (body .entry)) caller
+        ≡ admitCalled
+        (record {
+          pool = pool;
+          bytes = bytes;
+          records = records;
+          store = now (store .entry);
+          groups = groups;
+          links = now (links .entry);
+          rows = now (rows .entry);
+          keys = keys;
+          actors = actors;
+        })
+        (now (name .entry)) (now (body .entry)) caller)
         ⌝ }
 {
-    match caller {
-        Caller::From(id) => {
-            entry::keep(
-                store,
-                links,
-                rows,
-                name,
-                body,
-                Caller::From(id),
-                Logged::Never,
-                lists::INBOX,
-            );
-            state::shown_now(pool, links, rows)
-        }
-        Caller::Nobody => admit_logged(pool, log, records, store, links, rows, name, body),
-    }
-}
-
-fn admit_free(
-    pool: Pool,
-    log: &mut [u8],
-    records: &mut [[u64; 3]],
-    store: &mut [u8],
-    groups: &[[u64; 37]],
-    links: &mut [[u64; 4]],
-    rows: &mut [[u64; 7]],
-    name: &[u8],
-    body: &[u8],
-    caller: Caller,
-) -> Told
-    ensures { λ r. ⌜
-        record {
-          bytes = now (log .exit);
-          records = now (records .exit);
-          store = now (store .exit);
-          links = now (links .exit);
-          rows = now (rows .exit);
-          told = r;
-        }
-        ≡ admitFree
-        pool (now (log .entry)) (now (records .entry)) (now (store .entry)) (now (groups .entry))
-        (now (links .entry)) (now (rows .entry)) (now (name .entry)) (now (body .entry)) caller
-        ⌝ }
-{
-    let count = pool.limits.groups;
-    let loaded = settings::loaded(groups, count, name);
-    let check = admit_check(pool, links, loaded, name.len(), body.len());
-    match check {
-        Check::Refuse(r) => state::refused(pool, r),
-        Check::Fine => admit_fit(pool, log, records, store, links, rows, name, body, caller),
-    }
+    entry::keep(
+        store,
+        links,
+        rows,
+        name,
+        body,
+        Caller::From(caller),
+        Logged::Never,
+        lists::INBOX,
+    );
+    answer::shown_now(pool, links, rows)
 }
 
 // A message for the program of a group.
@@ -209,37 +201,46 @@ pub fn admit(
     name: &[u8],
     body: &[u8],
     caller: Caller,
-) -> Told
+) -> Called
     ensures { λ r. ⌜
+        ((keys actors : Table) →
         record {
-          bytes = now (log .exit);
-          records = now (records .exit);
-          store = now (store .exit);
-          links = now (links .exit);
-          rows = now (rows .exit);
-          told = r;
+          state = record {
+            pool = r .pool;
+            bytes = now (log .exit);
+            records = now (records .exit);
+            store = now (store .exit);
+            groups = now (groups .entry);
+            links = now (links .exit);
+            rows = now (rows .exit);
+            keys = keys;
+            actors = actors;
+          };
+          answer = r .answer;
         }
         ≡ admitOf
-        pool (now (log .entry)) (now (records .entry)) (now (store .entry)) (now (groups .entry))
-        (now (links .entry)) (now (rows .entry)) (now (name .entry)) (now (body .entry)) caller
+        (record {
+          pool = pool;
+          bytes = now (log .entry);
+          records = now (records .entry);
+          store = now (store .entry);
+          groups = now (groups .entry);
+          links = now (links .entry);
+          rows = now (rows .entry);
+          keys = keys;
+          actors = actors;
+        })
+        (now (name .entry)) (now (body .entry)) caller)
         ⌝ }
 {
-    let turn = pool.turn;
-    let disk = turn.disk;
-    match disk {
-        Disk::Free => admit_free(
-            pool,
-            log,
-            records,
-            store,
-            groups,
-            links,
-            rows,
-            name,
-            body,
-            caller,
-        ),
-        Disk::Waits(_, _) => state::refused(pool, Refusal::OrderWaits),
-        Disk::Failed => state::refused(pool, Refusal::StoreFailed),
+    let check = refusals::admit_check(pool, groups, links, name, body);
+    match check {
+        Check::Refuse(r) => answer::refused(pool, r),
+        Check::Fine => {
+            match caller {
+                Caller::From(who) => admit_called(pool, store, links, rows, name, body, who),
+                Caller::Nobody => admit_logged(pool, log, records, store, links, rows, name, body),
+            }
+        }
     }
 }

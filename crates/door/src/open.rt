@@ -1,14 +1,16 @@
-// An opening: settings, sizes, the log; then the tables at the start, and the messages left in pending. Refused,
-// nothing has changed.
+// An opening: refused by its table; else the tables at the start, and the messages left in pending.
 ghost use mathlib.Core.Path.{_≡_};
-ghost use Rattle.door.specs.Open.{tablesSized, limitsFrom, noPool, newPool, openPool, openOf};
+ghost use mathlib.Core.List.{List};
+ghost use Prim.Native.Nat.{ℕ};
+ghost use Rattle.lists.specs.Links.{Table};
+ghost use Rattle.door.specs.Open.{limitsFrom, newPool, noPool, filledBy, openOf};
 use actor::question::Asked;
 use actor::question::Question;
-use front::state;
-use front::state::Answer;
-use front::state::Pool;
-use front::state::Refusal;
-use front::state::Told;
+use front::answer;
+use front::answer::Answer;
+use front::answer::Called;
+use front::refusals;
+use front::refusals::Check;
 use group::at::At;
 use log::Counters;
 use log::Order;
@@ -20,24 +22,9 @@ use ticking::crash::Losses;
 use turn::state::Counts;
 use turn::state::Disk;
 use turn::state::Limits;
+use turn::state::Pool;
 use turn::state::Turn;
 use turn::state::What;
-
-// Whether the lent tables have their sizes.
-fn tables_sized(groups: usize, links: usize, rows: usize, lists: usize, actors: usize) -> bool
-    ensures { λ r. ⌜ r ≡ tablesSized groups links rows lists actors ⌝ }
-{
-    if groups == 8 {
-        if links == 262 {
-            if rows == 256 {
-                if lists == 34 {
-                    return actors == 128;
-                }
-            }
-        }
-    }
-    false
-}
 
 fn limits_from(s: Settings, groups: usize) -> Limits
     ensures { λ r. ⌜ r ≡ limitsFrom s groups ⌝ }
@@ -110,16 +97,25 @@ fn open_pool(
     links: &mut [[u64; 4]],
     rows: &mut [[u64; 7]],
     lists: &mut [[u8; 65]],
-) -> Told
-    ensures { λ r. ⌜ record {
-      groups = now (groups .exit);
-      links = now (links .exit);
-      rows = now (rows .exit);
-      keys =
-          now (lists .exit);
-      told = r;
-    } ≡ openPool settings (now (given .entry)) (now (left .entry)) counters order
-        (now (groups .entry)) (now (links .entry)) (now (rows .entry)) (now (lists .entry)) ⌝ }
+) -> Called
+    ensures { λ r. ⌜
+        record {
+          groups = now (groups .exit);
+          links = now (links .exit);
+          rows = now (rows .exit);
+          keys = now (lists .exit);
+          called = r;
+        }
+        ≡ filledBy
+        (record { settings = settings; given = now (given .entry); left = now (left .entry); counters = counters })
+        order
+        (record {
+          groups = now (groups .entry);
+          links = now (links .entry);
+          rows = now (rows .entry);
+          keys = now (lists .entry);
+        })
+        ⌝ }
 {
     settings::put_groups(groups, given, settings.max_actors);
     lists::start(links);
@@ -129,7 +125,7 @@ fn open_pool(
     let disk = Disk::Waits(order, What::Nothing);
     let pool = new_pool(limits, counters, disk);
     let q = Question::Store(order);
-    Told {
+    Called {
         pool,
         answer: Answer::Open(Asked::Open(q)),
     }
@@ -148,30 +144,42 @@ pub fn open(
     rows: &mut [[u64; 7]],
     lists: &mut [[u8; 65]],
     actors: &[[u64; 12]],
-) -> Told
-    ensures { λ r. ⌜ record {
-      bytes = now (log .exit);
-      store = now (store .exit);
-      records = now (records .exit);
-      groups = now (groups .exit);
-      links = now (links .exit);
-      rows = now (rows .exit);
-      keys = now (lists .exit);
-      told = r;
-    } ≡ openOf settings (now (given .entry)) (now (log .entry)) n (now (store .entry))
-        (now (records .entry)) (now (groups .entry)) (now (links .entry)) (now (rows .entry)) (now (lists .entry))
-        (now (actors .entry)) ⌝ }
+) -> Called
+    ensures { λ r. ⌜
+        record {
+          state = record {
+            pool = r .pool;
+            bytes = now (log .exit);
+            records = now (records .exit);
+            store = now (store .exit);
+            groups = now (groups .exit);
+            links = now (links .exit);
+            rows = now (rows .exit);
+            keys = now (lists .exit);
+            actors = now (actors .entry);
+          };
+          answer = r .answer;
+        }
+        ≡ openOf
+        (record {
+          settings = settings;
+          groupsGiven = now (given .entry);
+          bytes = now (log .entry);
+          size = n;
+          store = now (store .entry);
+          records = now (records .entry);
+          groups = now (groups .entry);
+          links = now (links .entry);
+          rows = now (rows .entry);
+          keys = now (lists .entry);
+          actors = now (actors .entry);
+        })
+        ⌝ }
 {
-    let fits = settings::settings_fit(settings, given);
-    if fits {
-        let sized = tables_sized(
-            groups.len(),
-            links.len(),
-            rows.len(),
-            lists.len(),
-            actors.len(),
-        );
-        if sized {
+    let check = refusals::open_check(settings, given, groups, links, rows, lists, actors);
+    match check {
+        Check::Refuse(r) => answer::refused(no_pool(), r),
+        Check::Fine => {
             let mut left = [[0u64; 3]; 256];
             let s = opening::open_log(log, n, store, records, &mut left);
             let counters = s.counters;
@@ -188,12 +196,8 @@ pub fn open(
                     rows,
                     lists,
                 ),
-                log::Answer::Refused(r) => state::refused(no_pool(), state::log_refusal(r)),
+                log::Answer::Refused(r) => answer::refused(no_pool(), answer::log_refusal(r)),
             }
-        } else {
-            state::refused(no_pool(), Refusal::Sizes)
         }
-    } else {
-        state::refused(no_pool(), Refusal::Setting)
     }
 }

@@ -8,22 +8,20 @@ use Rattle.lists.specs.Links.{pick}
 use Rattle.log.specs.Log as log
 use Rattle.log.specs.declared.Refusal as of-log
 use Rattle.log.specs.declared.Refusal.the-variants as logged
-use Rattle.log.specs.declared.Order.{Order}
 use Rattle.log.specs.declared.Order.the-variants as order
 use Rattle.actor.specs.declared.question.Who.{Who}
 use Rattle.actor.specs.declared.question.Outcome.{Outcome}
 use Rattle.actor.specs.declared.question.Outcome.the-variants as outcome
 use Rattle.actor.specs.declared.question.Question.{Question}
 use Rattle.actor.specs.declared.question.Question.the-variants as ask
-use Rattle.actor.specs.declared.question.Asked.{Asked}
 use Rattle.actor.specs.declared.question.Asked.the-variants as asked
-use Rattle.front.specs.declared.state.Refusal.{Refusal}
-use Rattle.front.specs.declared.state.Refusal.the-variants as refusal
-use Rattle.front.specs.declared.state.Answer.{Answer}
-use Rattle.front.specs.declared.state.Answer.the-variants as answer
-use Rattle.front.specs.declared.state.Pool.{Pool}
+use Rattle.front.specs.declared.answer.Refusal.{Refusal}
+use Rattle.front.specs.declared.answer.Refusal.the-variants as refusal
+use Rattle.front.specs.declared.answer.Answer.{Answer}
+use Rattle.front.specs.declared.answer.Answer.the-variants as answer
+use Rattle.turn.specs.declared.state.Pool.{Pool}
 use Rattle.front.specs.declared.numbers.AnswerNumbers.{AnswerNumbers}
-use Rattle.front.specs.State.{numberOf, logRefusal, refusedBy}
+use Rattle.front.specs.Answers.{numberOf, logRefusal, refusedBy}
 use Rattle.front.specs.Numbers.{flagNumber, plainNumbers, outcomeNumber, numbersOf, AnswerSays}
 
 -- ---- refusals

@@ -1,2 +1,3 @@
--- Laws of the pool's state and answers.
+-- Laws of answers and refusals.
 pub mod AnswerLaws
+pub mod RefusalLaws

@@ -1,3 +1,4 @@
 -- Definitions and statements.
-pub mod State
+pub mod Answers
+pub mod Refusals
 pub mod Numbers

@@ -13,10 +13,10 @@ use Rattle.actor.specs.declared.question.Question.{Question}
 use Rattle.actor.specs.declared.question.Question.the-variants as ask
 use Rattle.actor.specs.declared.question.Asked.{Asked}
 use Rattle.actor.specs.declared.question.Asked.the-variants as asked
-use Rattle.front.specs.declared.state.Answer.{Answer}
-use Rattle.front.specs.declared.state.Answer.the-variants as answer
+use Rattle.front.specs.declared.answer.Answer.{Answer}
+use Rattle.front.specs.declared.answer.Answer.the-variants as answer
 use Rattle.front.specs.declared.numbers.AnswerNumbers.{AnswerNumbers}
-use Rattle.front.specs.State.{numberOf}
+use Rattle.front.specs.Answers.{numberOf}
 
 -- yes is 1, no is 0
 abbrev pub flagNumber : Bool → ℕ

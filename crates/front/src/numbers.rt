@@ -12,8 +12,8 @@ ghost use Rattle.front.specs.Numbers.{
   askedNumbers,
   numbersOf,
 };
-use crate::state;
-use crate::state::Answer;
+use crate::answer;
+use crate::answer::Answer;
 use actor::question::Asked;
 use actor::question::Outcome;
 use actor::question::Question;
@@ -180,11 +180,11 @@ fn asked_numbers(a: Asked) -> AnswerNumbers
 }
 
 // The numbers of an answer.
-pub fn numbers_of(answer: Answer) -> AnswerNumbers
-    ensures { λ r. ⌜ r ≡ numbersOf answer ⌝ }
+pub fn numbers_of(given: Answer) -> AnswerNumbers
+    ensures { λ r. ⌜ r ≡ numbersOf given ⌝ }
 {
-    match answer {
-        Answer::Refused(r) => plain(REFUSED, state::number(r), 0),
+    match given {
+        Answer::Refused(r) => plain(REFUSED, answer::number(r), 0),
         Answer::Ended(busy, waiters) => plain(ENDED, flag(busy), flag(waiters)),
         Answer::Open(asked) => asked_numbers(asked),
     }

@@ -11,6 +11,8 @@ use Rattle.steps.specs.declared.eval.EvalNext.the-variants as eval
 use Rattle.group.specs.declared.at.Cursor.{Cursor}
 use Rattle.group.specs.declared.at.At.{At}
 use Rattle.group.specs.declared.at.At.the-variants as at
+use Rattle.group.specs.declared.at.Ask.the-variants as asks
+use Rattle.group.specs.declared.at.Point.the-variants as point
 
 abbrev pub whoOf : ℕ → ℕ → Who
 whoOf g key = record { group = g; key = key }
@@ -20,13 +22,13 @@ nextGroup g = pick (ltb g 8) (g + 1) 8
 
 -- a step is settled: the group's ready list goes on
 abbrev pub readyAfter : Cursor → At
-readyAfter c = at.Ready (c .group) (c .now) (c .pops)
+readyAfter c = at.Runs (point.Ready (c .group) (c .now) (c .pops))
 
 -- a step is at its next question, or ended
 abbrev pub fixedAfter : Cursor → FixedNext → At
-fixedAfter c (fixed.Asks a) = at.Fixed c a
-fixedAfter c (fixed.Ended s) = at.StepEnd c (end.Fixed s)
+fixedAfter c (fixed.Asks a) = at.Asks (asks.Fixed c a)
+fixedAfter c (fixed.Ended s) = at.Runs (point.StepEnd c (end.Fixed s))
 
 abbrev pub evalAfter : Cursor → EvalNext → At
-evalAfter c (eval.Asks a) = at.Eval c a
-evalAfter c (eval.Ended p) = at.StepEnd c (end.Eval p)
+evalAfter c (eval.Asks a) = at.Asks (asks.Eval c a)
+evalAfter c (eval.Ended p) = at.Runs (point.StepEnd c (end.Eval p))

@@ -2,8 +2,8 @@
 use mathlib.Core.Bool.{Bool, true, false}
 use mathlib.Core.List.{List}
 use Prim.Native.Nat.{ℕ, zero, suc, _+_, _*_}
-use lib.Dec.{eqb, ltb}
-use lib.ListN.{getD, set}
+use lib.Dec.{ltb}
+use lib.ListN.{set}
 use Rattle.lists.specs.declared.keys.Key.{Key}
 use Rattle.lists.specs.declared.keys.Key.the-variants as key
 use Rattle.lists.specs.Links.{pick, Table, lenOf, mailboxOf}

@@ -18,49 +18,61 @@ pub struct Cursor {
     pub pops: u64,
 }
 
-pub enum At {
-    // no turn
-    Rest,
+// A question of the turn is open: each goes on with the reply to it.
+pub enum Ask {
+    // Boot of a seed
+    SeedBoot(usize),
+    // Boot, for the first message of the batch, of which at most so many are left
+    RouteBoot(usize, u64),
+    // the tick's clock
+    TickClock,
+    // Poll, of an actor of the group, with the tick's clock, and at most so many actors after it
+    WakePoll(usize, u8, u64, u64),
+    // a question of a fixed actor's step
+    Fixed(Cursor, FixedAsk),
+    // a question of an eval actor's step
+    Eval(Cursor, EvalAsk),
+    // Sends, of a fixed actor
+    Sends(Cursor, Step),
+    // Trap
+    Trap(Cursor),
+    // Trapped, of the actor with this key
+    Trapped(Cursor, u8),
+}
+
+// A point between two questions: each goes on by itself.
+pub enum Point {
     // the first turn's spawns, from this group on
     Seed(usize),
-    // Boot of a seed is asked
-    SeedBoot(usize),
     // the inbox is taken in, at most so many messages more
     Intake(u64),
     // the batch is routed, at most so many messages more
     Route(u64),
-    // Boot is asked, for the first message of the batch
-    RouteBoot(usize, u64),
-    // the tick's clock is asked
-    TickClock,
     // a group's waiting actors are looked at, with the tick's clock
     Wake(usize, u64),
     // at most so many more of them
     WakeNext(usize, u64, u64),
-    // Poll is asked, of an actor of the group
-    WakePoll(usize, u8, u64, u64),
     // the group's ready list is popped, so many times
     Ready(usize, u64, u64),
-    // a question of a fixed actor's step is asked
-    Fixed(Cursor, FixedAsk),
-    // a question of an eval actor's step is asked
-    Eval(Cursor, EvalAsk),
     // what the step finished gets its marks
     StepEnd(Cursor, End),
-    // Sends is asked, of a fixed actor
-    Sends(Cursor, Step),
     // the actor is put back into a list, or released
     Settle(Cursor, Step),
     // its mail, where it never took a message, gets its marks; then the crashed message is tried again, or dead
     Crash(Cursor),
     // a dead message gets its mark
     AskTrap(Cursor),
-    // Trap is asked
-    Trap(Cursor),
-    // Trapped is asked, of the actor with this key
-    Trapped(Cursor, u8),
     // those that were trapped are retired, at most so many more
     Doomed(Cursor, u64),
+}
+
+pub enum At {
+    // no turn
+    Rest,
+    // it waits for a reply
+    Asks(Ask),
+    // it runs on by itself
+    Runs(Point),
 }
 
 // An actor by its group and key.
@@ -84,7 +96,7 @@ pub fn next_group(g: usize) -> usize
 pub fn ready_after(c: Cursor) -> At
     ensures { λ r. ⌜ r ≡ readyAfter c ⌝ }
 {
-    At::Ready(c.group, c.now, c.pops)
+    At::Runs(Point::Ready(c.group, c.now, c.pops))
 }
 
 // A step of a fixed actor is at its next question, or ended.
@@ -92,10 +104,10 @@ pub fn fixed_after(c: Cursor, next: FixedNext) -> At
     ensures { λ r. ⌜ r ≡ fixedAfter c next ⌝ }
 {
     match next {
-        FixedNext::Asks(ask) => At::Fixed(c, ask),
+        FixedNext::Asks(ask) => At::Asks(Ask::Fixed(c, ask)),
         FixedNext::Ended(step) => {
             let end = End::Fixed(step);
-            At::StepEnd(c, end)
+            At::Runs(Point::StepEnd(c, end))
         }
     }
 }
@@ -105,10 +117,10 @@ pub fn eval_after(c: Cursor, next: EvalNext) -> At
     ensures { λ r. ⌜ r ≡ evalAfter c next ⌝ }
 {
     match next {
-        EvalNext::Asks(ask) => At::Eval(c, ask),
+        EvalNext::Asks(ask) => At::Asks(Ask::Eval(c, ask)),
         EvalNext::Ended(parked) => {
             let end = End::Eval(parked);
-            At::StepEnd(c, end)
+            At::Runs(Point::StepEnd(c, end))
         }
     }
 }

@@ -3,7 +3,7 @@
 use mathlib.Core.Path.{_≡_, refl, sym, ap, _∙_, subst}
 use mathlib.Core.Bool.{Bool, true, false}
 use mathlib.Core.Logic.{_≢_}
-use mathlib.Core.List.{List, []}
+use mathlib.Core.List.{List}
 use Prim.Native.Nat.{ℕ, zero, suc, _+_, _*_, _-_, _≤_, _<_}
 use native.Mathlib.Omega.{arith}
 use native.Mathlib.Decide.{ℕ-discrete, decLt}
@@ -42,6 +42,10 @@ use Rattle.steps.specs.declared.eval.EvalAsk.the-variants as eval
 use Rattle.steps.specs.Steps.{placeLogged, placeOver, overFirst}
 use Rattle.group.specs.declared.at.At.{At}
 use Rattle.group.specs.declared.at.At.the-variants as at
+use Rattle.group.specs.declared.at.Ask.{Ask}
+use Rattle.group.specs.declared.at.Ask.the-variants as asks
+use Rattle.group.specs.declared.at.Point.{Point}
+use Rattle.group.specs.declared.at.Point.the-variants as point
 use Rattle.group.specs.declared.at.Cursor.{Cursor}
 use Rattle.group.specs.Roster.{ROWS, slabRow, readyRow, idleRow, waitingRow, slotAt, pushKey, liveOf, Keyed}
 use Rattle.group.specs.Roster.{scheduleOf, Spawned, modeFor, spawnKey, spawnBy, spawnOf, overAll}
@@ -50,9 +54,8 @@ use Rattle.places.proofs.Through.{mailbox-is, first-rule, all-rule}
 use Rattle.places.proofs.Moves.{hand-is}
 use Rattle.places.proofs.Steps.{pick-rule}
 use Rattle.mailboxes.proofs.Operations.{low-slot}
-use Rattle.keeping.specs.Keeping.{Calm}
 use Rattle.keeping.specs.Living.{mailLen, handLen, stepHand, given, Lives, StepHands, EndHands, FixedHands}
-use Rattle.keeping.specs.Living.{EvalHands, AtLives}
+use Rattle.keeping.specs.Living.{EvalHands, PointLives, AskLives, AtLives}
 
 -- ---- slots
 
@@ -277,28 +280,34 @@ module _ (t r : Table) (less : Less t r) where
   eval-less c eval.Dispatch h = less-hand 0 h
   eval-less c (eval.Tell o) h = less-hand 1 h
 
+  ask-less : (keys actors : Table) (a : Ask) → AskLives a t keys actors → AskLives a r keys actors
+  ask-less keys actors (asks.SeedBoot g) h = less-hand 0 h
+  ask-less keys actors (asks.RouteBoot g left) h = less-hand 0 h
+  ask-less keys actors asks.TickClock h = less-hand 0 h
+  ask-less keys actors (asks.WakePoll g k clock left) h = less-hand 0 h
+  ask-less keys actors (asks.Fixed c a) (h, i) = (h, fixed-less c a i)
+  ask-less keys actors (asks.Eval c a) (h, i) = (h, eval-less c a i)
+  ask-less keys actors (asks.Sends c s) h = step-less c s h
+  ask-less keys actors (asks.Trap c) h = less-hand 0 h
+  ask-less keys actors (asks.Trapped c k) h = less-hand 0 h
+
+  pub point-less : (p : Point) → PointLives p t → PointLives p r
+  point-less (point.Seed g) h = less-hand 0 h
+  point-less (point.Intake left) h = less-hand 0 h
+  point-less (point.Route left) h = less-hand 0 h
+  point-less (point.Wake g clock) h = less-hand 0 h
+  point-less (point.WakeNext g clock left) h = less-hand 0 h
+  point-less (point.Ready g clock pops) h = less-hand 0 h
+  point-less (point.StepEnd c e) h = end-less c e h
+  point-less (point.Settle c s) h = step-less c s h
+  point-less (point.Crash c) h = less-hand 1 h
+  point-less (point.AskTrap c) h = less-hand 0 h
+  point-less (point.Doomed c left) h = less-hand 0 h
+
   pub at-less : (keys actors : Table) (a : At) → AtLives a t keys actors → AtLives a r keys actors
   at-less keys actors at.Rest h = less-hand 0 h
-  at-less keys actors (at.Seed g) h = less-hand 0 h
-  at-less keys actors (at.SeedBoot g) h = less-hand 0 h
-  at-less keys actors (at.Intake left) h = less-hand 0 h
-  at-less keys actors (at.Route left) h = less-hand 0 h
-  at-less keys actors (at.RouteBoot g left) h = less-hand 0 h
-  at-less keys actors at.TickClock h = less-hand 0 h
-  at-less keys actors (at.Wake g clock) h = less-hand 0 h
-  at-less keys actors (at.WakeNext g clock left) h = less-hand 0 h
-  at-less keys actors (at.WakePoll g k clock left) h = less-hand 0 h
-  at-less keys actors (at.Ready g clock pops) h = less-hand 0 h
-  at-less keys actors (at.Fixed c a) (h, i) = (h, fixed-less c a i)
-  at-less keys actors (at.Eval c a) (h, i) = (h, eval-less c a i)
-  at-less keys actors (at.StepEnd c e) h = end-less c e h
-  at-less keys actors (at.Sends c s) h = step-less c s h
-  at-less keys actors (at.Settle c s) h = step-less c s h
-  at-less keys actors (at.Crash c) h = less-hand 1 h
-  at-less keys actors (at.AskTrap c) h = less-hand 0 h
-  at-less keys actors (at.Trap c) h = less-hand 0 h
-  at-less keys actors (at.Trapped c k) h = less-hand 0 h
-  at-less keys actors (at.Doomed c left) h = less-hand 0 h
+  at-less keys actors (at.Asks a) h = ask-less keys actors a h
+  at-less keys actors (at.Runs p) h = point-less p h
 
 -- ---- keys and actors that change elsewhere
 

@@ -51,11 +51,11 @@ use Rattle.steps.specs.StepEval as two
 use Rattle.group.specs.declared.at.Cursor.{Cursor}
 use Rattle.group.specs.Roster.{slotAt}
 use Rattle.places.proofs.Steps.{pick-rule}
-use Rattle.keeping.specs.Living.{mailLen, handLen, stepHand, given, Lives, StepHands, FixedHands, EvalHands}
+use Rattle.keeping.specs.Living.{handLen, stepHand, given, Lives, StepHands, FixedHands, EvalHands}
 use Rattle.keeping.specs.Living.{Lively, IsFixed}
 use Rattle.keeping.proofs.Living.{Slot, live-slot, live-given-key, Less, less-at, less-lives, FirstLens}
-use Rattle.keeping.proofs.Living.{first-lens, over-less, over-good, over-left, Same, same-lives, put-same}
-use Rattle.keeping.proofs.Living.{Changes, changes-lives}
+use Rattle.keeping.proofs.Living.{first-lens, over-less, over-left, Same, same-lives, put-same}
+use Rattle.keeping.proofs.Living.{changes-lives}
 
 mode-apart : _≡_ {A = Mode} mode.Fixed mode.Eval → ⊥
 mode-apart e = let z : _≡_ {A = ℕ} 0 1 = cc in omega arith

@@ -36,11 +36,11 @@ use Rattle.steps.specs.declared.fixed.FixedNext.{FixedNext}
 use Rattle.steps.specs.declared.fixed.FixedNext.the-variants as fixed
 use Rattle.steps.specs.declared.eval.EvalNext.{EvalNext}
 use Rattle.steps.specs.declared.eval.EvalNext.the-variants as eval
-use Rattle.steps.specs.Steps.{HAND, overFirst}
+use Rattle.steps.specs.Steps.{HAND}
 use Rattle.steps.specs.StepFixed.{fixedStart}
 use Rattle.steps.specs.StepEval.{evalStart}
 use Rattle.group.specs.declared.at.At.{At}
-use Rattle.group.specs.declared.at.At.the-variants as at
+use Rattle.group.specs.declared.at.Ask.the-variants as asks
 use Rattle.group.specs.declared.at.Cursor.{Cursor}
 use Rattle.group.specs.At.{fixedAfter, evalAfter}
 use Rattle.group.specs.Settings.{groupAt}
@@ -59,10 +59,10 @@ use Rattle.mailboxes.specs.Mailboxes.{mailbox}
 use Rattle.mailboxes.proofs.Moves.{empty-out}
 use Rattle.mailboxes.proofs.Unread.{unread}
 use Rattle.keeping.specs.Living.{mailLen, handLen, stepHand, Lives, StepHands, EndHands, Lively, IsFixed}
-use Rattle.keeping.specs.Living.{AtLives}
-use Rattle.keeping.proofs.Living.{Slot, live-slot, Less, less-same, less-then, less-at, less-lives, first-less}
+use Rattle.keeping.specs.Living.{AskLives, AtLives}
+use Rattle.keeping.proofs.Living.{Slot, Less, less-same, less-then, less-at, less-lives, first-less}
 use Rattle.keeping.proofs.Living.{first-left, all-less, over-less, over-left, over-all-less, Same, same-both}
-use Rattle.keeping.proofs.Living.{same-then, same-lives, same-live, set-row}
+use Rattle.keeping.proofs.Living.{same-then, same-lives, set-row}
 use Rattle.keeping.proofs.Living.{ready-row, idle-row, waiting-row, high-row, push-row, put-same, put-schedule}
 use Rattle.keeping.proofs.Living.{remove-lives}
 use Rattle.keeping.proofs.LivingSteps.{FixedNextHands, EvalNextHands, eval-begins}
@@ -173,7 +173,7 @@ module _ (t keys : Table) (good : Good t) (h : stepHand t ≤ 0) (q : ℕ) where
   unfolding readying.beginFixed fixedStart
   fixed-begins actors l c live is = record {
     lives = same-lives started l;
-    ok = pick-rule (λ (a : FixedAsk). AtLives (at.Fixed c a) t keys (putActor actors (slotOn c)
+    ok = pick-rule (λ (a : FixedAsk). AskLives (asks.Fixed c a) t keys (putActor actors (slotOn c)
         (startedAs (actorAt actors (slotOn c))))) (actorAt actors (slotOn c) .started)
         (λ e. ((live, started .modes (slotOn c) ∙ is), h)) (λ e. ((live, started .modes (slotOn c) ∙ is), h));
   }

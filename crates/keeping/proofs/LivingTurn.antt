@@ -1,6 +1,5 @@
--- Every running point of a turn, and every reply, keeps the invariant of who holds messages. Assumes nothing.
-use mathlib.Core.List.{List}
-use Prim.Native.Nat.{ℕ, _≤_}
+-- Every point of a turn that runs, and every reply, keeps the invariant of who holds messages. Assumes nothing.
+use Prim.Native.Nat.{_≤_}
 use native.Mathlib.Omega.{arith}
 use Rattle.lists.specs.Links.{Table}
 use Rattle.lists.specs.Family.{Good}
@@ -18,17 +17,21 @@ use Rattle.steps.specs.StepFixed.{FixedBoth}
 use Rattle.steps.specs.StepEval.{EvalBoth}
 use Rattle.group.specs.declared.at.At.{At}
 use Rattle.group.specs.declared.at.At.the-variants as at
+use Rattle.group.specs.declared.at.Ask.{Ask}
+use Rattle.group.specs.declared.at.Ask.the-variants as asks
+use Rattle.group.specs.declared.at.Point.{Point}
+use Rattle.group.specs.declared.at.Point.the-variants as point
 use Rattle.group.specs.declared.at.Cursor.{Cursor}
-use Rattle.turn.specs.declared.state.Counts.{Counts}
-use Rattle.turn.specs.declared.state.Limits.{Limits}
-use Rattle.turn.specs.Go.{Gone, GoneActors, goRoute, goReady, goSettle, goCrash, goDoomed, goOf}
-use Rattle.turn.specs.Resume.{sendsReply, routeResumed, fixedDone, fixedResumed, limitOf, evalDone, evalResumed}
-use Rattle.turn.specs.Resume.{stepResumed, runResumed, resumeOf}
-use Rattle.keeping.specs.Keeping.{Calm}
-use Rattle.keeping.specs.Living.{stepHand, Lives, StepHands, EndHands, FixedHands, EvalHands, Lively, AtLives}
-use Rattle.keeping.proofs.Routing.{seed-calm, seed-reply-calm, intake-calm, route-calm, route-reply-calm}
+use Rattle.turn.specs.State.{State}
+use Rattle.turn.specs.Go.{goOf}
+use Rattle.turn.specs.Resume.{sendsReply, fixedStepped, evalStepped, limitOf, resumeOf}
+use Rattle.keeping.specs.Keeping.{AskBetween, PointBetween, BetweenSteps}
+use Rattle.keeping.specs.Living.{stepHand, Lives, StepHands, EndHands, FixedHands, EvalHands, Lively}
+use Rattle.keeping.specs.Living.{PointLives, AskLives, AtLives}
+use Rattle.keeping.proofs.Routing.{seed-between, seed-reply-between, intake-between, route-between}
+use Rattle.keeping.proofs.Routing.{route-reply-between}
 use Rattle.keeping.proofs.Ticking as tick
-use Rattle.keeping.proofs.Turn.{clock-reply-calm}
+use Rattle.keeping.proofs.Turn.{clock-reply-between}
 use Rattle.keeping.proofs.Living.{less-lives, less-hand, same-lives}
 use Rattle.keeping.proofs.LivingSteps.{FixedLives, fixed-lives, EvalLives, eval-lives}
 use Rattle.keeping.proofs.LivingRouting.{seed-lives, seed-reply-lives, intake-less, route-rests}
@@ -37,38 +40,40 @@ use Rattle.keeping.proofs.LivingTicking.{Stands, fixed-after-lives, eva
 use Rattle.keeping.proofs.LivingTicking.{poll-same, trap-same, trapped-same, ready-stands, step-end-lives}
 use Rattle.keeping.proofs.LivingTicking.{settle-stands, crash-lives, crash-hand, doomed-stands}
 
--- between steps the step's hand is empty
-pub calm-lives : (a : At) (t keys actors : Table) → Calm a → stepHand t ≤ 0 → AtLives a t keys actors
-calm-lives at.Rest t keys actors calm h = h
-calm-lives (at.Seed g) t keys actors calm h = h
-calm-lives (at.SeedBoot g) t keys actors calm h = h
-calm-lives (at.Intake left) t keys actors calm h = h
-calm-lives (at.Route left) t keys actors calm h = h
-calm-lives (at.RouteBoot g left) t keys actors calm h = h
-calm-lives at.TickClock t keys actors calm h = h
-calm-lives (at.Wake g clock) t keys actors calm h = h
-calm-lives (at.WakeNext g clock left) t keys actors calm h = h
-calm-lives (at.WakePoll g k clock left) t keys actors calm h = h
-calm-lives (at.Ready g clock pops) t keys actors calm h = h
-calm-lives (at.Fixed c a) t keys actors calm h = absurd calm
-calm-lives (at.Eval c a) t keys actors calm h = absurd calm
-calm-lives (at.StepEnd c e) t keys actors calm h = absurd calm
-calm-lives (at.Sends c s) t keys actors calm h = absurd calm
-calm-lives (at.Settle c s) t keys actors calm h = absurd calm
-calm-lives (at.Crash c) t keys actors calm h = absurd calm
-calm-lives (at.AskTrap c) t keys actors calm h = h
-calm-lives (at.Trap c) t keys actors calm h = h
-calm-lives (at.Trapped c k) t keys actors calm h = h
-calm-lives (at.Doomed c left) t keys actors calm h = h
+-- ---- between steps the step's hand is empty
 
-calm-stands : {a : At} {t keys actors : Table} → Lives t keys actors → Calm a → stepHand t ≤ 0 → Stands a t keys actors
-calm-stands {a = a} {t = t} {keys = keys} {actors = actors} l calm h = record {
-  lives = l;
-  ok = calm-lives a t keys
-      actors calm h;
-}
+module _ (t keys actors : Table) (h : stepHand t ≤ 0) where
+  ask-between : (a : Ask) → AskBetween a → AskLives a t keys actors
+  ask-between (asks.SeedBoot g) between = h
+  ask-between (asks.RouteBoot g left) between = h
+  ask-between asks.TickClock between = h
+  ask-between (asks.WakePoll g k clock left) between = h
+  ask-between (asks.Fixed c a) between = absurd between
+  ask-between (asks.Eval c a) between = absurd between
+  ask-between (asks.Sends c s) between = absurd between
+  ask-between (asks.Trap c) between = h
+  ask-between (asks.Trapped c k) between = h
 
--- at every point the step's hand holds at most one message
+  point-between : (p : Point) → PointBetween p → PointLives p t
+  point-between (point.Seed g) between = h
+  point-between (point.Intake left) between = h
+  point-between (point.Route left) between = h
+  point-between (point.Wake g clock) between = h
+  point-between (point.WakeNext g clock left) between = h
+  point-between (point.Ready g clock pops) between = h
+  point-between (point.StepEnd c e) between = absurd between
+  point-between (point.Settle c s) between = absurd between
+  point-between (point.Crash c) between = absurd between
+  point-between (point.AskTrap c) between = h
+  point-between (point.Doomed c left) between = h
+
+  between-lives : (a : At) → BetweenSteps a → AtLives a t keys actors
+  between-lives at.Rest between = h
+  between-lives (at.Asks a) between = ask-between a between
+  between-lives (at.Runs p) between = point-between p between
+
+-- ---- at every point the step's hand holds at most one message
+
 module _ (t : Table) (c : Cursor) where
   step-few : (s : Step) → StepHands c s t → stepHand t ≤ 1
   step-few step.Done (h, e) = omega arith
@@ -93,87 +98,99 @@ module _ (t : Table) (c : Cursor) where
   eval-few eval.Dispatch h = omega arith
   eval-few (eval.Tell o) h = h
 
+module _ (t : Table) where
+  ask-few : (keys actors : Table) (a : Ask) → AskLives a t keys actors → stepHand t ≤ 1
+  ask-few keys actors (asks.SeedBoot g) h = omega arith
+  ask-few keys actors (asks.RouteBoot g left) h = omega arith
+  ask-few keys actors asks.TickClock h = omega arith
+  ask-few keys actors (asks.WakePoll g k clock left) h = omega arith
+  ask-few keys actors (asks.Fixed c a) (live, h) = fixed-few t c a h
+  ask-few keys actors (asks.Eval c a) (live, h) = eval-few t c a h
+  ask-few keys actors (asks.Sends c s) h = step-few t c s h
+  ask-few keys actors (asks.Trap c) h = omega arith
+  ask-few keys actors (asks.Trapped c k) h = omega arith
+
+  point-few : (p : Point) → PointLives p t → stepHand t ≤ 1
+  point-few (point.Seed g) h = omega arith
+  point-few (point.Intake left) h = omega arith
+  point-few (point.Route left) h = omega arith
+  point-few (point.Wake g clock) h = omega arith
+  point-few (point.WakeNext g clock left) h = omega arith
+  point-few (point.Ready g clock pops) h = omega arith
+  point-few (point.StepEnd c e) h = end-few t c e h
+  point-few (point.Settle c s) h = step-few t c s h
+  point-few (point.Crash c) h = h
+  point-few (point.AskTrap c) h = omega arith
+  point-few (point.Doomed c left) h = omega arith
+
 pub few-hand : (a : At) (t keys actors : Table) → AtLives a t keys actors → stepHand t ≤ 1
 few-hand at.Rest t keys actors h = omega arith
-few-hand (at.Seed g) t keys actors h = omega arith
-few-hand (at.SeedBoot g) t keys actors h = omega arith
-few-hand (at.Intake left) t keys actors h = omega arith
-few-hand (at.Route left) t keys actors h = omega arith
-few-hand (at.RouteBoot g left) t keys actors h = omega arith
-few-hand at.TickClock t keys actors h = omega arith
-few-hand (at.Wake g clock) t keys actors h = omega arith
-few-hand (at.WakeNext g clock left) t keys actors h = omega arith
-few-hand (at.WakePoll g k clock left) t keys actors h = omega arith
-few-hand (at.Ready g clock pops) t keys actors h = omega arith
-few-hand (at.Fixed c a) t keys actors (live, h) = fixed-few t c a h
-few-hand (at.Eval c a) t keys actors (live, h) = eval-few t c a h
-few-hand (at.StepEnd c e) t keys actors h = end-few t c e h
-few-hand (at.Sends c s) t keys actors h = step-few t c s h
-few-hand (at.Settle c s) t keys actors h = step-few t c s h
-few-hand (at.Crash c) t keys actors h = h
-few-hand (at.AskTrap c) t keys actors h = omega arith
-few-hand (at.Trap c) t keys actors h = omega arith
-few-hand (at.Trapped c k) t keys actors h = omega arith
-few-hand (at.Doomed c left) t keys actors h = omega arith
+few-hand (at.Asks a) t keys actors h = ask-few t keys actors a h
+few-hand (at.Runs p) t keys actors h = point-few t p h
 
-abbrev GoStands : Gone → Type 0
-GoStands g = Stands (g .went .at) (g .links) (g .keys) (g .actors)
+-- ---- states
 
-abbrev ResumeStands : GoneActors → Type 0
-ResumeStands g = Stands (g .went .at) (g .links) (g .keys) (g .actors)
+-- who holds messages in a state
+abbrev pub StateLives : State → Type 0
+StateLives s = Lives (s .links) (s .keys) (s .actors)
 
--- ---- running points
+-- the same, and the state stands at a point that fits
+abbrev pub StateStands : State → Type 0
+StateStands s = Stands (s .pool .turn .at) (s .links) (s .keys) (s .actors)
 
-pub go-lives : (a : At) (n : Counts) (limits : Limits) (store : List ℕ) (groups t rows keys actors : Table) → Good t
-    → Lives t keys actors → AtLives a t keys actors
-    → GoStands (goOf a n limits store groups t rows keys actors)
-unfolding goOf goRoute goReady goSettle goCrash goDoomed
-go-lives at.Rest n limits store groups t rows keys actors good l h = record { lives = l; ok = h }
-go-lives (at.Seed g) n limits store groups t rows keys actors good l h =
-    calm-stands (seed-lives t keys actors l groups (limits .groups) g) (seed-calm groups (limits .groups) keys actors
-    g) h
-go-lives (at.SeedBoot g) n limits store groups t rows keys actors good l h = record { lives = l; ok = h }
-go-lives (at.Intake left) n limits store groups t rows keys actors good l h =
-    let less = intake-less t good (n .queued) (limits .backlog) left in
-    calm-stands (less-lives t _ keys actors less l) (intake-calm t (n .queued) (limits .backlog) left)
-    (less-hand t _ less 0 h)
-go-lives (at.Route left) n limits store groups t rows keys actors good l h =
-    let went = route-rests t good h rows (n .queued) left groups (limits .groups) store keys actors l in
-    calm-stands (went .lives) (route-calm groups (limits .groups) store t rows keys actors (n .queued) left)
+-- between steps every point fits where the step's hand is empty
+between-stands : {a : At} {t keys actors : Table} → Lives t keys actors → BetweenSteps a → stepHand t ≤ 0
+    → Stands a t keys actors
+between-stands {a = a} {t = t} {keys = keys} {actors = actors} l between h =
+    record { lives = l; ok = between-lives t keys actors h a between }
+
+-- ---- points that run
+
+pub go-lives : (s : State) (p : Point) → Good (s .links) → StateLives s → PointLives p (s .links)
+    → StateStands (goOf s p)
+unfolding goOf
+go-lives s (point.Seed g) good l h =
+    between-stands (seed-lives (s .links) (s .keys) (s .actors) l (s .groups) (s .pool .limits .groups) g)
+    (seed-between (s .groups) (s .pool .limits .groups) (s .keys) (s .actors) g) h
+go-lives s (point.Intake left) good l h =
+    let less = intake-less (s .links) good (s .pool .turn .counts .queued) (s .pool .limits .backlog) left in
+    between-stands (less-lives (s .links) _ (s .keys) (s .actors) less l)
+    (intake-between (s .links) (s .pool .turn .counts .queued) (s .pool .limits .backlog) left)
+    (less-hand (s .links) _ less 0 h)
+go-lives s (point.Route left) good l h =
+    let went = route-rests (s .links) good h (s .rows) (s .pool .turn .counts .queued) left (s .groups)
+    (s .pool .limits .groups) (s .store) (s .keys) (s .actors) l in
+    between-stands (went .lives)
+    (route-between (s .groups) (s .pool .limits .groups) (s .store) (s .links) (s .rows) (s .keys) (s .actors)
+    (s .pool .turn .counts .queued) left)
     (went .free)
-go-lives (at.RouteBoot g left) n limits store groups t rows keys actors good l h = record { lives = l; ok = h }
-go-lives at.TickClock n limits store groups t rows keys actors good l h = record { lives = l; ok = h }
-go-lives (at.Wake g clock) n limits store groups t rows keys actors good l h =
-    calm-stands (same-lives (wake-same keys actors (limits .groups) g clock) l) (tick.wake-calm keys (limits .groups) g
-    clock) h
-go-lives (at.WakeNext g clock left) n limits store groups t rows keys actors good l h =
-    calm-stands (same-lives (wake-next-same keys actors g clock left) l) (tick.wake-next-calm keys actors g clock left)
-    h
-go-lives (at.WakePoll g k clock left) n limits store groups t rows keys actors good l h = record { lives = l; ok = h }
-go-lives (at.Ready g clock pops) n limits store groups t rows keys actors good l h = ready-stands t keys actors good l
-    h (n .queued) (n .stepped) g clock pops
-go-lives (at.Fixed c a) n limits store groups t rows keys actors good l h = record { lives = l; ok = h }
-go-lives (at.Eval c a) n limits store groups t rows keys actors good l h = record { lives = l; ok = h }
-go-lives (at.StepEnd c e) n limits store groups t rows keys actors good l h = record {
-  lives = l;
-  ok =
-      step-end-lives t keys actors c e h;
-}
-go-lives (at.Sends c s) n limits store groups t rows keys actors good l h = record { lives = l; ok = h }
-go-lives (at.Settle c s) n limits store groups t rows keys actors good l h = settle-stands t rows keys actors good l c
-    (n .queued) s h
-go-lives (at.Crash c) n limits store groups t rows keys actors good l h =
+go-lives s (point.Wake g clock) good l h =
+    between-stands (same-lives (wake-same (s .keys) (s .actors) (s .pool .limits .groups) g clock) l)
+    (tick.wake-between (s .keys) (s .pool .limits .groups) g clock) h
+go-lives s (point.WakeNext g clock left) good l h =
+    between-stands (same-lives (wake-next-same (s .keys) (s .actors) g clock left) l)
+    (tick.wake-next-between (s .keys) (s .actors) g clock left) h
+go-lives s (point.Ready g clock pops) good l h =
+    ready-stands (s .links) (s .keys) (s .actors) good l h (s .pool .turn .counts .queued)
+    (s .pool .turn .counts .stepped) g clock pops
+go-lives s (point.StepEnd c e) good l h =
+    record { lives = l; ok = step-end-lives (s .links) (s .keys) (s .actors) c e h }
+go-lives s (point.Settle c step) good l h =
+    settle-stands (s .links) (s .rows) (s .keys) (s .actors) good l c (s .pool .turn .counts .queued) step h
+go-lives s (point.Crash c) good l h =
     record {
-      lives = crash-lives groups t rows keys actors good l c (n .losses);
-      ok = crash-hand groups t rows good h c
-          (n .losses);
+      lives = crash-lives (s .groups) (s .links) (s .rows) (s .keys) (s .actors) good l c
+          (s .pool .turn .counts .losses);
+      ok = crash-hand (s .groups) (s .links) (s .rows) good h c (s .pool .turn .counts .losses);
     }
-go-lives (at.AskTrap c) n limits store groups t rows keys actors good l h = record { lives = l; ok = h }
-go-lives (at.Trap c) n limits store groups t rows keys actors good l h = record { lives = l; ok = h }
-go-lives (at.Trapped c k) n limits store groups t rows keys actors good l h = record { lives = l; ok = h }
-go-lives (at.Doomed c left) n limits store groups t rows keys actors good l h =
-    let went = doomed-stands groups t rows keys actors good l h c left (n .queued) (n .losses) in
-    calm-stands (went .0) (tick.doomed-calm groups t rows keys c left (n .queued) (n .losses)) (went .1)
+go-lives s (point.AskTrap c) good l h = record { lives = l; ok = h }
+go-lives s (point.Doomed c left) good l h =
+    let went = doomed-stands (s .groups) (s .links) (s .rows) (s .keys) (s .actors) good l h c left
+    (s .pool .turn .counts .queued) (s .pool .turn .counts .losses) in
+    between-stands (went .0)
+    (tick.doomed-between (s .groups) (s .links) (s .rows) (s .keys) c left (s .pool .turn .counts .queued)
+    (s .pool .turn .counts .losses))
+    (went .1)
 
 -- ---- replies
 
@@ -192,71 +209,48 @@ sends-lives t keys actors c s reply.Stored h = h
 sends-lives t keys actors c s reply.Failed h = h
 
 -- a step is at its next point, or ended
-fixed-done : (keys : Table) (n : Counts) (c : Cursor) → Lively keys c → (s : FixedBoth) → FixedLives keys c s
-    → ResumeStands (stepResumed keys (fixedDone n c s))
-fixed-done keys n c live s next = record {
-  lives = next .lives;
-  ok = fixed-after-lives (s .links) keys (s .actors) c
-      (s .step .next) live (next .is-fixed) (next .hands);
-}
+module _ (s : State) (c : Cursor) (live : Lively (s .keys) c) where
+  fixed-resumes : (d : FixedBoth) → FixedLives (s .keys) c d → StateStands (fixedStepped s c d)
+  fixed-resumes d next =
+      record {
+        lives = next .lives;
+        ok = fixed-after-lives (d .links) (s .keys) (d .actors) c (d .step .next) live (next .is-fixed)
+            (next .hands);
+      }
 
-eval-done : (keys : Table) (n : Counts) (c : Cursor) → Lively keys c → (s : EvalBoth) → EvalLives keys c s
-    → ResumeStands (runResumed keys n (evalDone c s))
-eval-done keys n c live s next = record {
-  lives = next .lives;
-  ok = eval-after-lives (s .links) keys (s .actors) c
-      (s .next) live (next .hands);
-}
+  eval-resumes : (d : EvalBoth) → EvalLives (s .keys) c d → StateStands (evalStepped s c d)
+  eval-resumes d next =
+      record {
+        lives = next .lives;
+        ok = eval-after-lives (d .links) (s .keys) (d .actors) c (d .next) live (next .hands);
+      }
 
-module _ (t rows keys actors : Table) (n : Counts) (good : Good t) (l : Lives t keys actors) where
-  fixed-resumes : (c : Cursor) (a : FixedAsk) (r : Reply) → AtLives (at.Fixed c a) t keys actors
-      → ResumeStands (stepResumed keys (fixedResumed n t rows actors c a r))
-  unfolding fixedResumed
-  fixed-resumes c a r ((live, is), h) =
-      fixed-done keys n c live _ (fixed-lives t rows keys actors (n .queued) good l c live is a h r)
-
-  eval-resumes : (limits : Limits) (groups : Table) (c : Cursor) (a : EvalAsk) (r : Reply)
-      → AtLives (at.Eval c a) t keys actors
-      → ResumeStands (runResumed keys n (evalResumed limits groups t rows actors c a r))
-  unfolding evalResumed
-  eval-resumes limits groups c a r (live, h) =
-      eval-done keys n c live _ (eval-lives t rows keys actors good l c live (limitOf limits groups c) a h r)
-
-pub resume-lives : (a : At) (n : Counts) (limits : Limits) (groups t rows keys actors : Table) (r : Reply) → Good t
-    → Lives t keys actors → AtLives a t keys actors
-    → ResumeStands (resumeOf a n limits groups t rows keys actors r)
-unfolding resumeOf routeResumed
-resume-lives at.Rest n limits groups t rows keys actors r good l h = record { lives = l; ok = h }
-resume-lives (at.Seed g) n limits groups t rows keys actors r good l h = record { lives = l; ok = h }
-resume-lives (at.SeedBoot g) n limits groups t rows keys actors r good l h =
-    calm-stands (seed-reply-lives t keys actors l g r) (seed-reply-calm keys actors g r) h
-resume-lives (at.Intake left) n limits groups t rows keys actors r good l h = record { lives = l; ok = h }
-resume-lives (at.Route left) n limits groups t rows keys actors r good l h = record { lives = l; ok = h }
-resume-lives (at.RouteBoot g left) n limits groups t rows keys actors r good l h =
-    let went = route-reply-rests t good h rows (n .queued) left keys actors l g r in
-    calm-stands (went .lives) (route-reply-calm t rows keys actors g (n .queued) left r) (went .free)
-resume-lives at.TickClock n limits groups t rows keys actors r good l h = calm-stands (l) (clock-reply-calm r) h
-resume-lives (at.Wake g clock) n limits groups t rows keys actors r good l h = record { lives = l; ok = h }
-resume-lives (at.WakeNext g clock left) n limits groups t rows keys actors r good l h = record { lives = l; ok = h }
-resume-lives (at.WakePoll g k clock left) n limits groups t rows keys actors r good l h =
-    calm-stands (same-lives (poll-same keys actors g k clock left r) l) (tick.poll-reply-calm keys actors g k clock
-    left r) h
-resume-lives (at.Ready g clock pops) n limits groups t rows keys actors r good l h = record { lives = l; ok = h }
-resume-lives (at.Fixed c a) n limits groups t rows keys actors r good l h = fixed-resumes t rows keys actors n good l c
-    a r h
-resume-lives (at.Eval c a) n limits groups t rows keys actors r good l h = eval-resumes t rows keys actors n good l
-    limits groups c a r h
-resume-lives (at.StepEnd c e) n limits groups t rows keys actors r good l h = record { lives = l; ok = h }
-resume-lives (at.Sends c s) n limits groups t rows keys actors r good l h = record {
-  lives = l;
-  ok =
-      sends-lives t keys actors c s r h;
-}
-resume-lives (at.Settle c s) n limits groups t rows keys actors r good l h = record { lives = l; ok = h }
-resume-lives (at.Crash c) n limits groups t rows keys actors r good l h = record { lives = l; ok = h }
-resume-lives (at.AskTrap c) n limits groups t rows keys actors r good l h = record { lives = l; ok = h }
-resume-lives (at.Trap c) n limits groups t rows keys actors r good l h =
-    calm-stands (same-lives (trap-same keys actors c r) l) (tick.trap-reply-calm keys c r) h
-resume-lives (at.Trapped c k) n limits groups t rows keys actors r good l h =
-    calm-stands (same-lives (trapped-same keys actors c k r) l) (tick.trapped-reply-calm keys c k r) h
-resume-lives (at.Doomed c left) n limits groups t rows keys actors r good l h = record { lives = l; ok = h }
+pub resume-lives : (s : State) (a : Ask) (r : Reply) → Good (s .links) → StateLives s
+    → AskLives a (s .links) (s .keys) (s .actors) → StateStands (resumeOf s a r)
+unfolding resumeOf
+resume-lives s (asks.SeedBoot g) r good l h =
+    between-stands (seed-reply-lives (s .links) (s .keys) (s .actors) l g r)
+    (seed-reply-between (s .keys) (s .actors) g r) h
+resume-lives s (asks.RouteBoot g left) r good l h =
+    let went = route-reply-rests (s .links) good h (s .rows) (s .pool .turn .counts .queued) left (s .keys)
+    (s .actors) l g r in
+    between-stands (went .lives)
+    (route-reply-between (s .links) (s .rows) (s .keys) (s .actors) g (s .pool .turn .counts .queued) left r)
+    (went .free)
+resume-lives s asks.TickClock r good l h = between-stands l (clock-reply-between r) h
+resume-lives s (asks.WakePoll g k clock left) r good l h =
+    between-stands (same-lives (poll-same (s .keys) (s .actors) g k clock left r) l)
+    (tick.poll-reply-between (s .keys) (s .actors) g k clock left r) h
+resume-lives s (asks.Fixed c a) r good l ((live, is), h) =
+    fixed-resumes s c live _
+    (fixed-lives (s .links) (s .rows) (s .keys) (s .actors) (s .pool .turn .counts .queued) good l c live is a h r)
+resume-lives s (asks.Eval c a) r good l (live, h) =
+    eval-resumes s c live _
+    (eval-lives (s .links) (s .rows) (s .keys) (s .actors) good l c live (limitOf s c) a h r)
+resume-lives s (asks.Sends c step) r good l h =
+    record { lives = l; ok = sends-lives (s .links) (s .keys) (s .actors) c step r h }
+resume-lives s (asks.Trap c) r good l h =
+    between-stands (same-lives (trap-same (s .keys) (s .actors) c r) l) (tick.trap-reply-between (s .keys) c r) h
+resume-lives s (asks.Trapped c k) r good l h =
+    between-stands (same-lives (trapped-same (s .keys) (s .actors) c k r) l)
+    (tick.trapped-reply-between (s .keys) c k r) h

@@ -1,8 +1,7 @@
--- At every point of a turn, every reply and every mark at most one mailbox changes, by one of the four operations.
--- Assumes nothing.
-use mathlib.Core.Path.{refl}
+-- At every point of a turn, every reply and every mark at most one mailbox changes, by one of the operations of
+-- crates/mailboxes. Assumes nothing.
+use mathlib.Core.Path.{_≡_, refl}
 use mathlib.Core.Bool.{Bool, true, false}
-use mathlib.Core.List.{List}
 use Prim.Native.Nat.{ℕ, _-_, _≤_, _<_}
 use native.Mathlib.Omega.{arith}
 use native.Mathlib.Decide.{decLt}
@@ -16,9 +15,8 @@ use Rattle.lists.specs.Links.{LISTS, FREE, Table, lenOf, firstOf, moveFirst, mo
 use Rattle.lists.specs.Family.{Good}
 use Rattle.lists.specs.KeyLists.{keysAt, frontOf, popFront}
 use Rattle.lists.proofs.Moves.{move-first}
-use Rattle.log.specs.declared.Counters.{Counters}
-use Rattle.actor.specs.declared.message.Caller.{Caller}
 use Rattle.actor.specs.declared.message.Logged.{Logged}
+use Rattle.actor.specs.declared.message.Logged.the-variants as logged
 use Rattle.actor.specs.declared.question.Status.{Status}
 use Rattle.actor.specs.declared.question.Status.the-variants as status
 use Rattle.actor.specs.declared.question.Reply.{Reply}
@@ -34,6 +32,7 @@ use Rattle.actor.specs.Questions.{yesIn, countIn, ranIn}
 use Rattle.actor.specs.Messages.{messageAt}
 use Rattle.actor.specs.Actors.{actorAt, putActor, beganStep, hasRun}
 use Rattle.setup.specs.Entry as entry
+use Rattle.setup.specs.Entry.{Messages, Arrival}
 use Rattle.steps.specs.declared.step.Step.{Step}
 use Rattle.steps.specs.declared.step.Step.the-variants as step
 use Rattle.steps.specs.declared.fixed.FixedAsk.{FixedAsk}
@@ -43,7 +42,8 @@ use Rattle.steps.specs.StepFixed.{FixedBoth, FixedLinks, stepFixed}
 use Rattle.steps.specs.StepFixed as one
 use Rattle.steps.specs.StepEval.{EvalStarted}
 use Rattle.steps.specs.StepEval as two
-use Rattle.group.specs.declared.at.At.the-variants as at
+use Rattle.group.specs.declared.at.Ask.the-variants as asks
+use Rattle.group.specs.declared.at.Point.the-variants as point
 use Rattle.group.specs.declared.at.Cursor.{Cursor}
 use Rattle.group.specs.Settings.{groupAt}
 use Rattle.group.specs.Roster.{DOOMED, slotAt, overAll}
@@ -58,10 +58,11 @@ use Rattle.ticking.specs.Settle as settling
 use Rattle.ticking.specs.Settle.{slotOn, settleOf}
 use Rattle.ticking.specs.Crash as crashing
 use Rattle.ticking.specs.Crash.{Dying, Crashing, crashOf, doomedOf}
-use Rattle.turn.specs.Go.{goRoute, goReady, goSettle, goCrash, goDoomed, goOf}
+use Rattle.turn.specs.State.{State, withLinks}
+use Rattle.turn.specs.Go.{goOf}
 use Rattle.turn.specs.Step as turn
 use Rattle.turn.specs.Step.{markFirst}
-use Rattle.turn.specs.Resume.{routeResumed, fixedResumed, limitOf, evalResumed, resumeOf}
+use Rattle.turn.specs.Resume.{limitOf, resumeOf}
 use Rattle.mailboxes.specs.Mailboxes.{mailList}
 use Rattle.mailboxes.specs.Operations.{slotNumber}
 use Rattle.mailboxes.proofs.Moves.{put-at-end, put-at-front, empty-out}
@@ -233,7 +234,8 @@ begin-step groups rows t actors c slot q good low =
 ready-step : (groups rows t keys actors : Table) (q : ℕ) (b : Bool) (g clock pops : ℕ) → Good t
     → MailStep groups rows t (readyOf t keys actors q b g clock pops .links)
 ready-step groups rows t keys actors q b g clock pops good =
-    ready-rule t q (λ (r : Table) (s : Begun). MailStep groups rows t r) (λ a stepped calm. nothing groups rows t good)
+    ready-rule t q (λ (r : Table) (s : Begun). MailStep groups rows t r)
+    (λ a stepped between. nothing groups rows t good)
     (λ l c low. begin-step groups rows t l c (slotOn c) q good low) keys actors b g clock pops
 
 -- ---- a step ends
@@ -326,87 +328,79 @@ module _ (groups t rows : Table) (c : Cursor) (q : ℕ) (l : Losses) (good : Goo
 
 -- ---- every point
 
+-- no message moves
+stays : (s : State) → MailStep (s .groups) (s .rows) (s .links) (s .links)
+stays s = unchanged (λ slot low. refl)
+
 pub every-point : EveryPoint
-unfolding goOf goRoute goReady goSettle goCrash goDoomed
-every-point at.Rest n limits store groups t rows keys actors good = nothing groups rows t good
-every-point (at.Seed g) n limits store groups t rows keys actors good = nothing groups rows t good
-every-point (at.SeedBoot g) n limits store groups t rows keys actors good = nothing groups rows t good
-every-point (at.Intake left) n limits store groups t rows keys actors good = intake-step groups t rows (n .queued)
-    (limits .backlog) left good
-every-point (at.Route left) n limits store groups t rows keys actors good =
-    route-rule t rows (n .queued) left (SentStep groups rows t) (route-ways groups t rows (n .queued) left good)
-    groups (limits .groups)
-    store keys actors
-every-point (at.RouteBoot g left) n limits store groups t rows keys actors good = nothing groups rows t good
-every-point at.TickClock n limits store groups t rows keys actors good = nothing groups rows t good
-every-point (at.Wake g clock) n limits store groups t rows keys actors good = nothing groups rows t good
-every-point (at.WakeNext g clock left) n limits store groups t rows keys actors good = nothing groups rows t good
-every-point (at.WakePoll g k clock left) n limits store groups t rows keys actors good = nothing groups rows t good
-every-point (at.Ready g clock pops) n limits store groups t rows keys actors good =
-    ready-step groups rows t keys actors
-    (n .queued) (n .stepped) g clock pops good
-every-point (at.Fixed c a) n limits store groups t rows keys actors good = nothing groups rows t good
-every-point (at.Eval c a) n limits store groups t rows keys actors good = nothing groups rows t good
-every-point (at.StepEnd c e) n limits store groups t rows keys actors good = nothing groups rows t good
-every-point (at.Sends c s) n limits store groups t rows keys actors good = nothing groups rows t good
-every-point (at.Settle c s) n limits store groups t rows keys actors good = settle-step groups t rows keys actors c s
-    (n .queued) good
-every-point (at.Crash c) n limits store groups t rows keys actors good = crash-step groups t rows c (n .losses) good
-every-point (at.AskTrap c) n limits store groups t rows keys actors good = nothing groups rows t good
-every-point (at.Trap c) n limits store groups t rows keys actors good = nothing groups rows t good
-every-point (at.Trapped c k) n limits store groups t rows keys actors good = nothing groups rows t good
-every-point (at.Doomed c left) n limits store groups t rows keys actors good = doomed-step groups t rows c
-    (n .queued) (n .losses) good keys left
+unfolding goOf
+every-point s (point.Seed g) good = stays s
+every-point s (point.Intake left) good =
+    intake-step (s .groups) (s .links) (s .rows) (s .pool .turn .counts .queued) (s .pool .limits .backlog) left good
+every-point s (point.Route left) good =
+    route-rule (s .links) (s .rows) (s .pool .turn .counts .queued) left (SentStep (s .groups) (s .rows) (s .links))
+    (route-ways (s .groups) (s .links) (s .rows) (s .pool .turn .counts .queued) left good)
+    (s .groups) (s .pool .limits .groups) (s .store) (s .keys) (s .actors)
+every-point s (point.Wake g clock) good = stays s
+every-point s (point.WakeNext g clock left) good = stays s
+every-point s (point.Ready g clock pops) good =
+    ready-step (s .groups) (s .rows) (s .links) (s .keys) (s .actors) (s .pool .turn .counts .queued)
+    (s .pool .turn .counts .stepped) g clock pops good
+every-point s (point.StepEnd c e) good = stays s
+every-point s (point.Settle c step) good =
+    settle-step (s .groups) (s .links) (s .rows) (s .keys) (s .actors) c step (s .pool .turn .counts .queued) good
+every-point s (point.Crash c) good =
+    crash-step (s .groups) (s .links) (s .rows) c (s .pool .turn .counts .losses) good
+every-point s (point.AskTrap c) good = stays s
+every-point s (point.Doomed c left) good =
+    doomed-step (s .groups) (s .links) (s .rows) c (s .pool .turn .counts .queued) (s .pool .turn .counts .losses)
+    good (s .keys) left
 
 -- ---- every reply
 
 pub every-reply : EveryReply
-unfolding resumeOf routeResumed fixedResumed evalResumed
-every-reply at.Rest n limits groups t rows keys actors r good ok = nothing groups rows t good
-every-reply (at.Seed g) n limits groups t rows keys actors r good ok = nothing groups rows t good
-every-reply (at.SeedBoot g) n limits groups t rows keys actors r good ok = nothing groups rows t good
-every-reply (at.Intake left) n limits groups t rows keys actors r good ok = nothing groups rows t good
-every-reply (at.Route left) n limits groups t rows keys actors r good ok = nothing groups rows t good
-every-reply (at.RouteBoot g left) n limits groups t rows keys actors r good ok =
-    reply-rule t rows (n .queued) left (SentStep groups rows t) (route-ways groups t rows (n .queued) left good)
-    keys actors g r
-every-reply at.TickClock n limits groups t rows keys actors r good ok = nothing groups rows t good
-every-reply (at.Wake g clock) n limits groups t rows keys actors r good ok = nothing groups rows t good
-every-reply (at.WakeNext g clock left) n limits groups t rows keys actors r good ok = nothing groups rows t good
-every-reply (at.WakePoll g k clock left) n limits groups t rows keys actors r good ok = nothing groups rows t good
-every-reply (at.Ready g clock pops) n limits groups t rows keys actors r good ok = nothing groups rows t good
-every-reply (at.Fixed c a) n limits groups t rows keys actors r good (low, full) =
-    fixed-step groups t rows actors (slotAt (c .group) (c .key)) good low (n .queued) a r
-every-reply (at.Eval c a) n limits groups t rows keys actors r good low =
-    elsewhere groups rows t good
-    (eval-through t rows actors (slotAt (c .group) (c .key)) good low (limitOf limits groups c) a r)
-every-reply (at.StepEnd c e) n limits groups t rows keys actors r good ok = nothing groups rows t good
-every-reply (at.Sends c s) n limits groups t rows keys actors r good ok = nothing groups rows t good
-every-reply (at.Settle c s) n limits groups t rows keys actors r good ok = nothing groups rows t good
-every-reply (at.Crash c) n limits groups t rows keys actors r good ok = nothing groups rows t good
-every-reply (at.AskTrap c) n limits groups t rows keys actors r good ok = nothing groups rows t good
-every-reply (at.Trap c) n limits groups t rows keys actors r good ok = nothing groups rows t good
-every-reply (at.Trapped c k) n limits groups t rows keys actors r good ok = nothing groups rows t good
-every-reply (at.Doomed c left) n limits groups t rows keys actors r good ok = nothing groups rows t good
+unfolding resumeOf
+every-reply s (asks.SeedBoot g) r good ok = stays s
+every-reply s (asks.RouteBoot g left) r good ok =
+    reply-rule (s .links) (s .rows) (s .pool .turn .counts .queued) left (SentStep (s .groups) (s .rows) (s .links))
+    (route-ways (s .groups) (s .links) (s .rows) (s .pool .turn .counts .queued) left good)
+    (s .keys) (s .actors) g r
+every-reply s asks.TickClock r good ok = stays s
+every-reply s (asks.WakePoll g k clock left) r good ok = stays s
+every-reply s (asks.Fixed c a) r good (low, full) =
+    fixed-step (s .groups) (s .links) (s .rows) (s .actors) (slotAt (c .group) (c .key)) good low
+    (s .pool .turn .counts .queued) a r
+every-reply s (asks.Eval c a) r good low =
+    elsewhere (s .groups) (s .rows) (s .links) good
+    (eval-through (s .links) (s .rows) (s .actors) (slotAt (c .group) (c .key)) good low (limitOf s c) a r)
+every-reply s (asks.Sends c step) r good ok = stays s
+every-reply s (asks.Trap c) r good ok = stays s
+every-reply s (asks.Trapped c k) r good ok = stays s
 
 -- ---- every mark, and every message that comes
 
-mark-found : (bytes : List ℕ) (records t rows : Table) (n : Counters) (limit : ℕ) → Good t → (e : Found)
-    → MailSame t (turn.markFound bytes records t rows n limit e .links)
-mark-found bytes records t rows n limit good (found.Entry e) = low-move t good OVER FREE (omega arith) (omega arith)
-mark-found bytes records t rows n limit good found.Nothing = λ slot low. refl
+-- the mark itself changes only the log
+logged-links : (s : State) (l : Logged) → turn.markLogged s l .links ≡ s .links
+unfolding turn.markLogged
+logged-links s (logged.As id) = refl
+logged-links s logged.Never = refl
+
+mark-found : (s : State) → Good (s .links) → (e : Found) → MailSame (s .links) (turn.markFound s e .links)
+mark-found s good (found.Entry e) =
+    rw (logged-links (withLinks s (moveFirst (s .links) OVER FREE)) (messageAt (s .rows) e .id))
+    (low-move (s .links) good OVER FREE (omega arith) (omega arith))
+mark-found s good found.Nothing = λ slot low. refl
 
 pub every-mark : EveryMark
 unfolding markFirst
-every-mark bytes records t rows n limit good = mark-found bytes records t rows n limit good (firstOf t OVER)
+every-mark s good = mark-found s good (firstOf (s .links) OVER)
 
-kept-found : (store : List ℕ) (t rows : Table) (name body : List ℕ) (who : Caller) (id : Logged) (to : ℕ) → Good t
-    → to < 6 → (e : Found) → MailSame t (entry.keepFound store t rows name body who id to e .links)
+kept-found : (m : Messages) (a : Arrival) (to : ℕ) → Good (m .links) → to < 6 → (e : Found)
+    → MailSame (m .links) (entry.keepFound m a to e .links)
 unfolding entry.keepAt
-kept-found store t rows name body who id to good low (found.Entry e) = low-move t good FREE to (omega arith) low
-kept-found store t rows name body who id to good low found.Nothing = λ slot s-is. refl
+kept-found m a to good low (found.Entry e) = low-move (m .links) good FREE to (omega arith) low
+kept-found m a to good low found.Nothing = λ slot s-is. refl
 
 pub every-arrival : EveryArrival
 unfolding entry.keepOf
-every-arrival store t rows name body who id to good low =
-    kept-found store t rows name body who id to good low (firstOf t FREE)
+every-arrival m a to good low = kept-found m a to good low (firstOf (m .links) FREE)

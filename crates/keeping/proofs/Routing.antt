@@ -15,6 +15,8 @@ use Rattle.actor.specs.declared.question.YesIn.the-variants as yes
 use Rattle.actor.specs.Questions.{yesIn}
 use Rattle.actor.specs.Messages.{messageAt}
 use Rattle.group.specs.declared.at.At.the-variants as at
+use Rattle.group.specs.declared.at.Ask.the-variants as asks
+use Rattle.group.specs.declared.at.Point.the-variants as point
 use Rattle.group.specs.declared.settings.Named.{Named}
 use Rattle.group.specs.declared.settings.Named.the-variants as named
 use Rattle.group.specs.Settings.{groupAt, groupFor}
@@ -27,41 +29,42 @@ use Rattle.places.specs.Places.{Sound, Keeps}
 use Rattle.places.proofs.Moves.{desk-inbox, desk-pending, desk-batch, same-keeps, move-keeps, move-all-keeps}
 use Rattle.places.proofs.Moves.{over-keeps, to-mailbox}
 use Rattle.places.proofs.Steps.{pick-rule}
-use Rattle.keeping.specs.Keeping.{Calm}
+use Rattle.keeping.specs.Keeping.{BetweenSteps}
 
 -- ---- the first turn's spawns
 
-abbrev SeededCalm : Seeded → Type 0
-SeededCalm s = Calm (s .at)
+abbrev SeededBetween : Seeded → Type 0
+SeededBetween s = BetweenSteps (s .at)
 
-pub seed-calm : (groups : Table) (count : ℕ) (keys actors : Table) (g : ℕ)
-    → Calm (seedOf groups count keys actors g .at)
+pub seed-between : (groups : Table) (count : ℕ) (keys actors : Table) (g : ℕ)
+    → BetweenSteps (seedOf groups count keys actors g .at)
 unfolding seedOf
-seed-calm groups count keys actors g =
-    pick-rule SeededCalm (leb count g) (λ e. omega arith)
-    (λ e. pick-rule SeededCalm (leb 8 g) (λ e. omega arith)
-    (λ e. pick-rule SeededCalm (eqb (groupAt groups g .ceiling) 0) (λ e. omega arith)
-    (λ e. pick-rule SeededCalm (groupAt groups g .eval) (λ e. omega arith) (λ e. omega arith))))
+seed-between groups count keys actors g =
+    pick-rule SeededBetween (leb count g) (λ e. omega arith)
+    (λ e. pick-rule SeededBetween (leb 8 g) (λ e. omega arith)
+    (λ e. pick-rule SeededBetween (eqb (groupAt groups g .ceiling) 0) (λ e. omega arith)
+    (λ e. pick-rule SeededBetween (groupAt groups g .eval) (λ e. omega arith) (λ e. omega arith))))
 
-booted-calm : (keys actors : Table) (g : ℕ) (b : Bool) → Calm (seedBooted keys actors g b .at)
+booted-between : (keys actors : Table) (g : ℕ) (b : Bool) → BetweenSteps (seedBooted keys actors g b .at)
 unfolding seedBooted
-booted-calm keys actors g true = omega arith
-booted-calm keys actors g false = omega arith
+booted-between keys actors g true = omega arith
+booted-between keys actors g false = omega arith
 
-seed-by-calm : (keys actors : Table) (g : ℕ) (y : YesIn) → Calm (seedBy keys actors g y .at)
-seed-by-calm keys actors g yes.Yes = booted-calm keys actors g true
-seed-by-calm keys actors g yes.No = booted-calm keys actors g false
-seed-by-calm keys actors g yes.Other = omega arith
+seed-by-between : (keys actors : Table) (g : ℕ) (y : YesIn) → BetweenSteps (seedBy keys actors g y .at)
+seed-by-between keys actors g yes.Yes = booted-between keys actors g true
+seed-by-between keys actors g yes.No = booted-between keys actors g false
+seed-by-between keys actors g yes.Other = omega arith
 
-pub seed-reply-calm : (keys actors : Table) (g : ℕ) (r : Reply) → Calm (seedReply keys actors g r .at)
+pub seed-reply-between : (keys actors : Table) (g : ℕ) (r : Reply) → BetweenSteps (seedReply keys actors g r .at)
 unfolding seedReply
-seed-reply-calm keys actors g r = seed-by-calm keys actors g (yesIn r)
+seed-reply-between keys actors g r = seed-by-between keys actors g (yesIn r)
 
 -- ---- the inbox is taken in
 
 -- what holds of the batch and of one message more holds of the intake
 pub intake-rule : (t : Table) (q backlog left : ℕ) (P : Linked → Type 0) → P (batchOf t)
-    → P (record { links = moveFirst t INBOX PENDING; at = at.Intake (left - 1) }) → P (intakeOf t q backlog left)
+    → P (record { links = moveFirst t INBOX PENDING; at = at.Runs (point.Intake (left - 1)) })
+    → P (intakeOf t q backlog left)
 unfolding intakeOf
 intake-rule t q backlog left P batch more =
     pick-rule P (eqb left 0) (λ e. batch)
@@ -72,9 +75,9 @@ batch-keeps : (t rows : Table) (q : ℕ) → Sound t rows q → Keeps t rows (ba
 unfolding batchOf
 batch-keeps t rows q sound = move-all-keeps t rows q sound PENDING BATCH desk-pending desk-batch
 
-batch-calm : (t : Table) → Calm (batchOf t .at)
+batch-between : (t : Table) → BetweenSteps (batchOf t .at)
 unfolding batchOf
-batch-calm t = omega arith
+batch-between t = omega arith
 
 pub intake-keeps : (t rows : Table) (q backlog left : ℕ) → Sound t rows q
     → Keeps t rows (intakeOf t q backlog left .links) rows q
@@ -82,8 +85,9 @@ intake-keeps t rows q backlog left sound =
     intake-rule t q backlog left (λ (s : Linked). Keeps t rows (s .links) rows q) (batch-keeps t rows q sound)
     (move-keeps t rows q sound INBOX PENDING desk-inbox desk-pending)
 
-pub intake-calm : (t : Table) (q backlog left : ℕ) → Calm (intakeOf t q backlog left .at)
-intake-calm t q backlog left = intake-rule t q backlog left (λ (s : Linked). Calm (s .at)) (batch-calm t) (omega arith)
+pub intake-between : (t : Table) (q backlog left : ℕ) → BetweenSteps (intakeOf t q backlog left .at)
+intake-between t q backlog left =
+    intake-rule t q backlog left (λ (s : Linked). BetweenSteps (s .at)) (batch-between t) (omega arith)
 
 -- ---- the batch is routed
 
@@ -96,7 +100,7 @@ pub record Routes (t rows : Table) (q left : ℕ) (P : Sent → Type 0) : Type 0
     keys = keys;
     actors = actors;
     routed =
-        to.routedTo (at.RouteBoot g left) q;
+        to.routedTo (at.Asks (asks.RouteBoot g left)) q;
   })
   pub done : (keys actors : Table) → P (to.clockNext t keys actors q)
 
@@ -170,8 +174,8 @@ module _ (t rows : Table) (q left : ℕ) (P : Sent → Type 0) (ways : Routes t 
 abbrev SentKeeps : Table → Table → Sent → Type 0
 SentKeeps t rows s = Keeps t rows (s .links) rows (s .routed .queued)
 
-abbrev SentCalm : Sent → Type 0
-SentCalm s = Calm (s .routed .at)
+abbrev SentBetween : Sent → Type 0
+SentBetween s = BetweenSteps (s .routed .at)
 
 ways-keep : (t rows : Table) (q left : ℕ) → Sound t rows q → Routes t rows q left (SentKeeps t rows)
 unfolding to.undeliverable to.deliver to.deliverTo
@@ -183,9 +187,9 @@ ways-keep t rows q left sound =
       done = λ keys actors. same-keeps t rows q sound;
     }
 
-ways-calm : (t rows : Table) (q left : ℕ) → Routes t rows q left SentCalm
+ways-between : (t rows : Table) (q left : ℕ) → Routes t rows q left SentBetween
 unfolding to.undeliverable to.deliver
-ways-calm t rows q left =
+ways-between t rows q left =
     record {
       over = λ keys actors. omega arith;
       sent = λ keys actors g k. omega arith;
@@ -201,10 +205,10 @@ pub route-keeps : (groups : Table) (count : ℕ) (store : List ℕ) (t rows keys
 route-keeps groups count store t rows keys actors q left sound = route-rule t rows q left (SentKeeps t rows)
     (ways-keep t rows q left sound) groups count store keys actors
 
-pub route-calm : (groups : Table) (count : ℕ) (store : List ℕ) (t rows keys actors : Table) (q left : ℕ)
-    → Calm (routeOf groups count store t rows keys actors q left .routed .at)
-route-calm groups count store t rows keys actors q left =
-    route-rule t rows q left SentCalm (ways-calm t rows q left) groups count store keys actors
+pub route-between : (groups : Table) (count : ℕ) (store : List ℕ) (t rows keys actors : Table) (q left : ℕ)
+    → BetweenSteps (routeOf groups count store t rows keys actors q left .routed .at)
+route-between groups count store t rows keys actors q left =
+    route-rule t rows q left SentBetween (ways-between t rows q left) groups count store keys actors
 
 pub route-reply-keeps : (t rows keys actors : Table) (g q left : ℕ) (r : Reply) → Sound t rows q
     → Keeps t rows (routeReply t rows keys actors g q left r .links) rows (routeReply t rows keys actors g q left r
@@ -212,7 +216,7 @@ pub route-reply-keeps : (t rows keys actors : Table) (g q left : ℕ) (r : Reply
 route-reply-keeps t rows keys actors g q left r sound = reply-rule t rows q left (SentKeeps t rows)
     (ways-keep t rows q left sound) keys actors g r
 
-pub route-reply-calm : (t rows keys actors : Table) (g q left : ℕ) (r : Reply)
-    → Calm (routeReply t rows keys actors g q left r .routed .at)
-route-reply-calm t rows keys actors g q left r = reply-rule t rows q left SentCalm (ways-calm t rows q left) keys
-    actors g r
+pub route-reply-between : (t rows keys actors : Table) (g q left : ℕ) (r : Reply)
+    → BetweenSteps (routeReply t rows keys actors g q left r .routed .at)
+route-reply-between t rows keys actors g q left r =
+    reply-rule t rows q left SentBetween (ways-between t rows q left) keys actors g r

@@ -38,6 +38,8 @@ use Rattle.steps.specs.StepFixed.{fixedStart}
 use Rattle.steps.specs.StepEval.{evalStart}
 use Rattle.group.specs.declared.at.At.{At}
 use Rattle.group.specs.declared.at.At.the-variants as at
+use Rattle.group.specs.declared.at.Ask.{Ask}
+use Rattle.group.specs.declared.at.Ask.the-variants as asks
 use Rattle.group.specs.declared.at.Cursor.{Cursor}
 use Rattle.group.specs.At.{readyAfter, evalAfter}
 use Rattle.group.specs.Settings.{groupAt}
@@ -56,75 +58,69 @@ use Rattle.places.specs.Places.{Sound, Keeps, Desk}
 use Rattle.places.proofs.Moves.{desk-pending, desk-hand, desk-held, then-keeps, same-keeps, move-keeps, over-keeps}
 use Rattle.places.proofs.Moves.{empty-mailbox, over-mailbox, row-keeps}
 use Rattle.places.proofs.Steps.{pick-rule, eval-start-keeps}
-use Rattle.keeping.specs.Keeping.{Calm, AtOk}
+use Rattle.keeping.specs.Keeping.{AskBetween, BetweenSteps, AskOk, AtOk}
 
--- a point that is no step of an actor asks nothing of the places
-pub calm-ok : (a : At) (t : Table) → Calm a → AtOk a t
-calm-ok at.Rest t calm = calm
-calm-ok (at.Seed g) t calm = calm
-calm-ok (at.SeedBoot g) t calm = calm
-calm-ok (at.Intake left) t calm = calm
-calm-ok (at.Route left) t calm = calm
-calm-ok (at.RouteBoot g left) t calm = calm
-calm-ok at.TickClock t calm = calm
-calm-ok (at.Wake g clock) t calm = calm
-calm-ok (at.WakeNext g clock left) t calm = calm
-calm-ok (at.WakePoll g k clock left) t calm = calm
-calm-ok (at.Ready g clock pops) t calm = calm
-calm-ok (at.Fixed c a) t calm = absurd calm
-calm-ok (at.Eval c a) t calm = absurd calm
-calm-ok (at.StepEnd c e) t calm = absurd calm
-calm-ok (at.Sends c s) t calm = absurd calm
-calm-ok (at.Settle c s) t calm = absurd calm
-calm-ok (at.Crash c) t calm = absurd calm
-calm-ok (at.AskTrap c) t calm = calm
-calm-ok (at.Trap c) t calm = calm
-calm-ok (at.Trapped c k) t calm = calm
-calm-ok (at.Doomed c left) t calm = calm
+-- between the steps of actors nothing is asked of the places
+ask-between-ok : (a : Ask) (t : Table) → AskBetween a → AskOk a t
+ask-between-ok (asks.SeedBoot g) t between = between
+ask-between-ok (asks.RouteBoot g left) t between = between
+ask-between-ok asks.TickClock t between = between
+ask-between-ok (asks.WakePoll g k clock left) t between = between
+ask-between-ok (asks.Fixed c a) t between = absurd between
+ask-between-ok (asks.Eval c a) t between = absurd between
+ask-between-ok (asks.Sends c s) t between = absurd between
+ask-between-ok (asks.Trap c) t between = between
+ask-between-ok (asks.Trapped c k) t between = between
+
+pub between-ok : (a : At) (t : Table) → BetweenSteps a → AtOk a t
+between-ok at.Rest t between = between
+between-ok (at.Asks a) t between = ask-between-ok a t between
+between-ok (at.Runs p) t between = omega arith
 
 -- ---- waking
 
-abbrev ListedCalm : Listed → Type 0
-ListedCalm s = Calm (s .at)
+abbrev ListedBetween : Listed → Type 0
+ListedBetween s = BetweenSteps (s .at)
 
-abbrev WakedCalm : Waked → Type 0
-WakedCalm s = Calm (s .at)
+abbrev WakedBetween : Waked → Type 0
+WakedBetween s = BetweenSteps (s .at)
 
-pub wake-calm : (keys : Table) (n g clock : ℕ) → Calm (wakeOf keys n g clock .at)
+pub wake-between : (keys : Table) (n g clock : ℕ) → BetweenSteps (wakeOf keys n g clock .at)
 unfolding wakeOf
-wake-calm keys n g clock =
-    pick-rule ListedCalm (leb n g) (λ e. omega arith) (λ e. pick-rule ListedCalm (leb 8 g) (λ e. omega arith)
+wake-between keys n g clock =
+    pick-rule ListedBetween (leb n g) (λ e. omega arith) (λ e. pick-rule ListedBetween (leb 8 g) (λ e. omega arith)
     (λ e. omega arith))
 
-one-calm : (keys actors : Table) (g k clock left : ℕ) → Calm (waking.wakeOne keys actors g k clock left .at)
+one-between : (keys actors : Table) (g k clock left : ℕ) → BetweenSteps (waking.wakeOne keys actors g k clock left .at)
 unfolding waking.wakeOne
-one-calm keys actors g k clock left =
-    pick-rule WakedCalm (liveOf keys g k)
-    (λ e. pick-rule WakedCalm (waking.lateAt (actorAt actors (slotAt g k) .«wake_at») clock) (λ e. omega arith)
-    (λ e. pick-rule WakedCalm (waking.pollsOf (actorAt actors (slotAt g k))) (λ e. omega arith) (λ e. omega arith)))
+one-between keys actors g k clock left =
+    pick-rule WakedBetween (liveOf keys g k)
+    (λ e. pick-rule WakedBetween (waking.lateAt (actorAt actors (slotAt g k) .«wake_at») clock) (λ e. omega arith)
+    (λ e. pick-rule WakedBetween (waking.pollsOf (actorAt actors (slotAt g k))) (λ e. omega arith) (λ e. omega arith)))
     (λ e. omega arith)
 
-first-calm : (keys actors : Table) (g clock left : ℕ) (k : Key)
-    → Calm (waking.wakeFirst keys actors g clock left k .at)
-first-calm keys actors g clock left (key.At k) = one-calm (set keys REST (popFront (keysAt keys REST))) actors g k
-    clock (left - 1)
-first-calm keys actors g clock left key.Nothing = omega arith
+first-between : (keys actors : Table) (g clock left : ℕ) (k : Key)
+    → BetweenSteps (waking.wakeFirst keys actors g clock left k .at)
+first-between keys actors g clock left (key.At k) =
+    one-between (set keys REST (popFront (keysAt keys REST))) actors g k clock (left - 1)
+first-between keys actors g clock left key.Nothing = omega arith
 
-pub wake-next-calm : (keys actors : Table) (g clock left : ℕ) → Calm (wakeNext keys actors g clock left .at)
+pub wake-next-between : (keys actors : Table) (g clock left : ℕ) → BetweenSteps (wakeNext keys actors g clock left .at)
 unfolding wakeNext
-wake-next-calm keys actors g clock left =
-    pick-rule WakedCalm (eqb left 0) (λ e. omega arith) (λ e. first-calm keys actors g clock left
+wake-next-between keys actors g clock left =
+    pick-rule WakedBetween (eqb left 0) (λ e. omega arith) (λ e. first-between keys actors g clock left
     (frontOf (keysAt keys REST)))
 
-poll-calm : (keys actors : Table) (g k clock left : ℕ) (n : CountIn)
-    → Calm (waking.pollBy keys actors g k clock left n .at)
-poll-calm keys actors g k clock left (count.Of n) = pick-rule WakedCalm (ltb 0 n) (λ e. omega arith) (λ e. omega arith)
-poll-calm keys actors g k clock left count.Other = omega arith
+poll-between : (keys actors : Table) (g k clock left : ℕ) (n : CountIn)
+    → BetweenSteps (waking.pollBy keys actors g k clock left n .at)
+poll-between keys actors g k clock left (count.Of n) =
+    pick-rule WakedBetween (ltb 0 n) (λ e. omega arith) (λ e. omega arith)
+poll-between keys actors g k clock left count.Other = omega arith
 
-pub poll-reply-calm : (keys actors : Table) (g k clock left : ℕ) (r : Reply)
-    → Calm (pollReply keys actors g k clock left r .at)
+pub poll-reply-between : (keys actors : Table) (g k clock left : ℕ) (r : Reply)
+    → BetweenSteps (pollReply keys actors g k clock left r .at)
 unfolding pollReply
-poll-reply-calm keys actors g k clock left r = poll-calm keys actors g k clock left (countIn r)
+poll-reply-between keys actors g k clock left r = poll-between keys actors g k clock left (countIn r)
 
 -- ---- a step begins
 
@@ -140,7 +136,7 @@ live-slot keys g k live = ltb-true (slotAt g k) 128 (test-first (ltb (slotAt g k
 
 -- what holds where no step begins, and of a step that begins, holds of the ready list
 module _ (t : Table) (q : ℕ) (P : Table → Begun → Type 0)
-    (none : (a : At) (stepped : Bool) → Calm a → P t (readying.begunAt a q stepped))
+    (none : (a : At) (stepped : Bool) → BetweenSteps a → P t (readying.begunAt a q stepped))
     (begins : (actors : Table) (c : Cursor) → slotOn c < 128 → P (readying.beginStep t actors c (slotOn c) q .links)
     (readying.beginStep t actors c (slotOn c) q .begun)) where
   abbrev Holds : Stepping → Type 0
@@ -188,15 +184,15 @@ pub ready-keeps : (t rows keys actors : Table) (q : ℕ) (b : Bool) (g clock pop
     → Keeps t rows (readyOf t keys actors q b g clock pops .links) rows (readyOf t keys actors q b g clock pops .begun
     .queued)
 ready-keeps t rows keys actors q b g clock pops sound =
-    ready-rule t q (λ (r : Table) (s : Begun). Keeps t rows r rows (s .queued)) (λ a stepped calm. same-keeps t rows q
-    sound)
+    ready-rule t q (λ (r : Table) (s : Begun). Keeps t rows r rows (s .queued))
+    (λ a stepped between. same-keeps t rows q sound)
     (λ l c slot-is. begin-keeps t rows l c (slotOn c) q sound slot-is) keys actors b g clock pops
 
 module _ (t : Table) (c : Cursor) (slot-is : slotOn c < 128) where
   -- a step of a fixed actor begins at Run
   fixed-ok : (actors : Table) (slot : ℕ) → AtOk (readying.beginFixed actors c slot .at) t
   unfolding readying.beginFixed fixedStart
-  fixed-ok actors slot = pick-rule (λ (a : FixedAsk). AtOk (at.Fixed c a) t) (actorAt actors slot .started)
+  fixed-ok actors slot = pick-rule (λ (a : FixedAsk). AskOk (asks.Fixed c a) t) (actorAt actors slot .started)
       (λ e. (slot-is, omega arith)) (λ e. (slot-is, omega arith))
 
   pub eval-ok : (n : EvalNext) → AtOk (evalAfter c n) t
@@ -219,7 +215,7 @@ begin-ok t actors c slot q slot-is = begin-by-ok t (putActor actors slot (beganS
 pub ready-ok : (t keys actors : Table) (q : ℕ) (b : Bool) (g clock pops : ℕ)
     → AtOk (readyOf t keys actors q b g clock pops .begun .at) (readyOf t keys actors q b g clock pops .links)
 ready-ok t keys actors q b g clock pops =
-    ready-rule t q (λ (r : Table) (s : Begun). AtOk (s .at) r) (λ a stepped calm. calm-ok a t calm)
+    ready-rule t q (λ (r : Table) (s : Begun). AtOk (s .at) r) (λ a stepped between. between-ok a t between)
     (λ l c slot-is. begin-ok t l c (slotOn c) q slot-is)
     keys actors b g clock pops
 
@@ -305,31 +301,32 @@ crash-keeps groups t rows c l q sound = first-keeps groups t rows (c .group) q s
 
 -- ---- Trap, and Trapped of each actor
 
-trapped-at-calm : (c : Cursor) (k : Key) → Calm (crashing.trappedAt c k)
-trapped-at-calm c (key.At k) = omega arith
-trapped-at-calm c key.Nothing = omega arith
+trapped-at-between : (c : Cursor) (k : Key) → BetweenSteps (crashing.trappedAt c k)
+trapped-at-between c (key.At k) = omega arith
+trapped-at-between c key.Nothing = omega arith
 
-trapped-next-calm : (keys : Table) (c : Cursor) (from : ℕ) → Calm (crashing.trappedNext keys c from)
+trapped-next-between : (keys : Table) (c : Cursor) (from : ℕ) → BetweenSteps (crashing.trappedNext keys c from)
 unfolding crashing.trappedNext
-trapped-next-calm keys c from = trapped-at-calm c (nextKey (keysAt keys (slabRow (c .group))) (16 - from) from)
+trapped-next-between keys c from = trapped-at-between c (nextKey (keysAt keys (slabRow (c .group))) (16 - from) from)
 
-trap-calm : (keys : Table) (c : Cursor) (y : YesIn) → Calm (crashing.trapBy keys c y .at)
-trap-calm keys c yes.Yes = trapped-next-calm (set keys DOOMED blankRow) c 0
-trap-calm keys c yes.No = omega arith
-trap-calm keys c yes.Other = omega arith
+trap-between : (keys : Table) (c : Cursor) (y : YesIn) → BetweenSteps (crashing.trapBy keys c y .at)
+trap-between keys c yes.Yes = trapped-next-between (set keys DOOMED blankRow) c 0
+trap-between keys c yes.No = omega arith
+trap-between keys c yes.Other = omega arith
 
-pub trap-reply-calm : (keys : Table) (c : Cursor) (r : Reply) → Calm (trapReply keys c r .at)
+pub trap-reply-between : (keys : Table) (c : Cursor) (r : Reply) → BetweenSteps (trapReply keys c r .at)
 unfolding trapReply
-trap-reply-calm keys c r = trap-calm keys c (yesIn r)
+trap-reply-between keys c r = trap-between keys c (yesIn r)
 
-trapped-calm : (keys : Table) (c : Cursor) (k : ℕ) (y : YesIn) → Calm (crashing.trappedBy keys c k y .at)
-trapped-calm keys c k yes.Yes = trapped-next-calm (pushKey keys DOOMED k) c (crashing.nextAsked k)
-trapped-calm keys c k yes.No = trapped-next-calm keys c (crashing.nextAsked k)
-trapped-calm keys c k yes.Other = omega arith
+trapped-between : (keys : Table) (c : Cursor) (k : ℕ) (y : YesIn) → BetweenSteps (crashing.trappedBy keys c k y .at)
+trapped-between keys c k yes.Yes = trapped-next-between (pushKey keys DOOMED k) c (crashing.nextAsked k)
+trapped-between keys c k yes.No = trapped-next-between keys c (crashing.nextAsked k)
+trapped-between keys c k yes.Other = omega arith
 
-pub trapped-reply-calm : (keys : Table) (c : Cursor) (k : ℕ) (r : Reply) → Calm (trappedReply keys c k r .at)
+pub trapped-reply-between : (keys : Table) (c : Cursor) (k : ℕ) (r : Reply)
+    → BetweenSteps (trappedReply keys c k r .at)
 unfolding trappedReply
-trapped-reply-calm keys c k r = trapped-calm keys c k (yesIn r)
+trapped-reply-between keys c k r = trapped-between keys c k (yesIn r)
 
 -- ---- those that were trapped are retired
 
@@ -359,12 +356,12 @@ module _ (groups t rows keys : Table) (c : Cursor) (left q : ℕ) (l : Losses) w
       pick-rule (CrashingKeeps t rows) (eqb left 0) (λ e. same-keeps t rows q sound) (λ e. doomed-front-keeps sound
       (frontOf (keysAt keys DOOMED)))
 
-  doomed-front-calm : (k : Key) → Calm (crashing.doomedFront groups t rows keys c left q l k .crashed .at)
+  doomed-front-between : (k : Key) → BetweenSteps (crashing.doomedFront groups t rows keys c left q l k .crashed .at)
   unfolding crashing.doomedKey
-  doomed-front-calm (key.At k) = omega arith
-  doomed-front-calm key.Nothing = omega arith
+  doomed-front-between (key.At k) = omega arith
+  doomed-front-between key.Nothing = omega arith
 
-  pub doomed-calm : Calm (doomedOf groups t rows keys c left q l .crashed .at)
+  pub doomed-between : BetweenSteps (doomedOf groups t rows keys c left q l .crashed .at)
   unfolding doomedOf
-  doomed-calm = pick-rule (λ (s : Crashing). Calm (s .crashed .at)) (eqb left 0) (λ e. omega arith)
-      (λ e. doomed-front-calm (frontOf (keysAt keys DOOMED)))
+  doomed-between = pick-rule (λ (s : Crashing). BetweenSteps (s .crashed .at)) (eqb left 0) (λ e. omega arith)
+      (λ e. doomed-front-between (frontOf (keysAt keys DOOMED)))

@@ -20,6 +20,10 @@ use Rattle.steps.specs.declared.eval.EvalAsk.{EvalAsk}
 use Rattle.steps.specs.declared.eval.EvalAsk.the-variants as eval
 use Rattle.group.specs.declared.at.At.{At}
 use Rattle.group.specs.declared.at.At.the-variants as at
+use Rattle.group.specs.declared.at.Ask.{Ask}
+use Rattle.group.specs.declared.at.Ask.the-variants as asks
+use Rattle.group.specs.declared.at.Point.{Point}
+use Rattle.group.specs.declared.at.Point.the-variants as point
 use Rattle.group.specs.declared.at.Cursor.{Cursor}
 use Rattle.group.specs.Roster.{slotAt, liveOf}
 
@@ -82,25 +86,33 @@ Lively keys c = liveOf keys (c .group) (c .key) ≡ true
 abbrev pub IsFixed : Table → Cursor → Type 0
 IsFixed actors c = actorAt actors (slotAt (c .group) (c .key)) .mode ≡ mode.Fixed
 
+-- at a point that runs: a step that ended says what its actor holds, and a message that crashed is in the step's hand
+abbrev pub PointLives : Point → Table → Type 0
+PointLives (point.Seed g) t = stepHand t ≤ 0
+PointLives (point.Intake left) t = stepHand t ≤ 0
+PointLives (point.Route left) t = stepHand t ≤ 0
+PointLives (point.Wake g clock) t = stepHand t ≤ 0
+PointLives (point.WakeNext g clock left) t = stepHand t ≤ 0
+PointLives (point.Ready g clock pops) t = stepHand t ≤ 0
+PointLives (point.StepEnd c e) t = EndHands c e t
+PointLives (point.Settle c s) t = StepHands c s t
+PointLives (point.Crash c) t = stepHand t ≤ 1
+PointLives (point.AskTrap c) t = stepHand t ≤ 0
+PointLives (point.Doomed c left) t = stepHand t ≤ 0
+
+-- at a question: a step under way is of an actor that lives
+abbrev pub AskLives : Ask → Table → Table → Table → Type 0
+AskLives (asks.SeedBoot g) t keys actors = stepHand t ≤ 0
+AskLives (asks.RouteBoot g left) t keys actors = stepHand t ≤ 0
+AskLives asks.TickClock t keys actors = stepHand t ≤ 0
+AskLives (asks.WakePoll g k clock left) t keys actors = stepHand t ≤ 0
+AskLives (asks.Fixed c a) t keys actors = (Lively keys c × IsFixed actors c) × FixedHands c a t
+AskLives (asks.Eval c a) t keys actors = Lively keys c × EvalHands c a t
+AskLives (asks.Sends c s) t keys actors = StepHands c s t
+AskLives (asks.Trap c) t keys actors = stepHand t ≤ 0
+AskLives (asks.Trapped c k) t keys actors = stepHand t ≤ 0
+
 abbrev pub AtLives : At → Table → Table → Table → Type 0
 AtLives at.Rest t keys actors = stepHand t ≤ 0
-AtLives (at.Seed g) t keys actors = stepHand t ≤ 0
-AtLives (at.SeedBoot g) t keys actors = stepHand t ≤ 0
-AtLives (at.Intake left) t keys actors = stepHand t ≤ 0
-AtLives (at.Route left) t keys actors = stepHand t ≤ 0
-AtLives (at.RouteBoot g left) t keys actors = stepHand t ≤ 0
-AtLives at.TickClock t keys actors = stepHand t ≤ 0
-AtLives (at.Wake g clock) t keys actors = stepHand t ≤ 0
-AtLives (at.WakeNext g clock left) t keys actors = stepHand t ≤ 0
-AtLives (at.WakePoll g k clock left) t keys actors = stepHand t ≤ 0
-AtLives (at.Ready g clock pops) t keys actors = stepHand t ≤ 0
-AtLives (at.Fixed c a) t keys actors = (Lively keys c × IsFixed actors c) × FixedHands c a t
-AtLives (at.Eval c a) t keys actors = Lively keys c × EvalHands c a t
-AtLives (at.StepEnd c e) t keys actors = EndHands c e t
-AtLives (at.Sends c s) t keys actors = StepHands c s t
-AtLives (at.Settle c s) t keys actors = StepHands c s t
-AtLives (at.Crash c) t keys actors = stepHand t ≤ 1
-AtLives (at.AskTrap c) t keys actors = stepHand t ≤ 0
-AtLives (at.Trap c) t keys actors = stepHand t ≤ 0
-AtLives (at.Trapped c k) t keys actors = stepHand t ≤ 0
-AtLives (at.Doomed c left) t keys actors = stepHand t ≤ 0
+AtLives (at.Asks a) t keys actors = AskLives a t keys actors
+AtLives (at.Runs p) t keys actors = PointLives p t

@@ -1,26 +1,22 @@
 -- What each part of a turn, and each message that comes, does to the mailboxes (crates/mailboxes/specs): nothing, or
 -- one of the operations on one of them. After an opening nothing else changes a mailbox, or the order in it.
 use mathlib.Core.Path.{_≡_}
-use mathlib.Core.List.{List}
 use Prim.Native.Nat.{ℕ, _<_}
-use Rattle.log.specs.declared.Counters.{Counters}
 use Rattle.lists.specs.Links.{Table}
 use Rattle.lists.specs.Family.{Good}
-use Rattle.actor.specs.declared.message.Caller.{Caller}
-use Rattle.actor.specs.declared.message.Logged.{Logged}
 use Rattle.actor.specs.declared.question.Reply.{Reply}
-use Rattle.setup.specs.Entry.{keepOf}
+use Rattle.setup.specs.Entry.{Messages, Arrival, keepOf}
 use Rattle.steps.specs.Steps.{HAND}
-use Rattle.group.specs.declared.at.At.{At}
+use Rattle.group.specs.declared.at.Ask.{Ask}
+use Rattle.group.specs.declared.at.Point.{Point}
 use Rattle.routing.specs.Intake.{PENDING, BATCH}
-use Rattle.turn.specs.declared.state.Counts.{Counts}
-use Rattle.turn.specs.declared.state.Limits.{Limits}
+use Rattle.turn.specs.State.{State}
 use Rattle.turn.specs.Go.{goOf}
 use Rattle.turn.specs.Step.{markFirst}
 use Rattle.turn.specs.Resume.{resumeOf}
 use Rattle.mailboxes.specs.Mailboxes.{mailbox, putAtEnd, putAtFront, takeFirst, emptyOut, Operated, Unread}
 use Rattle.mailboxes.specs.Operations.{Retired}
-use Rattle.keeping.specs.Keeping.{AtOk}
+use Rattle.keeping.specs.Keeping.{AskOk}
 
 -- no mailbox changed
 abbrev pub MailSame : Table → Table → Type 0
@@ -39,23 +35,19 @@ pub data MailStep (groups rows t r : Table) : Type 0 where
 -- every point of a turn does one of these
 abbrev pub EveryPoint : Type 0
 EveryPoint =
-    (a : At) (n : Counts) (limits : Limits) (store : List ℕ) (groups t rows keys actors : Table) → Good t
-    → MailStep groups rows t (goOf a n limits store groups t rows keys actors .links)
+    (s : State) (p : Point) → Good (s .links) → MailStep (s .groups) (s .rows) (s .links) (goOf s p .links)
 
 -- so does every reply to a question
 abbrev pub EveryReply : Type 0
 EveryReply =
-    (a : At) (n : Counts) (limits : Limits) (groups t rows keys actors : Table) (r : Reply) → Good t → AtOk a t
-    → MailStep groups rows t (resumeOf a n limits groups t rows keys actors r .links)
+    (s : State) (a : Ask) (r : Reply) → Good (s .links) → AskOk a (s .links)
+    → MailStep (s .groups) (s .rows) (s .links) (resumeOf s a r .links)
 
 -- a mark changes none
 abbrev pub EveryMark : Type 0
-EveryMark =
-    (bytes : List ℕ) (records t rows : Table) (n : Counters) (limit : ℕ) → Good t
-    → MailSame t (markFirst bytes records t rows n limit .links)
+EveryMark = (s : State) → Good (s .links) → MailSame (s .links) (markFirst s .links)
 
 -- a message that is admitted or sent, and so kept in the inbox or in pending, changes none
 abbrev pub EveryArrival : Type 0
 EveryArrival =
-    (store : List ℕ) (t rows : Table) (name body : List ℕ) (caller : Caller) (id : Logged) (to : ℕ) → Good t → to < 6
-    → MailSame t (keepOf store t rows name body caller id to .links)
+    (m : Messages) (a : Arrival) (to : ℕ) → Good (m .links) → to < 6 → MailSame (m .links) (keepOf m a to .links)

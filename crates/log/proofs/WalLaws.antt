@@ -17,7 +17,7 @@ use Rattle.log.specs.declared.Answer.the-variants.{Ordered}
 use Rattle.log.specs.declared.Due.the-variants as due
 use Rattle.log.specs.declared.SteppedDue.{SteppedDue}
 use Rattle.log.specs.declared.table.Found.the-variants.{At, Missing}
-use Rattle.log.specs.Log.{row, Wal, state, openRows, Did, DidMark, turnedAway, extended, squeezed, settled}
+use Rattle.log.specs.Log.{row, Wal, state, openRows, DidAppend, DidMark, turnedAway, extended, squeezed, settled}
 use Rattle.log.specs.Log.{compacted, withRecord, logged, newMessage, appendRefusal, appended, appendOf, findRow}
 use Rattle.log.specs.Log.{withoutRow, keeps, markedDone, markOf, syncOf}
 use Rattle.log.specs.Table.{foundOf}
@@ -79,14 +79,14 @@ logged-is log log' rows rows' c m len e p q = rw (p, q, e) refl
 
 module _ (w after : Wal) (m : Message) (len : ℕ) (e : len ≡ length (recordLine m)) where
   pub appended-behind : leb (w .counters .size + len) (length (w .bytes)) ≡ true → after ≡ logged w m
-      → _≡_ {A = Did} (record { wal = after; answer = Ordered (Append (w .counters .size) (w .counters .size + len)) })
+      → _≡_ {A = DidAppend} (record { wal = after; answer = Ordered (Append (w .counters .size) (w .counters .size + len)) })
       (appended w m)
   unfolding appended
   appended-behind t a = let yes : leb (w .counters .size + length (recordLine m)) (length (w .bytes))
       ≡ true = rw e at t in cc
 
   pub appended-anew : leb (w .counters .size + len) (length (w .bytes)) ≡ false → after ≡ logged (compacted w) m
-      → _≡_ {A = Did} (record { wal = after; answer = Ordered (Replace (w .counters .live + len)) }) (appended w m)
+      → _≡_ {A = DidAppend} (record { wal = after; answer = Ordered (Replace (w .counters .live + len)) }) (appended w m)
   unfolding appended
   appended-anew t a = let no : leb (w .counters .size + length (recordLine m)) (length (w .bytes)) ≡ false =
       rw e at t in cc

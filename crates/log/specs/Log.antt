@@ -57,7 +57,7 @@ abbrev pub openRows : Wal → List (List ℕ)
 openRows w = take (w .counters .count) (w .table)
 
 -- the log after an append, and the answer
-pub record Did : Type 0 where
+pub record DidAppend : Type 0 where
   pub wal : Wal
   pub answer : Answer
 
@@ -66,7 +66,7 @@ pub record DidMark : Type 0 where
   pub wal : Wal
   pub due : Due
 
-abbrev pub turnedAway : Wal → Refusal → Did
+abbrev pub turnedAway : Wal → Refusal → DidAppend
 turnedAway w r = record { wal = w; answer = Refused r }
 
 -- a text written from the log's first free byte on
@@ -161,7 +161,7 @@ appendRefusal w m = elim (fits m) [
 
 -- the record behind the others; where it has no room there, done records are dropped first, and all goes out as one
 -- replace
-unfoldable pub appended : Wal → Message → Did
+unfoldable pub appended : Wal → Message → DidAppend
 appended w m = elim (leb (w .counters .size + length (recordLine m)) (length (w .bytes))) [
   | true ↦ record {
     wal = logged w m;
@@ -173,12 +173,12 @@ appended w m = elim (leb (w .counters .size + length (recordLine m)) (length (w 
   }
 ]
 
-abbrev pub appendJudged : Wal → Message → Option Refusal → Did
+abbrev pub appendJudged : Wal → Message → Option Refusal → DidAppend
 appendJudged w m none = appended w m
 appendJudged w m (some r) = turnedAway w r
 
 -- Append: a message is logged under the next id, or turned away
-unfoldable pub appendOf : Wal → List ℕ → List ℕ → Did
+unfoldable pub appendOf : Wal → List ℕ → List ℕ → DidAppend
 appendOf w name body = appendJudged w (newMessage w name body) (appendRefusal w (newMessage w name body))
 
 -- a message that is not turned away, whose record is `len` bytes long

@@ -16,7 +16,7 @@ use Rattle.log.specs.declared.Due.{Due}
 use Rattle.log.specs.declared.Due.the-variants as due
 use Rattle.log.specs.declared.SteppedDue.{SteppedDue}
 use Rattle.log.specs.Opening.{Read, remove}
-use Rattle.log.specs.Log.{Wal, Did, DidMark, newMessage, appendOf, markOf, syncOf}
+use Rattle.log.specs.Log.{Wal, DidAppend, DidMark, newMessage, appendOf, markOf, syncOf}
 use Rattle.log.specs.Opened.{Opened, openedBy, openOf}
 
 -- the calls: log a message, mark an id done, sync
@@ -39,7 +39,7 @@ pub record Called : Type 0 where
   pub wal : Wal
   pub order : Option Order
 
-abbrev pub byAppend : Did → Called
+abbrev pub byAppend : DidAppend → Called
 byAppend d = record { wal = d .wal; order = ordered (d .answer) }
 
 abbrev pub byMark : DidMark → Called

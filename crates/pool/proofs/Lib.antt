@@ -1,3 +1,4 @@
 -- Laws of the pool.
 pub mod Loops
 pub mod SyncLaws
+pub mod ReplyLaws

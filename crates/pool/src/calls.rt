@@ -1,29 +1,29 @@
-// The calls turn, reply, sync and close.
+// The calls turn, reply, sync and close: each is refused by its table, or has its effect.
 ghost use mathlib.Core.Path.{_≡_};
-ghost use Rattle.pool.specs.Calls.{firstPoint, begunOf, turnFree, turnOf, storedIn, storedOf, failedOf};
-ghost use Rattle.pool.specs.Calls.{orderReply, isMessage, sentCheck, sentOf};
-ghost use Rattle.pool.specs.Calls.{resumedOf, fitReply, openReply, turnReply, replyOf, syncDid, syncFree};
-ghost use Rattle.pool.specs.Calls.{syncOf, closedPool, closeOf};
+ghost use mathlib.Core.List.{List};
+ghost use Prim.Native.Nat.{ℕ};
+ghost use Rattle.lists.specs.Links.{Table};
+ghost use Rattle.pool.specs.Calls.{firstPoint, begunOf, turnOf, storedIn, storedOf, failedOf, sentOf, resumeAt};
+ghost use Rattle.pool.specs.Calls.{resumedOf, replyOf, syncShown, syncDid, syncOf};
+ghost use Rattle.pool.specs.Calls.{closedPool, closeOf};
 use crate::run;
 use actor::message::Caller;
 use actor::message::Logged;
-use actor::question;
-use actor::question::Asked;
-use actor::question::Question;
 use actor::question::Reply;
-use front::state;
-use front::state::Check;
-use front::state::Pool;
-use front::state::Refusal;
-use front::state::Told;
+use front::answer;
+use front::answer::Called;
+use front::refusals;
+use front::refusals::Check;
 use group::at::At;
+use group::at::Point;
 use log::Counters;
 use log::wal;
 use setup::entry;
-use turn::asks;
 use turn::resume;
+use turn::state;
 use turn::state::Counts;
 use turn::state::Disk;
+use turn::state::Pool;
 use turn::state::Turn;
 use turn::state::What;
 
@@ -38,7 +38,11 @@ pub enum StoredIn {
 fn first_point(seeded: bool) -> At
     ensures { λ r. ⌜ r ≡ firstPoint seeded ⌝ }
 {
-    if seeded { At::Intake(256) } else { At::Seed(0) }
+    if seeded {
+        At::Runs(Point::Intake(256))
+    } else {
+        At::Runs(Point::Seed(0))
+    }
 }
 
 // The pool as a turn begins.
@@ -72,42 +76,6 @@ fn begun(pool: Pool) -> Pool
     }
 }
 
-fn turn_free(
-    pool: Pool,
-    log: &mut [u8],
-    records: &mut [[u64; 3]],
-    store: &[u8],
-    groups: &[[u64; 37]],
-    links: &mut [[u64; 4]],
-    rows: &mut [[u64; 7]],
-    lists: &mut [[u8; 65]],
-    actors: &mut [[u64; 12]],
-) -> Told
-    ensures { λ r. ⌜
-        record {
-          bytes = now (log .exit);
-          records = now (records .exit);
-          links = now (links .exit);
-          rows = now (rows .exit);
-          keys = now (lists .exit);
-          actors = now (actors .exit);
-          told = r;
-        }
-        ≡ turnFree
-        pool (now (log .entry)) (now (records .entry)) (now (store .entry)) (now (groups .entry))
-        (now (links .entry)) (now (rows .entry)) (now (lists .entry)) (now (actors .entry))
-        ⌝ }
-{
-    let turn = pool.turn;
-    let at = turn.at;
-    let rests = state::at_rest(at);
-    if rests {
-        let p = begun(pool);
-        return run::run(p, log, records, store, groups, links, rows, lists, actors);
-    }
-    state::refused(pool, Refusal::InTurn)
-}
-
 // A turn: it runs until a question or an order is open, or it ended.
 pub fn turn(
     pool: Pool,
@@ -119,38 +87,43 @@ pub fn turn(
     rows: &mut [[u64; 7]],
     lists: &mut [[u8; 65]],
     actors: &mut [[u64; 12]],
-) -> Told
+) -> Called
     ensures { λ r. ⌜
         record {
-          bytes = now (log .exit);
-          records = now (records .exit);
-          links = now (links .exit);
-          rows = now (rows .exit);
-          keys = now (lists .exit);
-          actors = now (actors .exit);
-          told = r;
+          state = record {
+            pool = r .pool;
+            bytes = now (log .exit);
+            records = now (records .exit);
+            store = now (store .entry);
+            groups = now (groups .entry);
+            links = now (links .exit);
+            rows = now (rows .exit);
+            keys = now (lists .exit);
+            actors = now (actors .exit);
+          };
+          answer = r .answer;
         }
         ≡ turnOf
-        pool (now (log .entry)) (now (records .entry)) (now (store .entry)) (now (groups .entry))
-        (now (links .entry)) (now (rows .entry)) (now (lists .entry)) (now (actors .entry))
+        (record {
+          pool = pool;
+          bytes = now (log .entry);
+          records = now (records .entry);
+          store = now (store .entry);
+          groups = now (groups .entry);
+          links = now (links .entry);
+          rows = now (rows .entry);
+          keys = now (lists .entry);
+          actors = now (actors .entry);
+        })
         ⌝ }
 {
-    let turn = pool.turn;
-    let disk = turn.disk;
-    match disk {
-        Disk::Free => turn_free(
-            pool,
-            log,
-            records,
-            store,
-            groups,
-            links,
-            rows,
-            lists,
-            actors,
-        ),
-        Disk::Waits(_, _) => state::refused(pool, Refusal::OrderWaits),
-        Disk::Failed => state::refused(pool, Refusal::StoreFailed),
+    let check = refusals::turn_check(pool);
+    match check {
+        Check::Refuse(r) => answer::refused(pool, r),
+        Check::Fine => {
+            let p = begun(pool);
+            run::run(p, log, records, store, groups, links, rows, lists, actors)
+        }
     }
 }
 
@@ -171,7 +144,8 @@ fn stored_in(r: Reply) -> StoredIn
     }
 }
 
-// The order is stored: a turn that waited for it runs on; an older question is shown again.
+// The order is stored: a turn that waited for it runs on, or its question is shown again; with no turn under way
+// nothing is open.
 fn stored(
     pool: Pool,
     log: &mut [u8],
@@ -182,121 +156,83 @@ fn stored(
     rows: &mut [[u64; 7]],
     lists: &mut [[u8; 65]],
     actors: &mut [[u64; 12]],
-) -> Told
+) -> Called
     ensures { λ r. ⌜
         record {
-          bytes = now (log .exit);
-          records = now (records .exit);
-          links = now (links .exit);
-          rows = now (rows .exit);
-          keys = now (lists .exit);
-          actors = now (actors .exit);
-          told = r;
+          state = record {
+            pool = r .pool;
+            bytes = now (log .exit);
+            records = now (records .exit);
+            store = now (store .entry);
+            groups = now (groups .entry);
+            links = now (links .exit);
+            rows = now (rows .exit);
+            keys = now (lists .exit);
+            actors = now (actors .exit);
+          };
+          answer = r .answer;
         }
         ≡ storedOf
-        pool (now (log .entry)) (now (records .entry)) (now (store .entry)) (now (groups .entry))
-        (now (links .entry)) (now (rows .entry)) (now (lists .entry)) (now (actors .entry))
+        (record {
+          pool = pool;
+          bytes = now (log .entry);
+          records = now (records .entry);
+          store = now (store .entry);
+          groups = now (groups .entry);
+          links = now (links .entry);
+          rows = now (rows .entry);
+          keys = now (lists .entry);
+          actors = now (actors .entry);
+        })
         ⌝ }
 {
     let turn = pool.turn;
     let at = turn.at;
     let counters = turn.log;
-    let rests = state::at_rest(at);
+    let during = refusals::in_turn(at);
     let p = state::with_disk(pool, counters, Disk::Free);
-    if rests {
-        return state::shown_now(p, links, rows);
+    if during {
+        return run::run(p, log, records, store, groups, links, rows, lists, actors);
     }
-    run::run(p, log, records, store, groups, links, rows, lists, actors)
+    answer::shown_now(p, links, rows)
 }
 
-// The order failed: nothing is taken any more.
-fn failed(pool: Pool, links: &[[u64; 4]], rows: &[[u64; 7]]) -> Told
-    ensures { λ r. ⌜ r ≡ failedOf pool (now (links .entry)) (now (rows .entry)) ⌝ }
+// The order failed: nothing is open, and nothing is taken any more.
+fn failed(pool: Pool, links: &[[u64; 4]], rows: &[[u64; 7]]) -> Called
+    ensures { λ r. ⌜
+        ((bytes : List ℕ) (records : Table) (store : List ℕ) (groups keys actors : Table) →
+        record {
+          state = record {
+            pool = r .pool;
+            bytes = bytes;
+            records = records;
+            store = store;
+            groups = groups;
+            links = now (links .entry);
+            rows = now (rows .entry);
+            keys = keys;
+            actors = actors;
+          };
+          answer = r .answer;
+        }
+        ≡ failedOf
+        (record {
+          pool = pool;
+          bytes = bytes;
+          records = records;
+          store = store;
+          groups = groups;
+          links = now (links .entry);
+          rows = now (rows .entry);
+          keys = keys;
+          actors = actors;
+        }))
+        ⌝ }
 {
     let turn = pool.turn;
     let counters = turn.log;
     let p = state::with_disk(pool, counters, Disk::Failed);
-    state::shown_now(p, links, rows)
-}
-
-// While an order waits a reply is the order's.
-fn order_reply(
-    pool: Pool,
-    log: &mut [u8],
-    records: &mut [[u64; 3]],
-    store: &[u8],
-    groups: &[[u64; 37]],
-    links: &mut [[u64; 4]],
-    rows: &mut [[u64; 7]],
-    lists: &mut [[u8; 65]],
-    actors: &mut [[u64; 12]],
-    reply: Reply,
-) -> Told
-    ensures { λ r. ⌜
-        record {
-          bytes = now (log .exit);
-          records = now (records .exit);
-          links = now (links .exit);
-          rows = now (rows .exit);
-          keys = now (lists .exit);
-          actors = now (actors .exit);
-          told = r;
-        }
-        ≡ orderReply
-        pool (now (log .entry)) (now (records .entry)) (now (store .entry)) (now (groups .entry))
-        (now (links .entry)) (now (rows .entry)) (now (lists .entry)) (now (actors .entry)) reply
-        ⌝ }
-{
-    let came = stored_in(reply);
-    match came {
-        StoredIn::Stored => stored(
-            pool,
-            log,
-            records,
-            store,
-            groups,
-            links,
-            rows,
-            lists,
-            actors,
-        ),
-        StoredIn::Failed => failed(pool, links, rows),
-        StoredIn::Other => state::refused(pool, Refusal::NoFit),
-    }
-}
-
-fn is_message(r: Reply) -> bool
-    ensures { λ x. ⌜ x ≡ isMessage r ⌝ }
-{
-    match r {
-        Reply::Yes => false,
-        Reply::No => false,
-        Reply::Clock(_) => false,
-        Reply::Count(_) => false,
-        Reply::Ran(_) => false,
-        Reply::Message => true,
-        Reply::End => false,
-        Reply::Told => false,
-        Reply::Stored => false,
-        Reply::Failed => false,
-    }
-}
-
-// 5, then 8.
-fn sent_check(links: &[[u64; 4]], name: usize, body: usize) -> Check
-    ensures { λ r. ⌜ r ≡ sentCheck (now (links .entry)) name body ⌝ }
-{
-    let long = state::length_check(name, body);
-    match long {
-        Check::Refuse(r) => Check::Refuse(r),
-        Check::Fine => {
-            let free = lists::length_of(links, lists::FREE);
-            if free == 0 {
-                return Check::Refuse(Refusal::TooMany);
-            }
-            Check::Fine
-        }
-    }
+    answer::shown_now(p, links, rows)
 }
 
 // A message that was sent goes to pending's end, not logged, and Sends is asked again.
@@ -307,30 +243,95 @@ fn sent(
     rows: &mut [[u64; 7]],
     name: &[u8],
     body: &[u8],
-) -> Told
+) -> Called
     ensures { λ r. ⌜
-        record { store = now (store .exit); links = now (links .exit); rows = now (rows .exit); told = r }
+        ((bytes : List ℕ) (records groups keys actors : Table) →
+        record {
+          state = record {
+            pool = r .pool;
+            bytes = bytes;
+            records = records;
+            store = now (store .exit);
+            groups = groups;
+            links = now (links .exit);
+            rows = now (rows .exit);
+            keys = keys;
+            actors = actors;
+          };
+          answer = r .answer;
+        }
         ≡ sentOf
-        pool (now (store .entry)) (now (links .entry)) (now (rows .entry)) (now (name .entry))
-        (now (body .entry))
+        (record {
+          pool = pool;
+          bytes = bytes;
+          records = records;
+          store = now (store .entry);
+          groups = groups;
+          links = now (links .entry);
+          rows = now (rows .entry);
+          keys = keys;
+          actors = actors;
+        })
+        (now (name .entry)) (now (body .entry)))
         ⌝ }
 {
-    let check = sent_check(links, name.len(), body.len());
-    match check {
-        Check::Refuse(r) => state::refused(pool, r),
-        Check::Fine => {
-            entry::keep(
-                store,
-                links,
-                rows,
-                name,
-                body,
-                Caller::Nobody,
-                Logged::Never,
-                lists::PENDING,
-            );
-            state::shown_now(pool, links, rows)
+    entry::keep(
+        store,
+        links,
+        rows,
+        name,
+        body,
+        Caller::Nobody,
+        Logged::Never,
+        lists::PENDING,
+    );
+    answer::shown_now(pool, links, rows)
+}
+
+// The turn's question is answered, where one is open.
+fn resume_at(
+    pool: Pool,
+    groups: &[[u64; 37]],
+    links: &mut [[u64; 4]],
+    rows: &[[u64; 7]],
+    lists: &mut [[u8; 65]],
+    actors: &mut [[u64; 12]],
+    reply: Reply,
+) -> Pool
+    ensures { λ r. ⌜
+        ((bytes : List ℕ) (records : Table) (store : List ℕ) →
+        record {
+          pool = r;
+          bytes = bytes;
+          records = records;
+          store = store;
+          groups = now (groups .entry);
+          links = now (links .exit);
+          rows = now (rows .entry);
+          keys = now (lists .exit);
+          actors = now (actors .exit);
         }
+        ≡ resumeAt
+        (record {
+          pool = pool;
+          bytes = bytes;
+          records = records;
+          store = store;
+          groups = now (groups .entry);
+          links = now (links .entry);
+          rows = now (rows .entry);
+          keys = now (lists .entry);
+          actors = now (actors .entry);
+        })
+        reply)
+        ⌝ }
+{
+    let turn = pool.turn;
+    let at = turn.at;
+    match at {
+        At::Rest => pool,
+        At::Asks(ask) => resume::resume(pool, groups, links, rows, lists, actors, ask, reply),
+        At::Runs(_) => pool,
     }
 }
 
@@ -346,211 +347,43 @@ fn resumed(
     lists: &mut [[u8; 65]],
     actors: &mut [[u64; 12]],
     reply: Reply,
-) -> Told
+) -> Called
     ensures { λ r. ⌜
         record {
-          bytes = now (log .exit);
-          records = now (records .exit);
-          links = now (links .exit);
-          rows = now (rows .exit);
-          keys = now (lists .exit);
-          actors = now (actors .exit);
-          told = r;
+          state = record {
+            pool = r .pool;
+            bytes = now (log .exit);
+            records = now (records .exit);
+            store = now (store .entry);
+            groups = now (groups .entry);
+            links = now (links .exit);
+            rows = now (rows .exit);
+            keys = now (lists .exit);
+            actors = now (actors .exit);
+          };
+          answer = r .answer;
         }
         ≡ resumedOf
-        pool (now (log .entry)) (now (records .entry)) (now (store .entry)) (now (groups .entry))
-        (now (links .entry)) (now (rows .entry)) (now (lists .entry)) (now (actors .entry)) reply
+        (record {
+          pool = pool;
+          bytes = now (log .entry);
+          records = now (records .entry);
+          store = now (store .entry);
+          groups = now (groups .entry);
+          links = now (links .entry);
+          rows = now (rows .entry);
+          keys = now (lists .entry);
+          actors = now (actors .entry);
+        })
+        reply
         ⌝ }
 {
-    let turn = pool.turn;
-    let at = turn.at;
-    let counts = turn.counts;
-    let disk = turn.disk;
-    let counters = turn.log;
-    let limits = pool.limits;
-    let w = resume::resume(
-        at,
-        counts,
-        limits,
-        groups,
-        links,
-        rows,
-        lists,
-        actors,
-        reply,
-    );
-    let next = w.at;
-    let counted = w.counts;
-    let t = Turn {
-        at: next,
-        disk,
-        counts: counted,
-        log: counters,
-    };
-    let p = state::with_turn(pool, t);
+    let p = resume_at(pool, groups, links, rows, lists, actors, reply);
     run::run(p, log, records, store, groups, links, rows, lists, actors)
 }
 
-// A reply that fits.
-fn fit_reply(
-    pool: Pool,
-    log: &mut [u8],
-    records: &mut [[u64; 3]],
-    store: &mut [u8],
-    groups: &[[u64; 37]],
-    links: &mut [[u64; 4]],
-    rows: &mut [[u64; 7]],
-    lists: &mut [[u8; 65]],
-    actors: &mut [[u64; 12]],
-    reply: Reply,
-    name: &[u8],
-    body: &[u8],
-) -> Told
-    ensures { λ r. ⌜
-        record {
-          bytes = now (log .exit);
-          records = now (records .exit);
-          store = now (store .exit);
-          links = now (links .exit);
-          rows = now (rows .exit);
-          keys = now (lists .exit);
-          actors = now (actors .exit);
-          told = r;
-        }
-        ≡ fitReply
-        pool (now (log .entry)) (now (records .entry)) (now (store .entry)) (now (groups .entry))
-        (now (links .entry)) (now (rows .entry)) (now (lists .entry)) (now (actors .entry)) reply
-        (now (name .entry)) (now (body .entry))
-        ⌝ }
-{
-    let message = is_message(reply);
-    if message {
-        return sent(pool, store, links, rows, name, body);
-    }
-    resumed(
-        pool,
-        log,
-        records,
-        store,
-        groups,
-        links,
-        rows,
-        lists,
-        actors,
-        reply,
-    )
-}
-
-// The reply to a question that is open; one that does not fit leaves it open.
-fn open_reply(
-    pool: Pool,
-    log: &mut [u8],
-    records: &mut [[u64; 3]],
-    store: &mut [u8],
-    groups: &[[u64; 37]],
-    links: &mut [[u64; 4]],
-    rows: &mut [[u64; 7]],
-    lists: &mut [[u8; 65]],
-    actors: &mut [[u64; 12]],
-    q: Question,
-    reply: Reply,
-    name: &[u8],
-    body: &[u8],
-) -> Told
-    ensures { λ r. ⌜
-        record {
-          bytes = now (log .exit);
-          records = now (records .exit);
-          store = now (store .exit);
-          links = now (links .exit);
-          rows = now (rows .exit);
-          keys = now (lists .exit);
-          actors = now (actors .exit);
-          told = r;
-        }
-        ≡ openReply
-        pool (now (log .entry)) (now (records .entry)) (now (store .entry)) (now (groups .entry))
-        (now (links .entry)) (now (rows .entry)) (now (lists .entry)) (now (actors .entry)) q reply
-        (now (name .entry)) (now (body .entry))
-        ⌝ }
-{
-    let fits = question::fits(q, reply);
-    if fits {
-        return fit_reply(
-            pool,
-            log,
-            records,
-            store,
-            groups,
-            links,
-            rows,
-            lists,
-            actors,
-            reply,
-            name,
-            body,
-        );
-    }
-    state::refused(pool, Refusal::NoFit)
-}
-
-// The reply to the turn's question, if one is open.
-fn turn_reply(
-    pool: Pool,
-    log: &mut [u8],
-    records: &mut [[u64; 3]],
-    store: &mut [u8],
-    groups: &[[u64; 37]],
-    links: &mut [[u64; 4]],
-    rows: &mut [[u64; 7]],
-    lists: &mut [[u8; 65]],
-    actors: &mut [[u64; 12]],
-    reply: Reply,
-    name: &[u8],
-    body: &[u8],
-) -> Told
-    ensures { λ r. ⌜
-        record {
-          bytes = now (log .exit);
-          records = now (records .exit);
-          store = now (store .exit);
-          links = now (links .exit);
-          rows = now (rows .exit);
-          keys = now (lists .exit);
-          actors = now (actors .exit);
-          told = r;
-        }
-        ≡ turnReply
-        pool (now (log .entry)) (now (records .entry)) (now (store .entry)) (now (groups .entry))
-        (now (links .entry)) (now (rows .entry)) (now (lists .entry)) (now (actors .entry)) reply
-        (now (name .entry)) (now (body .entry))
-        ⌝ }
-{
-    let turn = pool.turn;
-    let disk = turn.disk;
-    let at = turn.at;
-    let asked = asks::asks(disk, at, links, rows);
-    match asked {
-        Asked::Open(q) => open_reply(
-            pool,
-            log,
-            records,
-            store,
-            groups,
-            links,
-            rows,
-            lists,
-            actors,
-            q,
-            reply,
-            name,
-            body,
-        ),
-        Asked::Nothing => state::refused(pool, Refusal::NoFit),
-    }
-}
-
-// A reply, with the bytes of a message that was sent.
+// A reply, with the bytes of a message that was sent: the order's, such a message, or the answer to the turn's
+// question.
 pub fn reply(
     pool: Pool,
     log: &mut [u8],
@@ -564,54 +397,75 @@ pub fn reply(
     reply: Reply,
     name: &[u8],
     body: &[u8],
-) -> Told
+) -> Called
     ensures { λ r. ⌜
         record {
-          bytes = now (log .exit);
-          records = now (records .exit);
-          store = now (store .exit);
-          links = now (links .exit);
-          rows = now (rows .exit);
-          keys = now (lists .exit);
-          actors = now (actors .exit);
-          told = r;
+          state = record {
+            pool = r .pool;
+            bytes = now (log .exit);
+            records = now (records .exit);
+            store = now (store .exit);
+            groups = now (groups .entry);
+            links = now (links .exit);
+            rows = now (rows .exit);
+            keys = now (lists .exit);
+            actors = now (actors .exit);
+          };
+          answer = r .answer;
         }
         ≡ replyOf
-        pool (now (log .entry)) (now (records .entry)) (now (store .entry)) (now (groups .entry))
-        (now (links .entry)) (now (rows .entry)) (now (lists .entry)) (now (actors .entry)) reply
-        (now (name .entry)) (now (body .entry))
+        (record {
+          pool = pool;
+          bytes = now (log .entry);
+          records = now (records .entry);
+          store = now (store .entry);
+          groups = now (groups .entry);
+          links = now (links .entry);
+          rows = now (rows .entry);
+          keys = now (lists .entry);
+          actors = now (actors .entry);
+        })
+        reply (now (name .entry)) (now (body .entry))
         ⌝ }
 {
-    let turn = pool.turn;
-    let disk = turn.disk;
-    match disk {
-        Disk::Free => turn_reply(
-            pool,
-            log,
-            records,
-            store,
-            groups,
-            links,
-            rows,
-            lists,
-            actors,
-            reply,
-            name,
-            body,
-        ),
-        Disk::Waits(_, _) => order_reply(
-            pool,
-            log,
-            records,
-            store,
-            groups,
-            links,
-            rows,
-            lists,
-            actors,
-            reply,
-        ),
-        Disk::Failed => state::refused(pool, Refusal::StoreFailed),
+    let check = refusals::reply_check(pool, links, rows, reply, name, body);
+    match check {
+        Check::Refuse(r) => answer::refused(pool, r),
+        Check::Fine => {
+            let kind = stored_in(reply);
+            match kind {
+                StoredIn::Stored => stored(
+                    pool,
+                    log,
+                    records,
+                    store,
+                    groups,
+                    links,
+                    rows,
+                    lists,
+                    actors,
+                ),
+                StoredIn::Failed => failed(pool, links, rows),
+                StoredIn::Other => {
+                    let message = refusals::is_message(reply);
+                    if message {
+                        return sent(pool, store, links, rows, name, body);
+                    }
+                    resumed(
+                        pool,
+                        log,
+                        records,
+                        store,
+                        groups,
+                        links,
+                        rows,
+                        lists,
+                        actors,
+                        reply,
+                    )
+                }
+            }
+        }
     }
 }
 
@@ -623,24 +477,79 @@ fn sync_answered(
     due: log::Due,
     links: &[[u64; 4]],
     rows: &[[u64; 7]],
-) -> Told
+) -> Called
     ensures { λ r. ⌜
-        r ≡ syncDid pool (now (links .entry)) (now (rows .entry)) (record { counters = counters; due = due })
+        ((bytes : List ℕ) (records : Table) (store : List ℕ) (groups keys actors : Table) →
+        record {
+          state = record {
+            pool = r .pool;
+            bytes = bytes;
+            records = records;
+            store = store;
+            groups = groups;
+            links = now (links .entry);
+            rows = now (rows .entry);
+            keys = keys;
+            actors = actors;
+          };
+          answer = r .answer;
+        }
+        ≡ syncShown
+        (record {
+          pool = pool;
+          bytes = bytes;
+          records = records;
+          store = store;
+          groups = groups;
+          links = now (links .entry);
+          rows = now (rows .entry);
+          keys = keys;
+          actors = actors;
+        })
+        (record { counters = counters; due = due }))
         ⌝ }
 {
     match due {
         log::Due::Ordered(order) => {
             let disk = Disk::Waits(order, What::Nothing);
             let p = state::with_disk(pool, counters, disk);
-            state::shown_now(p, links, rows)
+            answer::shown_now(p, links, rows)
         }
-        log::Due::Nothing => state::shown_now(pool, links, rows),
+        log::Due::Nothing => answer::shown_now(pool, links, rows),
     }
 }
 
-// A sync while no order waits: the log changes the pool's counters, lent to it by `&mut`.
-fn sync_free(pool: Pool, links: &[[u64; 4]], rows: &[[u64; 7]]) -> Told
-    ensures { λ r. ⌜ r ≡ syncFree pool (now (links .entry)) (now (rows .entry)) ⌝ }
+// A sync that is accepted: the log changes the pool's counters, lent to it by `&mut`.
+fn sync_log(pool: Pool, links: &[[u64; 4]], rows: &[[u64; 7]]) -> Called
+    ensures { λ r. ⌜
+        ((bytes : List ℕ) (records : Table) (store : List ℕ) (groups keys actors : Table) →
+        record {
+          state = record {
+            pool = r .pool;
+            bytes = bytes;
+            records = records;
+            store = store;
+            groups = groups;
+            links = now (links .entry);
+            rows = now (rows .entry);
+            keys = keys;
+            actors = actors;
+          };
+          answer = r .answer;
+        }
+        ≡ syncDid
+        (record {
+          pool = pool;
+          bytes = bytes;
+          records = records;
+          store = store;
+          groups = groups;
+          links = now (links .entry);
+          rows = now (rows .entry);
+          keys = keys;
+          actors = actors;
+        }))
+        ⌝ }
 {
     let mut counters = state::counters_of(pool);
     let due = wal::sync(&mut counters);
@@ -648,15 +557,41 @@ fn sync_free(pool: Pool, links: &[[u64; 4]], rows: &[[u64; 7]]) -> Told
 }
 
 // A flush is ordered, if a record was appended since the last one.
-pub fn sync(pool: Pool, links: &[[u64; 4]], rows: &[[u64; 7]]) -> Told
-    ensures { λ r. ⌜ r ≡ syncOf pool (now (links .entry)) (now (rows .entry)) ⌝ }
+pub fn sync(pool: Pool, links: &[[u64; 4]], rows: &[[u64; 7]]) -> Called
+    ensures { λ r. ⌜
+        ((bytes : List ℕ) (records : Table) (store : List ℕ) (groups keys actors : Table) →
+        record {
+          state = record {
+            pool = r .pool;
+            bytes = bytes;
+            records = records;
+            store = store;
+            groups = groups;
+            links = now (links .entry);
+            rows = now (rows .entry);
+            keys = keys;
+            actors = actors;
+          };
+          answer = r .answer;
+        }
+        ≡ syncOf
+        (record {
+          pool = pool;
+          bytes = bytes;
+          records = records;
+          store = store;
+          groups = groups;
+          links = now (links .entry);
+          rows = now (rows .entry);
+          keys = keys;
+          actors = actors;
+        }))
+        ⌝ }
 {
-    let turn = pool.turn;
-    let disk = turn.disk;
-    match disk {
-        Disk::Free => sync_free(pool, links, rows),
-        Disk::Waits(_, _) => state::refused(pool, Refusal::OrderWaits),
-        Disk::Failed => state::refused(pool, Refusal::StoreFailed),
+    let check = refusals::sync_check(pool);
+    match check {
+        Check::Refuse(r) => answer::refused(pool, r),
+        Check::Fine => sync_log(pool, links, rows),
     }
 }
 
@@ -674,17 +609,43 @@ fn closed_pool(pool: Pool) -> Pool
 }
 
 // No more is admitted; closing twice is accepted.
-pub fn close(pool: Pool, links: &[[u64; 4]], rows: &[[u64; 7]]) -> Told
-    ensures { λ r. ⌜ r ≡ closeOf pool (now (links .entry)) (now (rows .entry)) ⌝ }
-{
-    let turn = pool.turn;
-    let disk = turn.disk;
-    match disk {
-        Disk::Free => {
-            let p = closed_pool(pool);
-            state::shown_now(p, links, rows)
+pub fn close(pool: Pool, links: &[[u64; 4]], rows: &[[u64; 7]]) -> Called
+    ensures { λ r. ⌜
+        ((bytes : List ℕ) (records : Table) (store : List ℕ) (groups keys actors : Table) →
+        record {
+          state = record {
+            pool = r .pool;
+            bytes = bytes;
+            records = records;
+            store = store;
+            groups = groups;
+            links = now (links .entry);
+            rows = now (rows .entry);
+            keys = keys;
+            actors = actors;
+          };
+          answer = r .answer;
         }
-        Disk::Waits(_, _) => state::refused(pool, Refusal::OrderWaits),
-        Disk::Failed => state::refused(pool, Refusal::StoreFailed),
+        ≡ closeOf
+        (record {
+          pool = pool;
+          bytes = bytes;
+          records = records;
+          store = store;
+          groups = groups;
+          links = now (links .entry);
+          rows = now (rows .entry);
+          keys = keys;
+          actors = actors;
+        }))
+        ⌝ }
+{
+    let check = refusals::sync_check(pool);
+    match check {
+        Check::Refuse(r) => answer::refused(pool, r),
+        Check::Fine => {
+            let p = closed_pool(pool);
+            answer::shown_now(p, links, rows)
+        }
     }
 }

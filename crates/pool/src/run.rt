@@ -1,14 +1,18 @@
 // A turn runs on, and what the call that ran it answers: the question or order that is open, or how the turn ended.
 ghost use mathlib.Core.Path.{_≡_};
+ghost use mathlib.Core.List.{List};
+ghost use Prim.Native.Nat.{ℕ};
 ghost use lib.ListN.{length};
+ghost use Rattle.lists.specs.Links.{Table};
 ghost use Rattle.pool.specs.Run.{waitersFrom, busyOf, answeredOf, runOf};
-use front::state;
-use front::state::Answer;
-use front::state::Pool;
-use front::state::Told;
+use front::answer;
+use front::answer::Answer;
+use front::answer::Called;
+use front::refusals;
 use group::roster;
 use lists::keys;
 use turn::state::Counts;
+use turn::state::Pool;
 use turn::step;
 
 // Whether some waiting list is not empty.
@@ -41,22 +45,50 @@ fn busy(counts: Counts, links: &[[u64; 4]]) -> bool
 }
 
 // The turn ended where it is at rest; else a question or an order is open.
-fn answered(pool: Pool, links: &[[u64; 4]], rows: &[[u64; 7]], lists: &[[u8; 65]]) -> Told
-    ensures { λ r. ⌜ r ≡ answeredOf pool (now (links .entry)) (now (rows .entry)) (now (lists .entry)) ⌝ }
+fn answered(pool: Pool, links: &[[u64; 4]], rows: &[[u64; 7]], lists: &[[u8; 65]]) -> Called
+    ensures { λ r. ⌜
+        ((bytes : List ℕ) (records : Table) (store : List ℕ) (groups actors : Table) →
+        record {
+          state = record {
+            pool = r .pool;
+            bytes = bytes;
+            records = records;
+            store = store;
+            groups = groups;
+            links = now (links .entry);
+            rows = now (rows .entry);
+            keys = now (lists .entry);
+            actors = actors;
+          };
+          answer = r .answer;
+        }
+        ≡ answeredOf
+        (record {
+          pool = pool;
+          bytes = bytes;
+          records = records;
+          store = store;
+          groups = groups;
+          links = now (links .entry);
+          rows = now (rows .entry);
+          keys = now (lists .entry);
+          actors = actors;
+        }))
+        ⌝ }
 {
     let turn = pool.turn;
     let at = turn.at;
-    let counts = turn.counts;
-    let rests = state::at_rest(at);
-    if rests {
-        let b = busy(counts, links);
-        let w = waiters(lists, pool.limits.groups);
-        return Told {
-            pool,
-            answer: Answer::Ended(b, w),
-        };
+    let during = refusals::in_turn(at);
+    if during {
+        return answer::shown_now(pool, links, rows);
     }
-    state::shown_now(pool, links, rows)
+    let counts = turn.counts;
+    let b = busy(counts, links);
+    let w = waiters(lists, pool.limits.groups);
+    Called {
+        pool,
+        answer: Answer::Ended(b, w),
+    }
 }
 
 // Runs until a question, an order or the end.
@@ -70,25 +102,38 @@ pub(crate) fn run(
     rows: &mut [[u64; 7]],
     lists: &mut [[u8; 65]],
     actors: &mut [[u64; 12]],
-) -> Told
-    ensures { λ r.
-        ⌜ record {
-          bytes = now (log .exit);
-          records = now (records .exit);
-          links = now (links .exit);
-          rows = now (rows .exit);
-          keys = now (lists .exit);
-          actors = now (actors .exit);
-          told = r;
+) -> Called
+    ensures { λ r. ⌜
+        record {
+          state = record {
+            pool = r .pool;
+            bytes = now (log .exit);
+            records = now (records .exit);
+            store = now (store .entry);
+            groups = now (groups .entry);
+            links = now (links .exit);
+            rows = now (rows .exit);
+            keys = now (lists .exit);
+            actors = now (actors .exit);
+          };
+          answer = r .answer;
         }
-        ≡ runOf pool (now (log .entry)) (now (records .entry)) (now (store .entry)) (now (groups .entry))
-        (now (links .entry)) (now (rows .entry)) (now (lists .entry)) (now (actors .entry)) ⌝ }
+        ≡ runOf
+        (record {
+          pool = pool;
+          bytes = now (log .entry);
+          records = now (records .entry);
+          store = now (store .entry);
+          groups = now (groups .entry);
+          links = now (links .entry);
+          rows = now (rows .entry);
+          keys = now (lists .entry);
+          actors = now (actors .entry);
+        })
+        ⌝ }
 {
-    let t = pool.turn;
-    let limits = pool.limits;
-    let after = step::advance(
-        t,
-        limits,
+    let p = step::advance(
+        pool,
         store,
         groups,
         log,
@@ -98,6 +143,5 @@ pub(crate) fn run(
         lists,
         actors,
     );
-    let p = state::with_turn(pool, after);
     answered(p, links, rows, lists)
 }

@@ -1,18 +1,19 @@
 -- How a call ends: refused, with the state as it was, or accepted, with the invariant and the log's bytes behind its
--- size kept and an order that fits the call; and what an order for a mark changes. Assumes nothing.
+-- size kept and an order that fits the call; what an order for a mark changes; and what a call may lean on where its
+-- table refuses nothing. Assumes nothing.
 use mathlib.Core.Path.{_≡_, refl, sym, ap, _∙_, subst}
-use mathlib.Core.Bool.{true}
+use mathlib.Core.Bool.{true, false, _&&_}
 use mathlib.Core.List.{List, [], _∷_, _++_}
 use Prim.Native.Nat.{ℕ, _+_, _≤_, _<_}
 use native.Mathlib.Omega.{arith}
 use native.Mathlib.Decide.{ℕ-discrete}
-use borrow.Author.Tests.{eq-eqb, ne-eqb}
+use borrow.Author.Tests.{eq-eqb, ne-eqb, not-false}
 use lib.ListN.{length, drop}
 use Rattle.text.specs.Format.{Message}
-use Rattle.lists.specs.Links.{Table}
 use Rattle.lists.specs.Family.{count}
 use Rattle.log.specs.Opening.{remove}
 use Rattle.log.specs.declared.Order.{Order}
+use Rattle.actor.specs.declared.question.Reply.{Reply}
 use Rattle.turn.specs.declared.state.Disk.{Disk}
 use Rattle.turn.specs.declared.state.Disk.the-variants as order
 use Rattle.log.specs.Recovery as disk
@@ -20,20 +21,26 @@ use Rattle.log.proofs.RecoveryLaws as sound
 use Rattle.handing.specs.Handing.{idsOf}
 use Rattle.places.proofs.Steps.{pick-rule}
 use Rattle.turn.specs.declared.state.Limits.{Limits}
-use Rattle.turn.specs.Step.{Work}
-use Rattle.front.specs.declared.state.Pool.{Pool}
-use Rattle.front.specs.declared.state.Refusal.{Refusal}
-use Rattle.front.specs.declared.state.Answer.{Answer}
-use Rattle.front.specs.declared.state.Answer.the-variants as answer
-use Rattle.front.specs.declared.state.Told.{Told}
-use Rattle.front.specs.State.{shown, atRest}
+use Rattle.turn.specs.declared.state.Pool.{Pool}
+use Rattle.turn.specs.State.{State, walOf}
+use Rattle.turn.specs.Asks.{openIn}
+use Rattle.front.specs.declared.answer.Refusal.{Refusal}
+use Rattle.front.specs.declared.answer.Answer.{Answer}
+use Rattle.front.specs.declared.answer.Answer.the-variants as answer
+use Rattle.front.specs.declared.refusals.Check.{Check}
+use Rattle.front.specs.declared.refusals.Check.the-variants as check
+use Rattle.front.specs.Answers.{Did, refused, shown}
+use Rattle.front.specs.Refusals.{judged, byTable, inTurn, isMessage, fitsIn, noEntryFree}
+use Rattle.front.specs.Refusals.{turnRefusals, replyRefusals, syncRefusals, closeRefusals}
 use Rattle.pool.specs.Run.{answeredOf}
-use Rattle.rail.specs.Rail.{Call, State, Did, World, walOf, moved, Shown, nothing, shows, ordersIn, orderIn}
+use Rattle.rail.specs.Rail.{Call, World, moved, unordered, Shown, nothing, shows, ordersIn, orderIn}
 use Rattle.rail.specs.Rail.{ofMark, purposeOf, outOfPlaces, OrderFits, orderedFor, ordered, answered, accepted}
 use Rattle.rail.specs.Rail.{stepDid}
 use Rattle.rail.proofs.Ids.{gone-same, gone-other, count-snoc}
 use Rattle.rail.proofs.Left.{none-out, marked-in, marked-out, marked-one}
-use Rattle.rail.proofs.Invariant.{Ledger, Working, TailKept, Runs, still, marks, markedOff, workIn, Steady}
+use Rattle.front.proofs.RefusalLaws.{fine-clear}
+use Rattle.rail.proofs.Refusals.{is-free}
+use Rattle.rail.proofs.Invariant.{Ledger, Working, TailKept, Runs, still, marks, markedOff, Steady}
 
 -- an id that was logged and not done is done
 marked-ledger : (j j′ : disk.World) (top : ℕ) (logged done : List ℕ) (id : ℕ) → Ledger j top logged done
@@ -97,42 +104,32 @@ Marking w c =
 
 module _ (long : ℕ) (limits : Limits) where
   pub data Ends (w : World) (c : Call) (d : Did) : Type 0 where
-    turned : (r : Refusal) → d ≡ record { state = w .state; answer = answer.Refused r } → Ends w c d
-    took : accepted (d .answer) ≡ true → TailKept (w .state .bytes) (workIn (d .state))
+    turned : (r : Refusal) → d ≡ refused (w .state) r → Ends w c d
+    took : accepted (d .answer) ≡ true → TailKept (w .state .bytes) (d .state)
         → OrderFits w c (d .state) (orderOf (d .state .pool .turn .disk))
         → Steady long limits (orderedIn c w (d .state) (answered (w .journal) c) (d .state .pool .turn .disk))
         → Ends w c d
 
-  -- with no order: the journal is the one that the work has beside it
-  pub calm-steady : (s : State) (j : disk.World) (next : ℕ) (logged done : List ℕ) → Working long j (workIn s)
-      → Ledger j next logged done → s .pool .limits ≡ limits
-      → Steady long limits (record {
-        state = s;
-        journal = moved j (walOf s);
-        next = next;
-        logged = logged;
-        done =
-            done;
-      })
-  calm-steady s j next logged done works ledger is =
+  -- with no order: the journal is the one that the state has beside it
+  pub still-steady : (w : World) (s : State) (j : disk.World) → Working long j s
+      → Ledger j (w .next) (w .logged) (w .done) → s .pool .limits ≡ limits → Steady long limits (unordered w s j)
+  still-steady w s j works ledger is =
       subst (λ v. Steady long limits (record {
         state = s;
         journal = moved j v;
-        next = next;
-        logged = logged;
-        done =
-            done;
+        next = w .next;
+        logged = w .logged;
+        done = w .done;
       })) (works .wal)
       (record { works = works; ledger = ledger; limits-are = is })
 
   -- after a run, and after a call that runs nothing: the journal is the answered one
   pub rest-steady : (c : Call) (w : World) (s : State) (j : disk.World) → answered (w .journal) c ≡ j
-      → s .pool .turn .disk ≡ order.Free → Working long j (workIn s) → Ledger j (w .next) (w .logged) (w .done)
+      → s .pool .turn .disk ≡ order.Free → Working long j s → Ledger j (w .next) (w .logged) (w .done)
       → s .pool .limits ≡ limits → Steady long limits (orderedIn c w s (answered (w .journal) c) (s .pool .turn .disk))
   rest-steady c w s j from free works ledger is =
       subst (λ k. Steady long limits (orderedIn c w s k (s .pool .turn .disk))) (sym from)
-      (subst (λ d. Steady long limits (orderedIn c w s j d)) (sym free) (calm-steady s j (w .next) (w .logged)
-      (w .done) works ledger is))
+      (subst (λ d. Steady long limits (orderedIn c w s j d)) (sym free) (still-steady w s j works ledger is))
 
   -- the world after the order of a mark, with these messages left and these ids done
   abbrev offBy : World → State → disk.World → Order → List Message → List ℕ → World
@@ -145,21 +142,21 @@ module _ (long : ℕ) (limits : Limits) where
   }
 
   pub runs-steady : (c : Call) (w : World) (s : State) (j : disk.World) → Marking w c
-      → answered (w .journal) c ≡ j → Runs long j (workIn s) → Ledger j (w .next) (w .logged) (w .done)
+      → answered (w .journal) c ≡ j → Runs long j s → Ledger j (w .next) (w .logged) (w .done)
       → s .pool .limits ≡ limits → Steady long limits (orderedIn c w s (answered (w .journal) c) (s .pool .turn .disk))
   unfolding disk.issue
   runs-steady c w s j own from runs ledger is =
       subst (λ k. Steady long limits (orderedIn c w s k (s .pool .turn .disk))) (sym from) (go runs)
     where
-      go : Runs long j (workIn s) → Steady long limits (orderedIn c w s j (s .pool .turn .disk))
+      go : Runs long j s → Steady long limits (orderedIn c w s j (s .pool .turn .disk))
       go (still free works) =
           subst (λ d. Steady long limits (orderedIn c w s j d)) (sym free)
-          (calm-steady s j (w .next) (w .logged) (w .done) works ledger is)
+          (still-steady w s j works ledger is)
       go (marks o id waits there next tail works) =
           let off : Steady long limits (offBy w s j o (remove (id .0) (j .now)) (id .0 ∷ [])) =
           record {
             works = works;
-            ledger = marked-ledger j (markedOff j (workIn s) o id) (w .next) (w .logged) (w .done) (id .0) ledger there
+            ledger = marked-ledger j (markedOff j s o id) (w .next) (w .logged) (w .done) (id .0) ledger there
                 refl next;
             limits-are = is;
           } in
@@ -172,13 +169,13 @@ module _ (long : ℕ) (limits : Limits) where
 
   -- nothing is marked: every message stands where it can be found
   pub none-fits : (c : Call) (w : World) (s : State) (j : disk.World) → Marking w c → j .now ≡ w .journal .now
-      → Working long j (workIn s) → OrderFits w c s nothing
+      → Working long j s → OrderFits w c s nothing
   none-fits c w s j own same works =
       own .1 s nothing
       (ap length (subst (λ now. outOfPlaces s now ≡ []) same (none-out s (j .now) (works .ids))))
 
   pub runs-fits : (c : Call) (w : World) (s : State) (j : disk.World) → Marking w c → j .now ≡ w .journal .now
-      → Runs long j (workIn s) → Ledger j (w .next) (w .logged) (w .done)
+      → Runs long j s → Ledger j (w .next) (w .logged) (w .done)
       → OrderFits w c s (orderOf (s .pool .turn .disk))
   unfolding disk.issue
   runs-fits c w s j own same (still free works) ledger =
@@ -190,19 +187,20 @@ module _ (long : ℕ) (limits : Limits) where
       (marked-one s (id .0) (j .now) there (open-once j ledger (id .0)) (works .ids))))
 
   -- after a run the log's bytes at and after its size are those from before it
-  pub runs-tail : (j : disk.World) (x : Work) (bytes : List ℕ) → j .wal .bytes ≡ bytes → Runs long j x
-      → TailKept bytes x
-  runs-tail j x bytes from (still free works) = ap (drop (x .turn .log .size)) (sym (ap (λ v. v .bytes) (works .wal))
-      ∙ from)
-  runs-tail j x bytes from (marks o id waits there next tail works) = tail ∙ ap (drop (x .turn .log .size)) from
+  pub runs-tail : (j : disk.World) (s : State) (bytes : List ℕ) → j .wal .bytes ≡ bytes → Runs long j s
+      → TailKept bytes s
+  runs-tail j s bytes from (still free works) =
+      ap (drop (s .pool .turn .log .size)) (sym (ap (λ v. v .bytes) (works .wal)) ∙ from)
+  runs-tail j s bytes from (marks o id waits there next tail works) =
+      tail ∙ ap (drop (s .pool .turn .log .size)) from
 
   -- a world after a call that ended so, and whose answer shows the order that waits
   pub ends-steady : (w : World) (c : Call) (d : Did) → Steady long limits w → (accepted (d .answer) ≡ true
       → orderIn (d .answer) ≡ orderOf (d .state .pool .turn .disk)) → Ends w c d
       → Steady long limits (stepDid w c d)
   ends-steady w c d steady shown-is (turned r is) =
-      subst (λ e. Steady long limits (stepDid w c e)) (sym is) (calm-steady (w .state) (w .journal) (w .next)
-      (w .logged) (w .done) (steady .works) (steady .ledger) (steady .limits-are))
+      subst (λ e. Steady long limits (stepDid w c e)) (sym is)
+      (still-steady w (w .state) (w .journal) (steady .works) (steady .ledger) (steady .limits-are))
   ends-steady w c d steady shown-is (took ok tail fits after) = go (d .answer) refl
     where
       by : orderIn (d .answer) ≡ orderOf (d .state .pool .turn .disk)
@@ -223,13 +221,43 @@ module _ (long : ℕ) (limits : Limits) where
 
 -- ---- an answer is no refusal
 
-pub shown-rule : (P : Told → Type 0) (p : Pool) (t rows : Table) → ((a : Answer) → accepted a ≡ true
-    → P (record { pool = p; answer = a })) → P (shown p t rows)
+pub shown-rule : (P : Did → Type 0) (s : State)
+    → ((a : Answer) → accepted a ≡ true → P (record { state = s; answer = a })) → P (shown s)
 unfolding shown
-shown-rule P p t rows all = all _ refl
+shown-rule P s all = all _ refl
 
-pub answered-rule : (P : Told → Type 0) (p : Pool) (t rows keys : Table) → ((a : Answer) → accepted a ≡ true
-    → P (record { pool = p; answer = a })) → P (answeredOf p t rows keys)
+pub answered-rule : (P : Did → Type 0) (s : State)
+    → ((a : Answer) → accepted a ≡ true → P (record { state = s; answer = a })) → P (answeredOf s)
 unfolding answeredOf
-answered-rule P p t rows keys all = pick-rule P (atRest (p .turn .at)) (λ e. all _ refl) (λ e. shown-rule P p t rows
-    all)
+answered-rule P s all = pick-rule P (inTurn (s .pool .turn .at)) (λ e. shown-rule P s all) (λ e. all _ refl)
+
+-- ---- a call by its table
+
+-- what holds of every refusal, and of the effect where no line holds, holds of the call
+pub table-rule : (P : Did → Type 0) (s : State) (k : Check) (effect : Did) → ((r : Refusal) → P (refused s r))
+    → (k ≡ check.Fine → P effect) → P (byTable s k effect)
+table-rule P s (check.Refuse r) effect off on = off r
+table-rule P s check.Fine effect off on = on refl
+
+pub turn-fine : (p : Pool) → judged (turnRefusals p) ≡ check.Fine
+    → (p .turn .disk ≡ order.Free) × (inTurn (p .turn .at) ≡ false)
+unfolding turnRefusals
+turn-fine p fine =
+    let clear = fine-clear (turnRefusals p) fine in
+    (is-free (p .turn .disk) (clear .0) (clear .1 .0), clear .1 .1 .0)
+
+pub sync-fine : (p : Pool) → judged (syncRefusals p) ≡ check.Fine → p .turn .disk ≡ order.Free
+unfolding syncRefusals
+sync-fine p fine =
+    let clear = fine-clear (syncRefusals p) fine in is-free (p .turn .disk) (clear .0) (clear .1 .0)
+
+pub close-fine : (p : Pool) → judged (closeRefusals p) ≡ check.Fine → p .turn .disk ≡ order.Free
+unfolding syncRefusals
+close-fine p fine =
+    let clear = fine-clear (closeRefusals p) fine in is-free (p .turn .disk) (clear .0) (clear .1 .0)
+
+pub reply-fine : (s : State) (r : Reply) (name body : List ℕ) → judged (replyRefusals s r name body) ≡ check.Fine
+    → (fitsIn (openIn s) r ≡ true) × ((isMessage r && noEntryFree (s .links)) ≡ false)
+unfolding replyRefusals
+reply-fine s r name body fine =
+    let clear = fine-clear (replyRefusals s r name body) fine in (not-false _ (clear .1 .0), clear .1 .1 .1 .0)

@@ -10,7 +10,8 @@ use Rattle.log.specs.Log.{Wal}
 use Rattle.log.specs.Recovery as disk
 use Rattle.log.proofs.RecoveryLaws as log
 use Rattle.turn.specs.declared.state.Limits.{Limits}
-use Rattle.rail.specs.Rail.{Call, admit, turn, reply, sync, close, Did, callOf, World, step, run}
+use Rattle.front.specs.Answers.{Did}
+use Rattle.rail.specs.Rail.{Call, admit, turn, reply, sync, close, callOf, World, step, run}
 use Rattle.rail.specs.Rail.{accepted, orderIn, SizeIs, KeepsTail, CallKeepsTail, OrderFits, CallOrderFits}
 use Rattle.rail.proofs.Invariant.{Steady}
 use Rattle.rail.proofs.After.{orderOf, Ends, turned, took, ends-steady}

@@ -10,9 +10,10 @@ use Rattle.lists.specs.Links.{Table}
 use Rattle.log.specs.Opening.{allFit, Read, opening, opened, nothingRead, readFile, readLines, judge}
 use Rattle.log.proofs.OpenLaws.{sized-true}
 use Rattle.setup.specs.Settings.{settingsFit, numbersFit, within, rowsFit, rowFits, allBytes}
-use Rattle.door.specs.Open.{noLeft}
-use Rattle.rail.specs.Rail.{Lent, Accepts}
-use Rattle.rail.proofs.Opened.{tables-true, Taken}
+use Rattle.front.specs.Refusals.{Lent}
+use Rattle.rail.specs.Rail.{Accepts}
+use Rattle.rail.proofs.Refusals.{Taken}
+use Rattle.rail.proofs.Opened.{tables-true}
 use Rattle.rail.proofs.Opening.{is-accepted}
 
 -- a table of n rows
@@ -47,10 +48,9 @@ taken-with bytes size r least most file reads =
     record {
       fit = refl;
       tables =
-          tables-true (length (l .groups)) (length (l .links)) (length (l .rows)) (length (l .keys))
-          (length (l .actors)) (rows-are 8) (rows-are 262) (rows-are 256) (rows-are 34) (rows-are 128);
+          tables-true l (rows-are 8) (rows-are 262) (rows-are 256) (rows-are 34) (rows-are 128);
       sizes =
-          sized-true (length bytes) size (length (l .store)) (length (l .records)) (length noLeft)
+          sized-true (length bytes) size (length (l .store)) (length (l .records)) 256
           (record {
             least = least;
             most = most;

@@ -6,19 +6,20 @@ use Rattle.lists.specs.Family.{count}
 use Rattle.log.specs.declared.LogId.{LogId}
 use Rattle.log.specs.declared.Order.{Order}
 use Rattle.log.specs.Opening.{remove}
-use Rattle.log.specs.Log.{state}
 use Rattle.log.specs.Recovery as disk
 use Rattle.log.proofs.RecoveryLaws as log
 use Rattle.turn.specs.declared.state.What.the-variants as what
 use Rattle.turn.specs.declared.state.Disk.{Disk}
 use Rattle.turn.specs.declared.state.Disk.the-variants as order
 use Rattle.turn.specs.declared.state.Limits.{Limits}
-use Rattle.turn.specs.Step.{Work}
-use Rattle.places.specs.Places.{stands, Sound}
+use Rattle.turn.specs.State.{State, walOf}
+use Rattle.places.specs.Places.{stands}
 use Rattle.keeping.specs.Keeping.{AtOk}
-use Rattle.keeping.specs.Living.{Lives, AtLives}
+use Rattle.keeping.specs.Living.{AtLives}
+use Rattle.keeping.proofs.Turn.{StateSound}
+use Rattle.keeping.proofs.LivingTurn.{StateLives}
 use Rattle.handing.specs.Handing.{idsOf}
-use Rattle.rail.specs.Rail.{State, World, KeepsTail}
+use Rattle.rail.specs.Rail.{World, KeepsTail}
 
 -- the pool's disk and the journal's say the same
 abbrev pub Agrees : Disk → disk.Status → List ℕ → Type 0
@@ -34,49 +35,36 @@ pub record Ledger (j : disk.World) (next : ℕ) (logged done : List ℕ) : Type 
   pub once : (x : ℕ) → count x logged ≤ 1
   pub below : (x : ℕ) → 0 < count x logged → x < j .wal .counters .next
 
--- a turn's work with the journal beside it: sound lists; each id stands as often as it is logged and not done; who
--- holds a message lives; the log of the journal; the disk
-pub record Working (long : ℕ) (j : disk.World) (w : Work) : Type 0 where
-  pub sound : Sound (w .links) (w .rows) (w .turn .counts .queued)
-  pub ids : (x : ℕ) → stands x (w .links) (w .rows) ≡ count x (idsOf (j .now))
-  pub ok : AtOk (w .turn .at) (w .links)
-  pub lives : Lives (w .links) (w .keys) (w .actors)
-  pub here : AtLives (w .turn .at) (w .links) (w .keys) (w .actors)
-  pub wal : j .wal ≡ state (w .bytes) (w .records) (w .turn .log)
-  pub agrees : Agrees (w .turn .disk) (j .disk .status) (w .bytes)
+-- a state with the journal beside it: sound lists; each id stands as often as it is logged and not done; who holds a
+-- message lives; the log of the journal; the disk
+pub record Working (long : ℕ) (j : disk.World) (s : State) : Type 0 where
+  pub sound : StateSound s
+  pub ids : (x : ℕ) → stands x (s .links) (s .rows) ≡ count x (idsOf (j .now))
+  pub ok : AtOk (s .pool .turn .at) (s .links)
+  pub lives : StateLives s
+  pub here : AtLives (s .pool .turn .at) (s .links) (s .keys) (s .actors)
+  pub wal : j .wal ≡ walOf s
+  pub agrees : Agrees (s .pool .turn .disk) (j .disk .status) (s .bytes)
   pub journal : log.Sound long j
 
 -- the journal after the order of a mark
-abbrev pub markedOff : disk.World → Work → Order → LogId → disk.World
-markedOff j w o id =
-    disk.issue j (state (w .bytes) (w .records) (w .turn .log)) (remove (id .0) (j .now)) (disk.sent (w .bytes) o)
+abbrev pub markedOff : disk.World → State → Order → LogId → disk.World
+markedOff j s o id = disk.issue j (walOf s) (remove (id .0) (j .now)) (disk.sent (s .bytes) o)
 
 -- the log's bytes at and after its size are those given
-abbrev pub TailKept : List ℕ → Work → Type 0
-TailKept bytes w = KeepsTail (w .turn .log .size) bytes (w .bytes)
+abbrev pub TailKept : List ℕ → State → Type 0
+TailKept bytes s = KeepsTail (s .pool .turn .log .size) bytes (s .bytes)
 
 -- how a run ended: with no order, or with the mark of a message that was logged and not done, the log's bytes behind
 -- its new size as they were
-pub data Runs (long : ℕ) (j : disk.World) (w : Work) : Type 0 where
-  still : w .turn .disk ≡ order.Free → Working long j w → Runs long j w
-  marks : (o : Order) (id : LogId) → w .turn .disk ≡ order.Waits o (what.Mark id) → 0 < count (id .0) (idsOf (j .now))
-      → w .turn .log .next ≡ j .wal .counters .next → TailKept (j .wal .bytes) w → Working long (markedOff j w o id) w
-      → Runs long j w
-
--- the state as a turn's work
-abbrev pub workIn : State → Work
-workIn s = record {
-  turn = s .pool .turn;
-  bytes = s .bytes;
-  records = s .records;
-  links = s .links;
-  rows = s .rows;
-  keys = s .keys;
-  actors = s .actors;
-}
+pub data Runs (long : ℕ) (j : disk.World) (s : State) : Type 0 where
+  still : s .pool .turn .disk ≡ order.Free → Working long j s → Runs long j s
+  marks : (o : Order) (id : LogId) → s .pool .turn .disk ≡ order.Waits o (what.Mark id)
+      → 0 < count (id .0) (idsOf (j .now)) → s .pool .turn .log .next ≡ j .wal .counters .next
+      → TailKept (j .wal .bytes) s → Working long (markedOff j s o id) s → Runs long j s
 
 -- what holds after every list of calls
 pub record Steady (long : ℕ) (limits : Limits) (w : World) : Type 0 where
-  pub works : Working long (w .journal) (workIn (w .state))
+  pub works : Working long (w .journal) (w .state)
   pub ledger : Ledger (w .journal) (w .next) (w .logged) (w .done)
   pub limits-are : w .state .pool .limits ≡ limits

@@ -15,7 +15,8 @@ use Rattle.lists.proofs.Counts.{count-same, count-other}
 use Rattle.log.specs.Opening.{remove}
 use Rattle.places.specs.Places.{stands}
 use Rattle.handing.specs.Handing.{idsOf}
-use Rattle.rail.specs.Rail.{State, isPlaced, inPlaces, outOfPlaces}
+use Rattle.turn.specs.State.{State}
+use Rattle.rail.specs.Rail.{isPlaced, inPlaces, outOfPlaces}
 use Rattle.rail.proofs.Ids.{gone-same, gone-other}
 
 -- a message that stands in a place is kept, one that stands in none is out

@@ -11,6 +11,7 @@ pub mod Shown
 pub mod Refused
 pub mod Calls
 pub mod Loaded
+pub mod Refusals
 pub mod Opened
 pub mod Opening
 pub mod Instance

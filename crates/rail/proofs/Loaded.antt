@@ -1,249 +1,131 @@
 -- An accepted admission is for a program that is loaded, and one that is refused with 17 is not (statements:
--- specs/Rail.antt). The message stands in the entry that was the first free one, since the body store keeps its length.
--- Assumes nothing.
+-- specs/Rail.antt). The message stands in the entry that was the first free one, since the body store keeps its
+-- length. Assumes nothing.
 use mathlib.Core.Path.{_≡_, refl, sym, ap, _∙_, subst}
-use mathlib.Core.Bool.{Bool, true, false}
+use mathlib.Core.Bool.{true, false, false≢true, not}
+use mathlib.Core.Logic.{_⊎_, inl, inr}
 use mathlib.Core.List.{List, [], _∷_, _++_}
 use Prim.Native.Nat.{ℕ, _≤_, _<_}
 use native.Mathlib.Omega.{arith}
-use borrow.Author.Tests.{eqb-false}
-use lib.Dec.{eqb, ltb, leb}
-use lib.ListN.{length, take}
+use borrow.Author.Tests.{eqb-false, not-true}
+use lib.ListN.{length, take, drop}
 use Rattle.lists.specs.declared.Found.the-variants.{Entry}
 use Rattle.lists.specs.Links.{Table, FREE, lenOf, firstOf, moveFirst}
 use Rattle.lists.specs.Family.{view, firstIn, Moved}
 use Rattle.lists.proofs.Family.{length-view, first-is, count-at, entry}
 use Rattle.lists.proofs.Moves.{move-first}
-use Rattle.log.specs.declared.Refusal as of-log
-use Rattle.log.specs.declared.Refusal.the-variants as log-refusal
+use Rattle.log.specs.declared.Order.{Order}
 use Rattle.log.specs.Log as log
 use Rattle.log.specs.Recovery as disk
 use Rattle.actor.specs.declared.message.Caller.{Caller}
 use Rattle.actor.specs.declared.message.Caller.the-variants as caller
 use Rattle.actor.specs.declared.message.Logged.{Logged}
 use Rattle.actor.specs.declared.message.Logged.the-variants as id
-use Rattle.actor.specs.declared.question.Asked.{Asked}
-use Rattle.actor.specs.declared.question.Asked.the-variants as asked
 use Rattle.actor.specs.declared.question.Reply.{Reply}
-use Rattle.actor.specs.Questions.{fitsOf}
 use Rattle.group.specs.Settings.{loadedIn}
-use Rattle.setup.specs.Entry.{Kept, storeEntry, keepAt, keepOf}
+use Rattle.routing.specs.Intake.{INBOX, PENDING}
+use Rattle.setup.specs.Entry.{Messages, Arrival, keepAt, keepOf}
 use Rattle.setup.proofs.Parts.{keep-long}
 use Rattle.places.specs.Places.{Sound}
 use Rattle.places.proofs.Steps.{pick-rule}
-use Rattle.turn.specs.declared.state.Disk.{Disk}
-use Rattle.turn.specs.declared.state.Disk.the-variants as order
-use Rattle.turn.specs.Asks.{asksIn}
-use Rattle.front.specs.declared.state.Pool.{Pool}
-use Rattle.front.specs.declared.state.Answer.{Answer}
-use Rattle.front.specs.declared.state.Answer.the-variants as answer
-use Rattle.front.specs.declared.state.Refusal.{Refusal}
-use Rattle.front.specs.declared.state.Refusal.the-variants as refusal
-use Rattle.front.specs.declared.state.Refusal.the-variants.{NotLoaded}
-use Rattle.front.specs.declared.state.Check.{Check}
-use Rattle.front.specs.declared.state.Check.the-variants as check
-use Rattle.front.specs.State.{lengthCheck, logRefusal}
+use Rattle.turn.specs.State.{State, walOf, withPool}
+use Rattle.turn.specs.Step.{advanced}
+use Rattle.keeping.proofs.Turn.{StateSound}
+use Rattle.front.specs.declared.answer.Answer.{Answer}
+use Rattle.front.specs.declared.answer.Answer.the-variants as answer
+use Rattle.front.specs.declared.answer.Refusal.the-variants.{NotLoaded}
+use Rattle.front.specs.declared.refusals.Check.the-variants as check
+use Rattle.front.specs.Answers.{Did, shown, messagesOf, kept}
+use Rattle.front.specs.Refusals.{judged, noEntryFree, inTurn, isMessage, admitRefusalsFirst, admitRefusalsLogged}
+use Rattle.front.specs.Refusals.{admitRefusals, turnRefusals, replyRefusals, syncRefusals, closeRefusals}
 use Rattle.door.specs.Admit as door
-use Rattle.door.specs.Admit.{INBOX}
-use Rattle.door.specs.Loaded.{Routes}
+use Rattle.door.specs.Loaded.{LoadedAt}
 use Rattle.door.proofs.Names.{kept-loaded, unloaded-lost}
+use Rattle.pool.specs.declared.calls.StoredIn.{StoredIn}
+use Rattle.pool.specs.declared.calls.StoredIn.the-variants as stored
+use Rattle.pool.specs.Run.{runOf}
 use Rattle.pool.specs.Calls as one
-use Rattle.rail.specs.Rail.{State, Call, admit, turn, reply, sync, close, Did, didAdmit, callOf}
-use Rattle.rail.specs.Rail.{Shown, nothing, shows, orderOpen, accepted, World, ordered, answered, stepBy, step}
-use Rattle.rail.specs.Rail.{run, ComesLoaded, AcceptsLoaded, RefusesUnloaded}
-use Rattle.rail.proofs.After.{shown-rule}
-use Rattle.rail.proofs.Shown.{never}
-use Rattle.rail.proofs.Admit.{fine-lengths, Fine, fine-check, Appends, away, out, append-ends}
+use Rattle.rail.specs.Rail.{Call, admit, turn, reply, sync, close, callOf, Shown, nothing, shows, orderOpen}
+use Rattle.rail.specs.Rail.{accepted, World, ordered, answered, stepBy, step, run}
+use Rattle.rail.specs.Rail.{ComesLoaded, AcceptsLoaded, RefusesUnloaded}
+use Rattle.rail.proofs.After.{answered-rule, table-rule}
+use Rattle.rail.proofs.Running.{Lasting, lastingOf, Aside, run-lasting}
+use Rattle.rail.proofs.Shown.{resumed-aside}
+use Rattle.rail.proofs.Refusals.{Says, refuse-says, Fine, fine-check, short-both, fine-appends, by-the-table}
 
--- ---- when 17 is given
-
--- 17: name and body fit, and the program is not loaded
-record Unloaded (isLoaded : Bool) (name : ℕ) : Type 0 where
-  pub short-name : name ≤ 32
-  pub not-loaded : isLoaded ≡ false
-
--- 5 is another refusal
-not-too-long : (n m : ℕ) → lengthCheck n m ≡ check.Refuse NotLoaded → ⊥
-unfolding lengthCheck
-not-too-long n m is = go (ltb 32 n) refl (ltb 128 m) refl
-  where
-    go : (a : Bool) → ltb 32 n ≡ a → (b : Bool) → ltb 128 m ≡ b → ⊥
-    go true e b f = let z : _≡_ {A = ℕ} 0 1 = cc in omega arith
-    go false e true f = let z : _≡_ {A = ℕ} 0 1 = cc in omega arith
-    go false e false f = let z : _≡_ {A = ℕ} 0 1 = cc in omega arith
-
--- 6, 7 and 8 are other refusals
-room-unloaded : (p : Pool) (t : Table) (c : Check) → door.roomCheck p t c ≡ check.Refuse NotLoaded
-    → c ≡ check.Refuse NotLoaded
-room-unloaded p t (check.Refuse r) is = is
-room-unloaded p t check.Fine is = go (leb (p .limits .inbox) (lenOf t INBOX)) refl (p .closed) refl
-    (eqb (lenOf t FREE) 0) refl
-  where
-    go : (a : Bool) → leb (p .limits .inbox) (lenOf t INBOX) ≡ a → (b : Bool) → p .closed ≡ b → (c : Bool)
-        → eqb (lenOf t FREE) 0 ≡ c
-        → _≡_ {A = Check} check.Fine (check.Refuse NotLoaded)
-    go true e b f c g = let z : _≡_ {A = ℕ} 0 1 = cc in absurd (omega arith)
-    go false e true f c g = let z : _≡_ {A = ℕ} 0 1 = cc in absurd (omega arith)
-    go false e false f true g = let z : _≡_ {A = ℕ} 0 1 = cc in absurd (omega arith)
-    go false e false f false g = let z : _≡_ {A = ℕ} 0 1 = cc in absurd (omega arith)
-
-unloaded-check : (p : Pool) (t : Table) (isLoaded : Bool) (name body : ℕ)
-    → door.admitCheck p t isLoaded name body ≡ check.Refuse NotLoaded → Unloaded isLoaded name
-unfolding door.admitCheck
-unloaded-check p t isLoaded name body is =
-    go (lengthCheck name body) refl isLoaded refl
-    (room-unloaded p t (door.loadedCheck isLoaded (lengthCheck name body)) is)
-  where
-    go : (c : Check) → lengthCheck name body ≡ c → (b : Bool) → isLoaded ≡ b
-        → door.loadedCheck b c ≡ check.Refuse NotLoaded → Unloaded isLoaded name
-    go (check.Refuse r) e b f gone = absurd (not-too-long name body (e ∙ gone))
-    go check.Fine e true f gone = let z : _≡_ {A = ℕ} 0 1 = cc in absurd (omega arith)
-    go check.Fine e false f gone = record { short-name = fine-lengths name body e .0; not-loaded = f }
-
--- the log's refusals are others
-log-other : (r : of-log.Refusal) → logRefusal r ≡ NotLoaded → ⊥
-log-other log-refusal.Sizes e = let z : _≡_ {A = ℕ} 0 1 = cc in omega arith
-log-other log-refusal.LastId e = let z : _≡_ {A = ℕ} 0 1 = cc in omega arith
-log-other log-refusal.TooMuch e = let z : _≡_ {A = ℕ} 0 1 = cc in omega arith
-log-other log-refusal.TooLong e = let z : _≡_ {A = ℕ} 0 1 = cc in omega arith
-log-other log-refusal.Full e = let z : _≡_ {A = ℕ} 0 1 = cc in omega arith
-log-other log-refusal.NoId e = let z : _≡_ {A = ℕ} 0 1 = cc in omega arith
-log-other log-refusal.NoRoom e = let z : _≡_ {A = ℕ} 0 1 = cc in omega arith
-
--- ---- what an admission does
+-- ---- what an admission leaves
 
 module _ (s : State) (name body : List ℕ) where
-  abbrev p : Pool
-  p = s .pool
+  -- 17: the name fits, and the program is not loaded
+  unloaded-check : (who : Caller) → judged (admitRefusals s name body who) ≡ check.Refuse NotLoaded
+      → (length name ≤ 32) × (loadedIn (s .groups) name (s .pool .limits .groups) ≡ false)
+  unfolding admitRefusalsFirst admitRefusalsLogged
+  unloaded-check who is =
+      let says = refuse-says (admitRefusals s name body who) NotLoaded is in
+      (short-both name body (says .1 .1 .0) .0, go (says .1 .1 .1))
+    where
+      go : (not (loadedIn (s .groups) name (s .pool .limits .groups)) ≡ true)
+          ⊎ Says 17 (drop 4 (admitRefusals s name body who))
+          → loadedIn (s .groups) name (s .pool .limits .groups) ≡ false
+      go (inl e) = not-true _ e
+      go (inr others) = absurd (others .1 .1 .1 .1 .1 .1)
 
-  abbrev v : log.Wal
-  v = log.state (s .bytes) (s .records) (p .turn .log)
+  abbrev comer : Caller → Logged → Arrival
+  comer who l = record { name = name; body = body; caller = who; id = l }
 
-  abbrev isLoaded : Bool
-  isLoaded = loadedIn (s .groups) name (p .limits .groups)
-
-  abbrev kept : Caller → Logged → Kept
-  kept who id = keepOf (s .store) (s .links) (s .rows) name body who id INBOX
-
-  -- the state has a message more; groups and limits are as they were
-  record More (k : Kept) (s′ : State) : Type 0 where
-    pub store : s′ .store ≡ k .store
-    pub links : s′ .links ≡ k .links
-    pub rows : s′ .rows ≡ k .rows
-    pub groups : s′ .groups ≡ s .groups
-    pub limits : s′ .pool .limits ≡ p .limits
-
-  -- it is refused, and with 17 only where the program is not loaded; or its message is kept
-  data Admits (d : Did) : Type 0 where
-    refuses : (r : Refusal) → d .answer ≡ answer.Refused r → d .state .store ≡ s .store
-        → (r ≡ NotLoaded → Unloaded isLoaded (length name)) → Admits d
-    keeps : (who : Caller) (id : Logged) → Fine (s .links) isLoaded (length name) (length body)
-        → accepted (d .answer) ≡ true → More (kept who id) (d .state) → Admits d
-
-  module _ (fine : Fine (s .links) isLoaded (length name) (length body)) where
-    logged-admits : (d : log.Did) → Appends v d
-        → Admits (didAdmit s (door.loggedDid p (s .store) (s .links) (s .rows) name body d))
-    logged-admits d (away r is) =
-        subst (λ e. Admits (didAdmit s (door.loggedDid p (s .store) (s .links) (s .rows) name body e))) (sym is)
-        (refuses (logRefusal r) refl refl (λ same. absurd (log-other r same)))
-    logged-admits d (out o is next) =
-        subst (λ a. Admits (didAdmit s (door.loggedBy p (s .store) (s .links) (s .rows) name body d a))) (sym is)
-        (shown-rule
-        (λ told. Admits (didAdmit s (door.admittedBy (d .wal .bytes) (d .wal .table) (kept caller.Nobody new) told)))
-        _ _ _
-        (λ a taken. keeps caller.Nobody new fine taken
-        (record { store = refl; links = refl; rows = refl; groups = refl; limits = refl })))
-      where
-        new : Logged
-        new = id.As (door.nextId (p .turn .log))
-
-    fit-admits : (who : Caller)
-        → Admits
-        (didAdmit s (door.admitFit p (s .bytes) (s .records) (s .store) (s .links) (s .rows) name body who))
-    unfolding door.admitFit door.admitLogged
-    fit-admits (caller.From who) =
-        shown-rule
-        (λ told. Admits
-        (didAdmit s (door.admittedBy (s .bytes) (s .records) (kept (caller.From who) id.Never) told)))
-        _ _ _
-        (λ a taken. keeps (caller.From who) id.Never fine taken
-        (record { store = refl; links = refl; rows = refl; groups = refl; limits = refl }))
-    fit-admits caller.Nobody = logged-admits (log.appendOf v name body) (append-ends v name body)
-
-  checked-admits : (who : Caller) (k : Check) → door.admitCheck p (s .links) isLoaded (length name) (length body) ≡ k
-      → Admits
-      (didAdmit s (door.admitChecked p (s .bytes) (s .records) (s .store) (s .links) (s .rows) name body who k))
-  checked-admits who (check.Refuse r) is =
-      refuses r refl refl
-      (λ same. unloaded-check p (s .links) isLoaded (length name) (length body) (is ∙ ap check.Refuse same))
-  checked-admits who check.Fine is =
-      fit-admits (fine-check p (s .links) isLoaded (length name) (length body) is) who
-
-  in-admits : (who : Caller) (d : Disk)
-      → Admits
-      (didAdmit s
-      (door.admitIn p (s .bytes) (s .records) (s .store) (s .groups) (s .links) (s .rows) name body who d))
-  unfolding door.admitFree
-  in-admits who order.Free =
-      checked-admits who (door.admitCheck p (s .links) isLoaded (length name) (length body)) refl
-  in-admits who (order.Waits o for) =
-      refuses refusal.OrderWaits refl refl (λ same. let z : _≡_ {A = ℕ} 0 1 = cc in absurd (omega arith))
-  in-admits who order.Failed =
-      refuses refusal.StoreFailed refl refl (λ same. let z : _≡_ {A = ℕ} 0 1 = cc in absurd (omega arith))
-
-  admit-does : (who : Caller) → Admits (callOf s (admit name body who))
-  unfolding callOf door.admitOf
-  admit-does who = in-admits who (p .turn .disk)
+  -- where no line holds the message is kept, and with it the log's order, if nobody waits
+  effect-rule : (P : State → Type 0) (who : Caller) → judged (admitRefusals s name body who) ≡ check.Fine
+      → ((l : Logged) → P (kept s (comer who l) INBOX))
+      → ((l : Logged) (d : log.DidAppend) (o : Order) → P (kept (door.recorded s d o) (comer who l) INBOX))
+      → P (door.admitEffect s name body who .state)
+  unfolding door.admitCalled door.admitLogged door.loggedBy shown
+  effect-rule P (caller.From who) fine plain logs = plain id.Never
+  effect-rule P caller.Nobody fine plain logs =
+      let d = log.appendOf (walOf s) name body in
+      subst (λ a. P (door.loggedIn s name body d a .state)) (sym (fine-appends s name body fine .answer-is))
+      (logs (id.As (door.nextId s)) d (fine-appends s name body fine .order))
 
 -- ---- the body store keeps its length
 
+run-stored : (s : State) → runOf s .state .store ≡ s .store
+unfolding runOf
+run-stored s =
+    answered-rule (λ d. d .state .store ≡ s .store) (advanced s)
+    (λ a ok. ap (λ (l : Lasting). l .store) (run-lasting (lastingOf s) s refl))
+
 module _ (s : State) where
-  abbrev Long : List ℕ → Type 0
-  Long store = length store ≡ length (s .store)
+  abbrev Long : Did → Type 0
+  Long d = length (d .state .store) ≡ length (s .store)
 
-  module _ (name body : List ℕ) where
-    admit-long : (d : Did) → Admits s name body d → Long (d .state .store)
-    admit-long d (refuses r is same why) = ap length same
-    admit-long d (keeps who id fine taken more) =
-        ap length (more .store) ∙ keep-long (s .store) (s .links) (s .rows) name body who id INBOX
+  reply-long : (r : Reply) (name body : List ℕ) (x : StoredIn) → Long (one.replyBy s r name body x)
+  unfolding one.storedOf one.failedOf one.sentOf one.resumedOf shown
+  reply-long r name body stored.Stored =
+      pick-rule Long (inTurn (s .pool .turn .at)) (λ e. ap length (run-stored (one.freed s))) (λ e. refl)
+  reply-long r name body stored.Failed = refl
+  reply-long r name body stored.Other =
+      pick-rule Long (isMessage r) (λ e. keep-long (messagesOf s) (comer s name body caller.Nobody id.Never) PENDING)
+      (λ e. ap length (run-stored (one.resumeAt s r) ∙ ap (λ (a : Aside). a .lasting .store) (resumed-aside s r)))
 
-    sent-long : (k : Check) → Long (one.sentBy (s .pool) (s .store) (s .links) (s .rows) name body k .store)
-    sent-long (check.Refuse r) = refl
-    sent-long check.Fine = keep-long (s .store) (s .links) (s .rows) name body _ _ _
-
-    abbrev Replies : one.Replied → Type 0
-    Replies r = Long (r .store)
-
-    asked-long : (r : Reply) (a : Asked)
-        → Replies
-        (one.askedReply (s .pool) (s .bytes) (s .records) (s .store) (s .groups) (s .links) (s .rows) (s .keys)
-        (s .actors) r name body a)
-    unfolding one.openReply one.fitReply one.sentOf
-    asked-long r (asked.Open q) =
-        pick-rule Replies (fitsOf q r)
-        (λ e. pick-rule Replies (one.isMessage r)
-        (λ f. sent-long (one.sentCheck (s .links) (length name) (length body)))
-        (λ f. refl))
-        (λ e. refl)
-    asked-long r asked.Nothing = refl
-
-    reply-long : (r : Reply) (d : Disk)
-        → Replies
-        (one.replyIn (s .pool) (s .bytes) (s .records) (s .store) (s .groups) (s .links) (s .rows) (s .keys)
-        (s .actors) r name body d)
-    unfolding one.turnReply
-    reply-long r order.Free =
-        asked-long r (asksIn (s .pool .turn .disk) (s .pool .turn .at) (s .links) (s .rows))
-    reply-long r (order.Waits o for) = refl
-    reply-long r order.Failed = refl
-
-  call-long : (c : Call) → Long (callOf s c .state .store)
-  unfolding callOf one.replyOf
-  call-long (admit name body who) = admit-long name body (callOf s (admit name body who)) (admit-does s name body who)
-  call-long turn = refl
-  call-long (reply r name body) = reply-long name body r (s .pool .turn .disk)
-  call-long sync = refl
-  call-long close = refl
+  call-long : (c : Call) → Long (callOf s c)
+  unfolding callOf door.admitOf one.turnOf one.replyOf one.replyEffect one.syncOf one.closeOf shown
+  call-long (admit name body who) =
+      table-rule Long s (judged (admitRefusals s name body who)) (door.admitEffect s name body who) (λ r. refl)
+      (λ fine. effect-rule s name body (λ s′. length (s′ .store) ≡ length (s .store)) who fine
+      (λ l. keep-long (messagesOf s) (comer s name body who l) INBOX)
+      (λ l d o. keep-long (messagesOf s) (comer s name body who l) INBOX))
+  call-long turn =
+      let begun = withPool s (one.begunOf (s .pool)) in
+      table-rule Long s (judged (turnRefusals (s .pool))) (runOf begun) (λ r. refl)
+      (λ fine. ap length (run-stored begun))
+  call-long (reply r name body) =
+      table-rule Long s (judged (replyRefusals s r name body)) (one.replyEffect s r name body) (λ x. refl)
+      (λ fine. reply-long r name body (one.storedIn r))
+  call-long sync =
+      table-rule Long s (judged (syncRefusals (s .pool))) (shown (withPool s (one.syncEffect (s .pool)))) (λ r. refl)
+      (λ fine. refl)
+  call-long close =
+      table-rule Long s (judged (closeRefusals (s .pool))) (shown (withPool s (one.closedPool (s .pool))))
+      (λ r. refl) (λ fine. refl)
 
 -- the state after a call is what the call made of it, whatever is ordered
 ordered-state : (w : World) (c : Call) (s : State) (j : disk.World) (o : Shown) → ordered c w s j o .state ≡ s
@@ -274,7 +156,7 @@ record First (t : Table) : Type 0 where
   pub alone : take 1 (view t FREE) ≡ entry ∷ []
   pub inside : entry < 256
 
-first-free : (t rows : Table) (q : ℕ) → Sound t rows q → eqb (lenOf t FREE) 0 ≡ false → First t
+first-free : (t rows : Table) (q : ℕ) → Sound t rows q → noEntryFree t ≡ false → First t
 first-free t rows q sound room = go (view t FREE) refl
   where
     go : (free : List ℕ) → view t FREE ≡ free → First t
@@ -286,50 +168,46 @@ first-free t rows q sound room = go (view t FREE) refl
       inside = entry t (sound .good) e FREE (omega arith) (rw is (count-at (e ∷ es) 0 (omega arith)));
     }
 
-module _ (s : State) (q : ℕ) (sound : Sound (s .links) (s .rows) q) (long : length (s .store) ≡ 40960)
-    (name body : List ℕ) where
-  module _ (fine : Fine (s .links) (isLoaded s name body) (length name) (length body)) where
-    first : First (s .links)
-    first = first-free (s .links) (s .rows) q sound (fine .room)
+module _ (s : State) (sound : StateSound s) (long : length (s .store) ≡ 40960) (name body : List ℕ) where
+  -- the message is the last of the inbox, and its program is loaded
+  record Comes (m : Messages) : Type 0 where
+    pub entry : ℕ
+    pub last : view (m .links) INBOX ≡ view (s .links) INBOX ++ (entry ∷ [])
+    pub loaded : LoadedAt (s .groups) (s .pool .limits .groups) (m .store) (m .rows) entry
 
-    -- the inbox with the message at its end
-    inbox-is : (who : Caller) (id : Logged)
-        → view (kept s name body who id .links) INBOX ≡ view (s .links) INBOX ++ (first .entry ∷ [])
-    unfolding keepOf keepAt
-    inbox-is who id =
-        let moved : Moved (s .links) FREE INBOX 1 (moveFirst (s .links) FREE INBOX) = move-first (record {
-          good = sound .good;
-          from-is = omega arith;
-          to-is = omega arith;
-          apart = λ e. omega arith;
-        }) in
-        rw (first .is) (moved .joined ∙ ap (λ l. view (s .links) INBOX ++ l) (first .alone))
-
-    more-comes : (who : Caller) (id : Logged) (s′ : State) → More s name body (kept s name body who id) s′
-        → ComesLoaded s s′
-    more-comes who id s′ more = record {
-      entry = first .entry;
-      last = ap (λ t. view t 1) (more .links) ∙ inbox-is who id;
-      loaded =
-          rw (more .limits, more .store, more .groups, more .rows)
-          (kept-loaded (s .groups) (s .pool .limits .groups) name (s .store) (s .links) (s .rows) body who id INBOX
-          (first .entry) long (sound .sized) (first .inside) (fine .short-name) (first .is) (fine .loaded));
-    }
+  kept-comes : Fine s name body → (who : Caller) (l : Logged)
+      → Comes (keepOf (messagesOf s) (comer s name body who l) INBOX)
+  unfolding keepOf keepAt
+  kept-comes fine who l =
+      let first = first-free (s .links) (s .rows) (s .pool .turn .counts .queued) sound (fine .room) in
+      let moved : Moved (s .links) FREE INBOX 1 (moveFirst (s .links) FREE INBOX) = move-first (record {
+        good = sound .good;
+        from-is = omega arith;
+        to-is = omega arith;
+        apart = λ e. omega arith;
+      }) in
+      record {
+        entry = first .entry;
+        last = rw (first .is) (moved .joined ∙ ap (λ l. view (s .links) INBOX ++ l) (first .alone));
+        loaded =
+            kept-loaded (s .groups) (s .pool .limits .groups) name (messagesOf s) body who l INBOX (first .entry) long
+            (sound .sized) (first .inside) (fine .short-name) (first .is) (fine .loaded);
+      }
 
   pub admit-comes : (who : Caller) → AcceptsLoaded s name body who
-  admit-comes who = go (callOf s (admit name body who)) (admit-does s name body who)
-    where
-      go : (d : Did) → Admits s name body d → accepted (d .answer) ≡ true → ComesLoaded s (d .state)
-      go d (refuses r is same why) ok = absurd (never (sym (ap accepted is) ∙ ok))
-      go d (keeps to id fine taken more) ok = more-comes fine to id (d .state) more
+  unfolding callOf door.admitOf
+  admit-comes who =
+      table-rule (λ d. accepted (d .answer) ≡ true → ComesLoaded s (d .state)) s
+      (judged (admitRefusals s name body who)) (door.admitEffect s name body who)
+      (λ r ok. absurd (false≢true ok))
+      (λ is ok.
+      let came = kept-comes (fine-check s name body who is) who in
+      effect-rule s name body (ComesLoaded s) who is
+      (λ l. record { entry = came l .entry; last = came l .last; loaded = came l .loaded })
+      (λ l d o. record { entry = came l .entry; last = came l .last; loaded = came l .loaded }))
 
   pub admit-away : (who : Caller) → RefusesUnloaded s name body who
-  admit-away who = go (callOf s (admit name body who)) (admit-does s name body who)
-    where
-      go : (d : Did) → Admits s name body d → d .answer ≡ answer.Refused NotLoaded → (e : ℕ) → e < 256
-          → Routes (s .groups) (s .pool .limits .groups) (storeEntry (s .store) e name body) e (length name) → ⊥
-      go d (refuses r is same why) gone e inside routed =
-          let none = why (let it : r ≡ NotLoaded = cc in it) in
-          unloaded-lost (s .groups) (s .pool .limits .groups) name (s .store) body e long inside (none .short-name)
-          (none .not-loaded) routed
-      go d (keeps to id fine taken more) gone e inside routed = never (sym (ap accepted gone) ∙ taken)
+  unfolding callOf
+  admit-away who gone e inside routed =
+      let none = unloaded-check s name body who (by-the-table .admits s name body who .only NotLoaded gone) in
+      unloaded-lost (s .groups) (s .pool .limits .groups) name (s .store) body e long inside (none .0) (none .1) routed

@@ -24,7 +24,7 @@ use Rattle.log.specs.Stands.{Stands}
 use Rattle.log.proofs.OpeningLaws.{and-right, judge-opened, readLines-in-order}
 use Rattle.log.proofs.TabledLaws.{small-few}
 use Rattle.log.proofs.StoreLaws.{stored-long}
-use Rattle.log.proofs.OpenLaws.{Sized, sized-all, sized-true, open-accepts, opened-stands}
+use Rattle.log.proofs.OpenLaws.{Sized, sized-all, sized-true, opened-stands}
 use Rattle.log.proofs.Recovery.{open-tail}
 use Rattle.log.proofs.RecoveryLaws.{ReadBack, sound-reads}
 use Rattle.handing.specs.Handing.{idsOf, Hands}
@@ -32,20 +32,24 @@ use Rattle.handing.proofs.Handing.{hands}
 use Rattle.setup.specs.declared.settings.Settings.{Settings}
 use Rattle.setup.specs.Settings.{settingsFit}
 use Rattle.turn.specs.declared.state.Limits.{Limits}
-use Rattle.door.specs.Open.{PoolOpened, limitsFrom, noLeft}
-use Rattle.rail.specs.Rail.{World, accepted, leftBy, nextFrom, startStatus, orderIn, shows, openState, walOf}
-use Rattle.rail.specs.Rail.{begin, Lent, opens, Accepts, fileIn, handedBack, Follows, Reopens, KeepsTail}
-use Rattle.rail.proofs.Invariant.{Working, Ledger, workIn, Steady}
+use Rattle.turn.specs.State.{walOf}
+use Rattle.front.specs.Answers.{Did}
+use Rattle.front.specs.Refusals.{Lent, fileIn}
+use Rattle.door.specs.Open.{limitsFrom, noLeft, openOf}
+use Rattle.rail.specs.Rail.{World, accepted, leftBy, nextFrom, startStatus, orderIn, shows, begin, Accepts}
+use Rattle.rail.specs.Rail.{handedBack, Follows, Reopens, KeepsTail}
+use Rattle.rail.proofs.Invariant.{Working, Ledger, Steady}
 use Rattle.rail.proofs.Ids.{rising-once, rising-top}
-use Rattle.rail.proofs.Opened.{tables-are, tables-true, Taken, accepted-taken, opensAs, opens-as, start-sound}
+use Rattle.rail.proofs.Refusals.{Taken, log-opens}
+use Rattle.rail.proofs.Opened.{tables-are, tables-true, accepted-taken, opensAs, opens-as, start-sound}
 
 -- the world at the start, with the messages left by the file
-abbrev beginAt : PoolOpened → Table → List ℕ → ℕ → List Message → World
-beginAt o actors file next left = record {
-  state = openState o actors;
+abbrev beginAt : Did → List ℕ → ℕ → List Message → World
+beginAt d file next left = record {
+  state = d .state;
   journal = record {
-    wal = walOf (openState o actors);
-    disk = record { sure = file; since = []; status = startStatus (o .bytes) (orderIn (o .told .answer)) };
+    wal = walOf (d .state);
+    disk = record { sure = file; since = []; status = startStatus (d .state .bytes) (orderIn (d .answer)) };
     moments = left ∷ [];
     now = left;
     firm = 0;
@@ -105,30 +109,25 @@ module _ (l : Lent) (t : Taken l) where
   abbrev left : List Message
   left = t .found .left
 
-  abbrev made : PoolOpened
-  made = opensAs l (t .found)
-
   abbrev start : World
-  start = beginAt made (l .actors) (fileIn l) (t .found .next) left
+  start = beginAt (opensAs l (t .found)) (fileIn l) (t .found .next) left
 
   stands : Stands (disk.walOf (log.openedBy (l .bytes) (l .store) (l .records) noLeft (t .found))) left
   stands = opened-stands (l .bytes) (l .size) (l .store) (l .records) noLeft (t .found) (t .sizes) (t .reads)
 
-  pub lent : Sized (length (l .bytes)) (l .size) (length (l .store)) (length (l .records)) (length noLeft)
-  lent = sized-all (length (l .bytes)) (l .size) (length (l .store)) (length (l .records)) (length noLeft) (t .sizes)
+  pub lent : Sized (length (l .bytes)) (l .size) (length (l .store)) (length (l .records)) 256
+  lent = sized-all (length (l .bytes)) (l .size) (length (l .store)) (length (l .records)) 256 (t .sizes)
 
   sizes : ((length (l .links) ≡ 262) × (length (l .rows) ≡ 256)) × ((length (l .keys) ≡ 34)
       × (length (l .actors) ≡ 128))
-  sizes =
-      tables-are (length (l .groups)) (length (l .links)) (length (l .rows)) (length (l .keys)) (length (l .actors))
-      (t .tables)
+  sizes = tables-are l (t .tables)
 
   given-back : Hands (l .rows) (l .store) left
   given-back =
       hands (l .rows) (l .store) left (sizes .0 .1) (lent .store-is) (small-few left (stands .small))
       (and-right (leb (length left) 256) (allFit left) (stands .small))
 
-  start-works : Working (length (l .bytes)) (start .journal) (workIn (start .state))
+  start-works : Working (length (l .bytes)) (start .journal) (start .state)
   unfolding disk.begin disk.sent
   start-works = record {
     sound = given-back .sound;
@@ -154,29 +153,29 @@ module _ (l : Lent) (t : Taken l) where
   start-steady = record { works = start-works; ledger = start-ledger; limits-are = refl }
 
   pub is-accepted : Accepts l
-  is-accepted = ap (λ o. accepted (o .told .answer)) (opens-as l t)
+  is-accepted = ap (λ (d : Did). accepted (d .answer)) (opens-as l t)
 
-  pub hands-back : handedBack (opens l) ≡ left
-  hands-back = ap handedBack (opens-as l t) ∙ given-back .back
+  pub hands-back : handedBack (openOf l .state) ≡ left
+  hands-back = ap (λ (d : Did). handedBack (d .state)) (opens-as l t) ∙ given-back .back
 
   -- the body store is as long as it was lent
-  pub opens-long : length (opens l .store) ≡ 40960
+  pub opens-long : length (openOf l .state .store) ≡ 40960
   opens-long =
-      ap (λ (o : PoolOpened). length (o .store)) (opens-as l t)
+      ap (λ (d : Did). length (d .state .store)) (opens-as l t)
       ∙ (stored-long left 0 (l .store) (and-right (leb (length left) 256) (allFit left) (stands .small))
       (omega (arith, lent .store-is, small-few left (stands .small)))
       ∙ lent .store-is)
 
   -- its order is a replace
-  pub opens-replacing : orderIn (opens l .told .answer) ≡ shows (Replace (length (image left)))
-  opens-replacing = ap (λ o. orderIn (o .told .answer)) (opens-as l t)
+  pub opens-replacing : orderIn (openOf l .answer) ≡ shows (Replace (length (image left)))
+  opens-replacing = ap (λ (d : Did). orderIn (d .answer)) (opens-as l t)
 
   -- the log's bytes at and after the new size are as they were
-  pub opens-tail : KeepsTail (opens l .told .pool .turn .log .size) (l .bytes) (opens l .bytes)
+  pub opens-tail : KeepsTail (openOf l .state .pool .turn .log .size) (l .bytes) (openOf l .state .bytes)
   opens-tail =
-      subst (λ (o : PoolOpened). KeepsTail (o .told .pool .turn .log .size) (l .bytes) (o .bytes)) (sym (opens-as l t))
-      (subst (λ (o : log.Opened). KeepsTail (o .step .counters .size) (l .bytes) (o .log))
-      (open-accepts (l .bytes) (l .size) (l .store) (l .records) noLeft (t .found) (t .sizes) (t .reads))
+      subst (λ (d : Did). KeepsTail (d .state .pool .turn .log .size) (l .bytes) (d .state .bytes))
+      (sym (opens-as l t))
+      (subst (λ (o : log.Opened). KeepsTail (o .step .counters .size) (l .bytes) (o .log)) (log-opens l t)
       (open-tail (l .bytes) (l .size) (l .store) (l .records) noLeft))
 
 -- what an accepted file leaves has rising ids
@@ -194,10 +193,9 @@ module _ (l : Lent) (t : Taken l) (file : List ℕ) (moments : List (List Messag
     fit = ap (λ (s : Settings). settingsFit s (next .groupsGiven)) (f .settings)
         ∙ (ap (settingsFit (l .settings)) (f .groupsGiven) ∙ t .fit);
     tables =
-        tables-true (length (next .groups)) (length (next .links)) (length (next .rows)) (length (next .keys))
-        (length (next .actors)) (f .groups) (f .links) (f .rows) (f .keys) (f .actors);
+        tables-true next (f .groups) (f .links) (f .rows) (f .keys) (f .actors);
     sizes =
-        sized-true (length (next .bytes)) (next .size) (length (next .store)) (length (next .records)) (length noLeft)
+        sized-true (length (next .bytes)) (next .size) (length (next .store)) (length (next .records)) 256
         (record {
           least = omega (arith, f .bytes, lent l t .least);
           most = omega (arith, f .bytes, lent l t .most);
@@ -225,12 +223,12 @@ module _ (l : Lent) (ok : Accepts l) where
   taken : Taken l
   taken = accepted-taken l ok
 
-  pub open-steady : Steady (length (l .bytes)) (limitsOf l) (begin (opens l) (l .actors) (fileIn l))
+  pub open-steady : Steady (length (l .bytes)) (limitsOf l) (begin (openOf l) (fileIn l))
   open-steady =
-      subst (λ o. Steady (length (l .bytes)) (limitsOf l) (begin o (l .actors) (fileIn l))) (sym (opens-as l taken))
+      subst (λ d. Steady (length (l .bytes)) (limitsOf l) (begin d (fileIn l))) (sym (opens-as l taken))
       (subst
       (λ r. Steady (length (l .bytes)) (limitsOf l)
-      (beginAt (opensAs l (taken .found)) (l .actors) (fileIn l) (nextFrom r) (leftBy r)))
+      (beginAt (opensAs l (taken .found)) (fileIn l) (nextFrom r) (leftBy r)))
       (sym (taken .reads)) (start-steady l taken))
 
   -- whatever file a cut may leave, the next opening finds a moment no earlier than the last confirmed flush or replace

@@ -18,7 +18,9 @@ use Rattle.lists.proofs.Family.{length-view}
 use Rattle.mailboxes.proofs.Chained.{good-chained}
 use Rattle.keeping.specs.Living.{given, Lives}
 use Rattle.keeping.proofs.LivingTurn.{few-hand}
-use Rattle.rail.specs.Rail.{Call, World, Lent, Accepts, opens, fileIn, begin, after, mailboxAt, handAt, Living}
+use Rattle.front.specs.Refusals.{Lent, fileIn}
+use Rattle.door.specs.Open.{openOf}
+use Rattle.rail.specs.Rail.{Call, World, Accepts, begin, after, mailboxAt, handAt, Living}
 use Rattle.rail.specs.Rail.{Reopens, Holds, WholeRail, MailboxesChained, TailsKept, RefusedSame, OrdersFit}
 use Rattle.rail.specs.Rail.{AdmitsLoaded}
 use Rattle.rail.proofs.Invariant.{Steady}
@@ -62,7 +64,7 @@ strange-by n d l s adds ids none = omega arith
 -- after every list of calls the invariant holds
 after-steady : (l : Lent) → Accepts l → (calls : List Call) → Steady (length (l .bytes)) (limitsOf l) (after l calls)
 after-steady l ok calls =
-    run-steady (length (l .bytes)) (limitsOf l) calls (begin (opens l) (l .actors) (fileIn l)) (open-steady l ok)
+    run-steady (length (l .bytes)) (limitsOf l) calls (begin (openOf l) (fileIn l)) (open-steady l ok)
 
 steady-holds : (l : Lent) (limits : Limits) (w : World) → Steady (length (l .bytes)) limits w
     → ((file : List ℕ) → disk.Possible (w .journal .disk) file
@@ -123,14 +125,14 @@ orders-fit = record {
 -- the body store has its length
 stored-long : (l : Lent) → Accepts l → (calls : List Call) → length (after l calls .state .store) ≡ 40960
 stored-long l ok calls =
-    run-long calls (begin (opens l) (l .actors) (fileIn l)) ∙ opens-long l (accepted-taken l ok)
+    run-long calls (begin (openOf l) (fileIn l)) ∙ opens-long l (accepted-taken l ok)
 
 pub admits-loaded : AdmitsLoaded
 admits-loaded = record {
   comes = λ l ok before name body who.
-      admit-comes (after l before .state) (after l before .state .pool .turn .counts .queued)
-      (after-steady l ok before .works .sound) (stored-long l ok before) name body who;
+      admit-comes (after l before .state) (after-steady l ok before .works .sound) (stored-long l ok before) name body
+      who;
   refused = λ l ok before name body who.
-      admit-away (after l before .state) (after l before .state .pool .turn .counts .queued)
-      (after-steady l ok before .works .sound) (stored-long l ok before) name body who;
+      admit-away (after l before .state) (after-steady l ok before .works .sound) (stored-long l ok before) name body
+      who;
 }

@@ -1,16 +1,14 @@
 -- Turn, reply, sync and close: each refused with the state as it was, or accepted with the invariant kept. Assumes
 -- nothing.
 use mathlib.Core.Path.{_≡_, refl, sym, ap, _∙_, subst}
-use mathlib.Core.Bool.{Bool, true, false}
+use mathlib.Core.Bool.{Bool, true, false, _&&_, false≢true}
 use mathlib.Core.Logic.{inl, inr}
 use mathlib.Core.List.{List}
 use Prim.Native.Nat.{ℕ, _≤_}
 use native.Mathlib.Omega.{arith}
-use lib.Dec.{eqb}
-use lib.ListN.{length, drop}
-use Rattle.lists.specs.Links.{Table, FREE, lenOf}
+use lib.ListN.{drop}
+use Rattle.lists.specs.Links.{Table}
 use Rattle.log.specs.declared.Counters.{Counters}
-use Rattle.log.specs.declared.Order.{Order}
 use Rattle.log.specs.declared.Order.the-variants.{Flush}
 use Rattle.log.specs.declared.Due.the-variants as due
 use Rattle.log.specs.declared.SteppedDue.{SteppedDue}
@@ -19,72 +17,42 @@ use Rattle.log.specs.Recovery as disk
 use Rattle.log.proofs.RecoveryLaws as sound
 use Rattle.actor.specs.declared.message.Caller.the-variants as caller
 use Rattle.actor.specs.declared.message.Logged.the-variants as id
-use Rattle.actor.specs.declared.question.Asked.{Asked}
-use Rattle.actor.specs.declared.question.Asked.the-variants as asked
 use Rattle.actor.specs.declared.question.Reply.{Reply}
-use Rattle.actor.specs.Questions.{fitsOf}
-use Rattle.setup.specs.Entry.{Kept, keepOf}
+use Rattle.group.specs.declared.at.At.{At}
+use Rattle.group.specs.declared.at.At.the-variants as at
+use Rattle.setup.specs.Entry.{Arrival, keepOf}
+use Rattle.routing.specs.Intake.{PENDING}
 use Rattle.places.proofs.Moves.{desk-pending}
 use Rattle.places.proofs.Steps.{pick-rule}
 use Rattle.keeping.specs.Keeping.{AtOk}
-use Rattle.turn.specs.declared.state.What.{What}
+use Rattle.keeping.specs.Living.{stepHand, AtLives}
+use Rattle.keeping.proofs.Turn.{resume-keeps}
+use Rattle.keeping.proofs.LivingTurn.{resume-lives}
 use Rattle.turn.specs.declared.state.What.the-variants as what
 use Rattle.turn.specs.declared.state.Limits.{Limits}
 use Rattle.turn.specs.declared.state.Disk.{Disk}
 use Rattle.turn.specs.declared.state.Disk.the-variants as order
-use Rattle.turn.specs.Go.{GoneActors}
-use Rattle.turn.specs.Asks.{asksIn}
+use Rattle.turn.specs.declared.state.Pool.{Pool}
+use Rattle.turn.specs.State.{State, walOf, withPool, withDisk}
 use Rattle.turn.specs.Resume.{resumeOf}
-use Rattle.turn.specs.Step.{Work, advanceOf, weightOf}
-use Rattle.front.specs.declared.state.Pool.{Pool}
-use Rattle.front.specs.declared.state.Refusal.the-variants as refusal
-use Rattle.front.specs.declared.state.Check.{Check}
-use Rattle.front.specs.declared.state.Check.the-variants as check
+use Rattle.turn.specs.Step.{advanced}
+use Rattle.front.specs.Answers.{shown, messagesOf, kept}
+use Rattle.front.specs.Refusals.{judged, inTurn, isMessage, noEntryFree, turnRefusals, replyRefusals, syncRefusals}
+use Rattle.front.specs.Refusals.{closeRefusals}
 use Rattle.pool.specs.declared.calls.StoredIn.{StoredIn}
 use Rattle.pool.specs.declared.calls.StoredIn.the-variants as stored
-use Rattle.front.specs.State.{lengthCheck, withTurn, withDisk, shown, atRest}
-use Rattle.pool.specs.Run.{Ran, PENDING, runOf}
-use Rattle.pool.specs.Calls as one
-use Rattle.pool.specs.Calls.{firstPoint, begunOf, freed, withWent, closedPool, storedIn}
-use Rattle.rail.specs.Rail.{Call, turn, reply, sync, close, State, didRun, didReply, didTell, callOf, World}
-use Rattle.rail.specs.Rail.{walOf, answered, answeredBy, orderAnswered, nothing, OrderFits}
-use Rattle.rail.proofs.Invariant.{Agrees, Ledger, Working, Runs, workIn, Steady}
-use Rattle.keeping.proofs.Turn.{ResumeKeeps, resume-keeps}
-use Rattle.keeping.specs.Living.{stepHand, AtLives}
-use Rattle.keeping.proofs.LivingTurn.{resume-lives}
-use Rattle.group.specs.declared.at.At.{At}
-use Rattle.group.specs.declared.at.At.the-variants as at
-use Rattle.rail.proofs.Running.{run-runs}
-use Rattle.rail.proofs.After.{orderedIn, Marking, Ends, turned, took, calm-steady, rest-steady, runs-steady}
-use Rattle.rail.proofs.After.{none-fits, runs-fits, runs-tail, call-sound, shown-rule, answered-rule, orderOf}
-use Rattle.rail.proofs.Admit.{Arrives, kept-arrives, withKept, unlogged-works}
-
--- the state with another pool
-abbrev withPool : State → Pool → State
-withPool s p = record {
-  pool = p;
-  bytes = s .bytes;
-  records = s .records;
-  store = s .store;
-  groups = s .groups;
-  links = s .links;
-  rows = s .rows;
-  keys = s .keys;
-  actors = s .actors;
-}
-
--- the run of a state's turn
-abbrev runIn : State → Ran
-runIn s = runOf (s .pool) (s .bytes) (s .records) (s .store) (s .groups) (s .links) (s .rows) (s .keys) (s .actors)
-
--- a message that was sent passes: there is an entry for it
-sent-room : (t : Table) (k : Check) → one.sentRoom t k ≡ check.Fine → eqb (lenOf t FREE) 0 ≡ false
-sent-room t (check.Refuse r) fine = let z : _≡_ {A = ℕ} 0 1 = cc in absurd (omega arith)
-sent-room t check.Fine fine = go (eqb (lenOf t FREE) 0) refl
-  where
-    go : (b : Bool) → eqb (lenOf t FREE) 0 ≡ b → eqb (lenOf t FREE) 0 ≡ false
-    go true e = let z : _≡_ {A = ℕ} 0 1 = cc in absurd (omega arith)
-    go false e = e
+use Rattle.pool.specs.Run.{runOf}
+use Rattle.pool.specs.Calls as pool
+use Rattle.pool.specs.Calls.{firstPoint, begunOf, freed, resumeIn, resumeAt, closedPool, storedIn}
+use Rattle.rail.specs.Rail.{Call, turn, reply, sync, close, callOf, World, answered, answeredBy, orderAnswered}
+use Rattle.rail.specs.Rail.{nothing, OrderFits}
+use Rattle.rail.proofs.Invariant.{Agrees, Ledger, Working, Steady}
+use Rattle.rail.proofs.Running.{Lasting, lastingOf, Aside, moved-works, run-lasting, run-runs}
+use Rattle.rail.proofs.After.{orderOf, orderedIn, Marking, Ends, turned, took, still-steady, rest-steady}
+use Rattle.rail.proofs.After.{runs-steady, none-fits, runs-fits, runs-tail, call-sound, shown-rule}
+use Rattle.rail.proofs.After.{answered-rule, table-rule, turn-fine, sync-fine, close-fine, reply-fine}
+use Rattle.rail.proofs.Shown.{Waiting, FitsOn, reply-fits, resume-aside, resumed-aside}
+use Rattle.rail.proofs.Admit.{kept-arrives, unlogged-works}
 
 -- ---- the journal, where an order is answered
 
@@ -165,49 +133,26 @@ synced-sound long j v good settled is ordered = subst (λ u. log.syncOf (u .coun
 module _ (long : ℕ) (limits : Limits) (w : World) (c : Call) where
   -- nothing runs, and no order goes out
   rest-ends : (s : State) (j : disk.World) → OrderFits w c s nothing → s .bytes ≡ w .state .bytes
-      → answered (w .journal) c ≡ j → s .pool .turn .disk ≡ order.Free → Working long j (workIn s)
-      → Ledger j (w .next) (w .logged) (w .done) → s .pool .limits ≡ limits
-      → Ends long limits w c (didTell s (shown (s .pool) (s .links) (s .rows)))
+      → answered (w .journal) c ≡ j → s .pool .turn .disk ≡ order.Free → Working long j s
+      → Ledger j (w .next) (w .logged) (w .done) → s .pool .limits ≡ limits → Ends long limits w c (shown s)
   rest-ends s j fits same from free works ledger is =
-      shown-rule (λ told. Ends long limits w c (didTell s told)) (s .pool) (s .links) (s .rows)
+      shown-rule (Ends long limits w c) s
       (λ a ok. took ok (ap (drop (s .pool .turn .log .size)) same)
-      (subst (λ d. OrderFits w c s (orderOf d)) (sym free) fits) (rest-steady long limits c w s j from free works
-      ledger is))
+      (subst (λ d. OrderFits w c s (orderOf d)) (sym free) fits)
+      (rest-steady long limits c w s j from free works ledger is))
 
   run-ends : Marking w c → (s : State) (j : disk.World) → j .now ≡ w .journal .now → s .bytes ≡ w .state .bytes
-      → answered (w .journal) c ≡ j → s .pool .turn .disk ≡ order.Free → Working long j (workIn s)
-      → Ledger j (w .next) (w .logged) (w .done) → s .pool .limits ≡ limits → Ends long limits w c (didRun s (runIn s))
+      → answered (w .journal) c ≡ j → s .pool .turn .disk ≡ order.Free → Working long j s
+      → Ledger j (w .next) (w .logged) (w .done) → s .pool .limits ≡ limits → Ends long limits w c (runOf s)
   unfolding runOf
   run-ends own s j now same from free works ledger is =
-      answered-rule
-      (λ told. Ends long limits w c (didRun s (record {
-        bytes = x .bytes;
-        records = x .records;
-        links = x .links;
-        rows = x .rows;
-        keys = x .keys;
-        actors = x .actors;
-        told = told;
-      })))
-      (withTurn (s .pool) (x .turn)) (x .links) (x .rows) (x .keys)
-      (λ a ok. took ok (runs-tail long limits j x (w .state .bytes) (ap (λ v. v .bytes) (works .wal) ∙ same) runs)
-      (runs-fits long limits c w _ j own now runs ledger) (runs-steady long limits c w _ j own from runs ledger is))
-    where
-      x : Work
-      x = advanceOf (weightOf (s .pool .turn)) (record {
-        limits = s .pool .limits;
-        store = s .store;
-        groups =
-            s .groups;
-      }) (workIn s)
-
-      runs : Runs long j x
-      runs = run-runs (weightOf (s .pool .turn)) long (record {
-        limits = s .pool .limits;
-        store = s .store;
-        groups =
-            s .groups;
-      }) j (workIn s) free works
+      let runs = run-runs long j s free works in
+      answered-rule (Ends long limits w c) (advanced s)
+      (λ a ok. took ok
+      (runs-tail long limits j (advanced s) (w .state .bytes) (ap (λ v. v .bytes) (works .wal) ∙ same) runs)
+      (runs-fits long limits c w (advanced s) j own now runs ledger)
+      (runs-steady long limits c w (advanced s) j own from runs ledger
+      (ap (λ (l : Lasting). l .limits) (run-lasting (lastingOf s) s refl) ∙ is)))
 
 -- ---- the calls
 
@@ -221,29 +166,10 @@ first-lives t keys actors true h = h
 first-lives t keys actors false h = h
 
 -- at rest the step's hand is empty
-rest-hand : (a : At) (t keys actors : Table) → atRest a ≡ true → AtLives a t keys actors → stepHand t ≤ 0
-unfolding atRest
+rest-hand : (a : At) (t keys actors : Table) → inTurn a ≡ false → AtLives a t keys actors → stepHand t ≤ 0
 rest-hand at.Rest t keys actors e h = h
-rest-hand (at.Seed g) t keys actors e h = h
-rest-hand (at.SeedBoot g) t keys actors e h = h
-rest-hand (at.Intake left) t keys actors e h = h
-rest-hand (at.Route left) t keys actors e h = h
-rest-hand (at.RouteBoot g left) t keys actors e h = h
-rest-hand at.TickClock t keys actors e h = h
-rest-hand (at.Wake g clock) t keys actors e h = h
-rest-hand (at.WakeNext g clock left) t keys actors e h = h
-rest-hand (at.WakePoll g k clock left) t keys actors e h = h
-rest-hand (at.Ready g clock pops) t keys actors e h = h
-rest-hand (at.Fixed c a) t keys actors e h = let z : _≡_ {A = ℕ} 0 1 = cc in absurd (omega arith)
-rest-hand (at.Eval c a) t keys actors e h = let z : _≡_ {A = ℕ} 0 1 = cc in absurd (omega arith)
-rest-hand (at.StepEnd c s) t keys actors e h = let z : _≡_ {A = ℕ} 0 1 = cc in absurd (omega arith)
-rest-hand (at.Sends c s) t keys actors e h = let z : _≡_ {A = ℕ} 0 1 = cc in absurd (omega arith)
-rest-hand (at.Settle c s) t keys actors e h = let z : _≡_ {A = ℕ} 0 1 = cc in absurd (omega arith)
-rest-hand (at.Crash c) t keys actors e h = let z : _≡_ {A = ℕ} 0 1 = cc in absurd (omega arith)
-rest-hand (at.AskTrap c) t keys actors e h = h
-rest-hand (at.Trap c) t keys actors e h = h
-rest-hand (at.Trapped c k) t keys actors e h = h
-rest-hand (at.Doomed c left) t keys actors e h = h
+rest-hand (at.Asks a) t keys actors e h = absurd (false≢true (sym e))
+rest-hand (at.Runs p) t keys actors e h = absurd (false≢true (sym e))
 
 module _ (long : ℕ) (limits : Limits) (w : World) (steady : Steady long limits w) where
   abbrev s : State
@@ -255,105 +181,97 @@ module _ (long : ℕ) (limits : Limits) (w : World) (steady : Steady long limits
   abbrev j : disk.World
   j = w .journal
 
-  works : Working long j (workIn s)
+  works : Working long j s
   works = steady .works
 
   -- no order is out
   settled : p .turn .disk ≡ order.Free → j .disk .status ≡ disk.settled
   settled free = subst (λ q. Agrees q (j .disk .status) (s .bytes)) free (works .agrees)
 
+  -- the disk and the journal change, and the messages stay
+  disk-works : (j′ : disk.World) (n : Counters) (d : Disk) → j′ .now ≡ j .now
+      → j′ .wal ≡ walOf (withPool s (withDisk p n d)) → Agrees d (j′ .disk .status) (s .bytes) → sound.Sound long j′
+      → Working long j′ (withPool s (withDisk p n d))
+  disk-works j′ n d now wal agrees journal = record {
+    sound = works .sound;
+    ids = λ x. rw now (works .ids x);
+    ok = works .ok;
+    lives = works .lives;
+    here = works .here;
+    wal = wal;
+    agrees = agrees;
+    journal = journal;
+  }
+
   -- ---- turn
 
-  begun-works : atRest (p .turn .at) ≡ true → Working long j (workIn (withPool s (begunOf p)))
+  begun-works : inTurn (p .turn .at) ≡ false → Working long j (withPool s (begunOf p))
   begun-works rests = record {
     sound = works .sound;
     ids = works .ids;
     ok = first-ok (s .links) (p .seeded);
     lives = works .lives;
-    here = first-lives (s .links) (s .keys) (s .actors) (p .seeded) (rest-hand (p .turn .at) (s .links) (s .keys)
-        (s .actors) rests (works .here));
+    here = first-lives (s .links) (s .keys) (s .actors) (p .seeded)
+        (rest-hand (p .turn .at) (s .links) (s .keys) (s .actors) rests (works .here));
     wal = works .wal;
     agrees = works .agrees;
     journal = works .journal;
   }
 
-  turn-in-ends : (q : Disk) → p .turn .disk ≡ q
-      → Ends long limits w turn (didRun s (one.turnIn p (s .bytes) (s .records) (s .store) (s .groups) (s .links)
-      (s .rows) (s .keys) (s .actors) q))
-  unfolding one.turnFree
-  turn-in-ends order.Free is =
-      pick-rule (λ r. Ends long limits w turn (didRun s r)) (atRest (p .turn .at))
-      (λ e. run-ends long limits w turn (refl, λ s o h. h) (withPool s (begunOf p)) j refl refl refl is (begun-works e)
-      (steady .ledger) (steady .limits-are)) (λ e. turned refusal.InTurn refl)
-  turn-in-ends (order.Waits o for) is = turned refusal.OrderWaits refl
-  turn-in-ends order.Failed is = turned refusal.StoreFailed refl
-
   pub turn-ends : Ends long limits w turn (callOf s turn)
-  unfolding callOf one.turnOf
-  turn-ends = turn-in-ends (p .turn .disk) refl
+  unfolding callOf pool.turnOf
+  turn-ends =
+      table-rule (Ends long limits w turn) s (judged (turnRefusals p)) _ (λ r. turned r refl)
+      (λ fine. let (free, rests) = turn-fine p fine in
+      run-ends long limits w turn (refl, λ s o h. h) (withPool s (begunOf p)) j refl refl refl free
+      (begun-works rests) (steady .ledger) (steady .limits-are))
 
   -- ---- close and sync
 
-  closed-works : Working long j (workIn (withPool s (closedPool p)))
+  closed-works : Working long j (withPool s (closedPool p))
   closed-works = record {
     sound = works .sound;
     ids = works .ids;
     ok = works .ok;
     lives = works .lives;
-    here =
-        works .here;
+    here = works .here;
     wal = works .wal;
     agrees = works .agrees;
     journal = works .journal;
   }
 
-  close-in-ends : (q : Disk) → p .turn .disk ≡ q
-      → Ends long limits w close (didTell s (one.closeIn p (s .links) (s .rows) q))
-  close-in-ends order.Free is = rest-ends long limits w close (withPool s (closedPool p)) j refl refl refl is
-      closed-works (steady .ledger) (steady .limits-are)
-  close-in-ends (order.Waits o for) is = turned refusal.OrderWaits refl
-  close-in-ends order.Failed is = turned refusal.StoreFailed refl
-
   pub close-ends : Ends long limits w close (callOf s close)
-  unfolding callOf one.closeOf
-  close-ends = close-in-ends (p .turn .disk) refl
+  unfolding callOf pool.closeOf
+  close-ends =
+      table-rule (Ends long limits w close) s (judged (closeRefusals p)) _ (λ r. turned r refl)
+      (λ fine. rest-ends long limits w close (withPool s (closedPool p)) j refl refl refl (close-fine p fine)
+      closed-works (steady .ledger) (steady .limits-are))
 
-  sync-free-ends : p .turn .disk ≡ order.Free → Syncs (p .turn .log) (log.syncOf (p .turn .log))
-      → Ends long limits w sync (didTell s (one.syncFree p (s .links) (s .rows)))
-  unfolding one.syncFree disk.issue
-  sync-free-ends free (idle is) =
-      subst (λ d. Ends long limits w sync (didTell s (one.syncDid p (s .links) (s .rows) d))) (sym is)
+  synced-ends : p .turn .disk ≡ order.Free → Syncs (p .turn .log) (log.syncOf (p .turn .log))
+      → Ends long limits w sync (shown (withPool s (pool.syncEffect p)))
+  unfolding pool.syncEffect pool.syncedBy disk.issue
+  synced-ends free (idle is) =
+      subst (λ d. Ends long limits w sync (shown (withPool s (pool.syncedIn p d (d .due))))) (sym is)
       (rest-ends long limits w sync s j (inl refl) refl refl free works (steady .ledger) (steady .limits-are))
-  sync-free-ends free (flush is next) =
-      subst (λ a. Ends long limits w sync (didTell s (one.syncBy p (s .links) (s .rows) (log.syncOf (p .turn .log))
-      a))) (sym is)
-      (shown-rule (λ told. Ends long limits w sync (didTell s told)) (withDisk p (log.syncOf (p .turn .log) .counters)
-      (order.Waits Flush what.Nothing)) (s .links) (s .rows)
+  synced-ends free (flush is next) =
+      subst (λ a. Ends long limits w sync (shown (withPool s (pool.syncedIn p (log.syncOf (p .turn .log)) a))))
+      (sym is)
+      (shown-rule (Ends long limits w sync)
+      (withPool s (withDisk p (log.syncOf (p .turn .log) .counters) (order.Waits Flush what.Nothing)))
       (λ a ok. took ok refl (inr refl) (record {
-        works = record {
-          sound = works .sound;
-          ids = works .ids;
-          ok = works .ok;
-          lives = works .lives;
-          here = works .here;
-          wal = refl;
-          agrees = refl;
-          journal = synced-sound long j (walOf s) (works .journal) (settled free) (works .wal) is;
-        };
-        ledger = same-ledger j (synced j (walOf s)) (w .next) (w .logged) (w .done) (steady .ledger) refl (next
-            ∙ ap (λ u. u .counters .next) (sym (works .wal)));
+        works = disk-works (synced j (walOf s)) (log.syncOf (p .turn .log) .counters)
+            (order.Waits Flush what.Nothing) refl refl refl
+            (synced-sound long j (walOf s) (works .journal) (settled free) (works .wal) is);
+        ledger = same-ledger j (synced j (walOf s)) (w .next) (w .logged) (w .done) (steady .ledger) refl
+            (next ∙ ap (λ u. u .counters .next) (sym (works .wal)));
         limits-are = steady .limits-are;
       })))
 
-  sync-in-ends : (q : Disk) → p .turn .disk ≡ q
-      → Ends long limits w sync (didTell s (one.syncIn p (s .links) (s .rows) q))
-  sync-in-ends order.Free is = sync-free-ends is (sync-view (p .turn .log))
-  sync-in-ends (order.Waits o for) is = turned refusal.OrderWaits refl
-  sync-in-ends order.Failed is = turned refusal.StoreFailed refl
-
   pub sync-ends : Ends long limits w sync (callOf s sync)
-  unfolding callOf one.syncOf
-  sync-ends = sync-in-ends (p .turn .disk) refl
+  unfolding callOf pool.syncOf
+  sync-ends =
+      table-rule (Ends long limits w sync) s (judged (syncRefusals p)) _ (λ r. turned r refl)
+      (λ fine. synced-ends (sync-fine p fine) (sync-view (p .turn .log)))
 
   -- ---- reply
 
@@ -365,73 +283,57 @@ module _ (long : ℕ) (limits : Limits) (w : World) (steady : Steady long limits
     replying = (refl, λ s o h. h)
 
     -- to an order
-    module _ (o : Order) (for : What) (waits : p .turn .disk ≡ order.Waits o for) where
+    module _ (waits : Waiting (p .turn .disk)) where
       abbrev out : disk.Sent
-      out = disk.sent (s .bytes) o
+      out = disk.sent (s .bytes) (waits .out)
 
       waiting : j .disk .status ≡ disk.waits out
-      waiting = subst (λ q. Agrees q (j .disk .status) (s .bytes)) waits (works .agrees)
+      waiting = subst (λ q. Agrees q (j .disk .status) (s .bytes)) (waits .is) (works .agrees)
 
       from : (x : StoredIn) → storedIn r ≡ x → answered j c ≡ orderAnswered j out x
       from x is = ap (answeredBy j (j .disk .status)) is ∙ answered-waits long j out waiting x
 
-      freed-works : Working long (disk.storedOrder j out) (workIn (withPool s (freed p)))
+      freed-works : Working long (disk.storedOrder j out) (freed s)
       unfolding disk.storedOrder
-      freed-works = record {
-        sound = works .sound;
-        ids = works .ids;
-        ok = works .ok;
-        lives = works .lives;
-        here = works .here;
-        wal = works .wal;
-        agrees = confirmed-settled out (j .disk);
-        journal = stored-sound long j out waiting (works .journal);
-      }
+      freed-works =
+          disk-works (disk.storedOrder j out) (p .turn .log) order.Free refl (works .wal)
+          (confirmed-settled out (j .disk)) (stored-sound long j out waiting (works .journal))
 
       freed-ledger : Ledger (disk.storedOrder j out) (w .next) (w .logged) (w .done)
       unfolding disk.storedOrder
       freed-ledger = same-ledger j (disk.storedOrder j out) (w .next) (w .logged) (w .done) (steady .ledger) refl refl
 
-      failed-works : Working long (disk.failedOrder j out)
-          (workIn (withPool s (withDisk p (p .turn .log) order.Failed)))
+      stored-ends : storedIn r ≡ stored.Stored → Ends long limits w c (pool.storedOf s)
+      unfolding pool.storedOf disk.storedOrder
+      stored-ends is =
+          pick-rule (Ends long limits w c) (inTurn (p .turn .at))
+          (λ e. run-ends long limits w c replying (freed s) (disk.storedOrder j out) refl refl (from stored.Stored is)
+          refl freed-works freed-ledger (steady .limits-are))
+          (λ e. rest-ends long limits w c (freed s) (disk.storedOrder j out)
+          (none-fits long limits c w (freed s) (disk.storedOrder j out) replying refl freed-works) refl
+          (from stored.Stored is) refl freed-works freed-ledger (steady .limits-are))
+
+      abbrev failed : State
+      failed = withPool s (withDisk p (p .turn .log) order.Failed)
+
+      failed-works : Working long (disk.failedOrder j out) failed
       unfolding disk.failedOrder
-      failed-works = record {
-        sound = works .sound;
-        ids = works .ids;
-        ok = works .ok;
-        lives = works .lives;
-        here = works .here;
-        wal = works .wal;
-        agrees = (out, refl);
-        journal = failed-sound long j out waiting (works .journal);
-      }
+      failed-works =
+          disk-works (disk.failedOrder j out) (p .turn .log) order.Failed refl (works .wal) (out, refl)
+          (failed-sound long j out waiting (works .journal))
 
       failed-ledger : Ledger (disk.failedOrder j out) (w .next) (w .logged) (w .done)
       unfolding disk.failedOrder
       failed-ledger = same-ledger j (disk.failedOrder j out) (w .next) (w .logged) (w .done) (steady .ledger) refl refl
 
-      order-ends : (x : StoredIn) → storedIn r ≡ x
-          → Ends long limits w c (didRun s (one.orderBy p (s .bytes) (s .records) (s .store) (s .groups) (s .links)
-          (s .rows) (s .keys) (s .actors) x))
-      unfolding one.storedOf one.failedOf disk.storedOrder disk.failedOrder
-      order-ends stored.Stored is =
-          pick-rule (λ r. Ends long limits w c (didRun s r)) (atRest (p .turn .at))
-          (λ e. rest-ends long limits w c (withPool s (freed p)) (disk.storedOrder j out)
-          (none-fits long limits c w (withPool s (freed p)) (disk.storedOrder j out) replying refl freed-works) refl
-          (from stored.Stored is) refl freed-works freed-ledger (steady .limits-are))
-          (λ e. run-ends long limits w c replying (withPool s (freed p)) (disk.storedOrder j out) refl refl
-          (from stored.Stored is) refl freed-works freed-ledger (steady .limits-are))
-      order-ends stored.Failed is =
-          shown-rule (λ told. Ends long limits w c (didTell s told)) (withDisk p (p .turn .log) order.Failed)
-          (s .links) (s .rows)
-          (λ a ok. took ok refl
-          (none-fits long limits c w (withPool s (withDisk p (p .turn .log) order.Failed)) (disk.failedOrder j out)
-          replying refl failed-works)
-          (subst (λ k. Steady long limits (orderedIn c w (withPool s (withDisk p (p .turn .log) order.Failed)) k
-          order.Failed)) (sym (from stored.Failed is))
-          (calm-steady long limits (withPool s (withDisk p (p .turn .log) order.Failed)) (disk.failedOrder j out)
-          (w .next) (w .logged) (w .done) failed-works failed-ledger (steady .limits-are))))
-      order-ends stored.Other is = turned refusal.NoFit refl
+      failed-ends : storedIn r ≡ stored.Failed → Ends long limits w c (pool.failedOf s)
+      unfolding pool.failedOf disk.failedOrder
+      failed-ends is =
+          shown-rule (Ends long limits w c) failed
+          (λ a ok. took ok refl (none-fits long limits c w failed (disk.failedOrder j out) replying refl failed-works)
+          (subst (λ k. Steady long limits (orderedIn c w failed k order.Failed)) (sym (from stored.Failed is))
+          (still-steady long limits w failed (disk.failedOrder j out) failed-works failed-ledger
+          (steady .limits-are))))
 
     -- to the turn's question
     module _ (free : p .turn .disk ≡ order.Free) where
@@ -439,85 +341,55 @@ module _ (long : ℕ) (limits : Limits) (w : World) (steady : Steady long limits
       still-from = answered-settled j (storedIn r) (settled free)
 
       -- a message that was sent
-      sent-ends : (k : Check) → one.sentCheck (s .links) (length name) (length body) ≡ k
-          → Ends long limits w c (didReply s (one.repliedSent (s .bytes) (s .records) (s .keys) (s .actors)
-          (one.sentBy p (s .store) (s .links) (s .rows) name body k)))
-      unfolding one.sentCheck
-      sent-ends (check.Refuse x) is = turned x refl
-      sent-ends check.Fine is =
-          rest-ends long limits w c (withKept s kept) j
-          (none-fits long limits c w (withKept s kept) j replying refl (unlogged-works long j s kept works came)) refl
-          still-from free (unlogged-works long j s kept works came) (steady .ledger) (steady .limits-are)
-        where
-          kept : Kept
-          kept = keepOf (s .store) (s .links) (s .rows) name body caller.Nobody id.Never PENDING
+      abbrev sent : Arrival
+      sent = record { name = name; body = body; caller = caller.Nobody; id = id.Never }
 
-          came : Arrives (p .turn .at) (s .links) (s .rows) (p .turn .counts .queued) id.Never kept
-          came =
-              kept-arrives (p .turn .at) (s .store) (s .links) (s .rows) (p .turn .counts .queued) (works .sound)
-              (works .ok) name body caller.Nobody id.Never PENDING
-              desk-pending (omega arith) (sent-room (s .links) (lengthCheck (length name) (length body)) is)
+      sent-works : noEntryFree (s .links) ≡ false → Working long j (kept s sent PENDING)
+      sent-works room =
+          unlogged-works long j s (keepOf (messagesOf s) sent PENDING) works
+          (kept-arrives s (works .sound) (works .ok) sent PENDING desk-pending (omega arith) room)
+
+      sent-ends : noEntryFree (s .links) ≡ false → Ends long limits w c (pool.sentOf s name body)
+      unfolding pool.sentOf
+      sent-ends room =
+          rest-ends long limits w c (kept s sent PENDING) j
+          (none-fits long limits c w (kept s sent PENDING) j replying refl (sent-works room)) refl still-from free
+          (sent-works room) (steady .ledger) (steady .limits-are)
 
       -- any other: the turn goes on
-      abbrev gone : GoneActors
-      gone = resumeOf (p .turn .at) (p .turn .counts) (p .limits) (s .groups) (s .links) (s .rows) (s .keys)
-          (s .actors) r
+      resumed-works : Working long j (resumeAt s r)
+      unfolding resumeAt
+      resumed-works = go (p .turn .at) refl
+        where
+          go : (a : At) → p .turn .at ≡ a → Working long j (resumeIn s a r)
+          go at.Rest is = works
+          go (at.Asks a) is =
+              moved-works long j s (resumeOf s a r) works (resume-aside s a r)
+              (resume-keeps s a r (works .sound) (subst (λ x. AtOk x (s .links)) is (works .ok)))
+              (resume-lives s a r (works .sound .good) (works .lives)
+              (subst (λ x. AtLives x (s .links) (s .keys) (s .actors)) is (works .here)))
+          go (at.Runs p) is = works
 
-      abbrev resumed : State
-      resumed = record {
-        pool = withWent p gone;
-        bytes = s .bytes;
-        records = s .records;
-        store = s .store;
-        groups = s .groups;
-        links = gone .links;
-        rows = s .rows;
-        keys = gone .keys;
-        actors = gone .actors;
-      }
+      resumed-ends : Ends long limits w c (pool.resumedOf s r)
+      unfolding pool.resumedOf
+      resumed-ends =
+          let aside = resumed-aside s r in
+          run-ends long limits w c replying (resumeAt s r) j refl (ap (λ (a : Aside). a .wal .bytes) aside) still-from
+          (ap (λ (a : Aside). a .disk) aside ∙ free) resumed-works (steady .ledger)
+          (ap (λ (a : Aside). a .lasting .limits) aside ∙ steady .limits-are)
 
-      resumed-works : Working long j (workIn resumed)
-      resumed-works =
-          let keeps : ResumeKeeps (s .links) (s .rows) gone = resume-keeps (p .turn .at) (p .turn .counts) (p .limits)
-          (s .groups) (s .links) (s .rows) (s .keys) (s .actors) r (works .sound) (works .ok) in
-          let holds = resume-lives (p .turn .at) (p .turn .counts) (p .limits) (s .groups) (s .links) (s .rows)
-          (s .keys) (s .actors) r (works .sound .good) (works .lives) (works .here) in
-          record {
-            sound = keeps .keeps .sound;
-            ids = λ x. keeps .keeps .same x ∙ works .ids x;
-            ok = keeps .ok;
-            lives = holds .lives;
-            here = holds .ok;
-            wal = works .wal;
-            agrees = works .agrees;
-            journal = works .journal;
-          }
-
-      fit-ends : Ends long limits w c (didReply s (one.fitReply p (s .bytes) (s .records) (s .store) (s .groups)
-          (s .links) (s .rows) (s .keys) (s .actors) r name body))
-      unfolding one.fitReply one.sentOf one.resumedOf
-      fit-ends =
-          pick-rule (λ x. Ends long limits w c (didReply s x)) (one.isMessage r)
-          (λ e. sent-ends (one.sentCheck (s .links) (length name) (length body)) refl)
-          (λ e. run-ends long limits w c replying resumed j refl refl still-from free resumed-works (steady .ledger)
-          (steady .limits-are))
-
-      asked-ends : (a : Asked)
-          → Ends long limits w c (didReply s (one.askedReply p (s .bytes) (s .records) (s .store) (s .groups)
-          (s .links) (s .rows) (s .keys) (s .actors) r name body a))
-      unfolding one.openReply
-      asked-ends (asked.Open q) = pick-rule (λ x. Ends long limits w c (didReply s x)) (fitsOf q r) (λ e. fit-ends)
-          (λ e. turned refusal.NoFit refl)
-      asked-ends asked.Nothing = turned refusal.NoFit refl
-
-    reply-in-ends : (q : Disk) → p .turn .disk ≡ q
-        → Ends long limits w c (didReply s (one.replyIn p (s .bytes) (s .records) (s .store) (s .groups) (s .links)
-        (s .rows) (s .keys) (s .actors) r name body q))
-    unfolding one.turnReply one.orderReply
-    reply-in-ends order.Free is = asked-ends is (asksIn (p .turn .disk) (p .turn .at) (s .links) (s .rows))
-    reply-in-ends (order.Waits o for) is = order-ends o for is (storedIn r) refl
-    reply-in-ends order.Failed is = turned refusal.StoreFailed refl
+    effect-ends : (isMessage r && noEntryFree (s .links)) ≡ false → (x : StoredIn) → storedIn r ≡ x
+        → FitsOn (p .turn .disk) x → Ends long limits w c (pool.replyBy s r name body x)
+    effect-ends room stored.Stored is waits = stored-ends waits is
+    effect-ends room stored.Failed is waits = failed-ends waits is
+    effect-ends room stored.Other is free =
+        pick-rule (Ends long limits w c) (isMessage r)
+        (λ e. sent-ends free (subst (λ b. (b && noEntryFree (s .links)) ≡ false) e room))
+        (λ e. resumed-ends free)
 
     pub reply-ends : Ends long limits w c (callOf s c)
-    unfolding callOf one.replyOf
-    reply-ends = reply-in-ends (p .turn .disk) refl
+    unfolding callOf pool.replyOf pool.replyEffect
+    reply-ends =
+        table-rule (Ends long limits w c) s (judged (replyRefusals s r name body)) _ (λ x. turned x refl)
+        (λ fine. let (fits, room) = reply-fine s r name body fine in
+        effect-ends room (storedIn r) refl (reply-fits s r fits))

@@ -1,47 +1,27 @@
--- An order that waits after an accepted call is the one that the call's answer shows. Assumes nothing.
-use mathlib.Core.Path.{_≡_, refl, sym, ap, _∙_, subst}
-use mathlib.Core.Bool.{Bool, true, false}
+-- An order that waits after an accepted call is the one that the call's answer shows; a reply fits that order, or,
+-- with none waiting, the turn's question. Assumes nothing.
+use mathlib.Core.Path.{_≡_, refl, sym, ap, _∙_}
+use mathlib.Core.Bool.{true, false, false≢true}
 use mathlib.Core.Logic.{_⊎_, inl, inr}
 use mathlib.Core.List.{List}
-use Prim.Native.Nat.{ℕ, zero, suc}
+use Prim.Native.Nat.{ℕ, _<_, _≤_}
 use native.Mathlib.Omega.{arith}
-use Rattle.lists.specs.Links.{Table}
-use Rattle.actor.specs.declared.question.Asked.the-variants as asked
-use Rattle.group.specs.declared.at.At.{At}
-use Rattle.group.specs.declared.at.At.the-variants as at
-use Rattle.places.proofs.Steps.{pick-rule}
-use Rattle.turn.specs.declared.state.Disk.{Disk}
-use Rattle.turn.specs.declared.state.Disk.the-variants as order
-use Rattle.turn.specs.State.{marksAt, isFree, runningOf}
-use Rattle.turn.specs.Asks.{asksAt, asksIn}
-use Rattle.turn.specs.Step.{Given, Work, markFirst, stepOf, advanceOf, weightOf}
-use Rattle.front.specs.declared.state.Pool.{Pool}
-use Rattle.front.specs.declared.state.Refusal.{Refusal}
-use Rattle.front.specs.declared.state.Answer.{Answer}
-use Rattle.front.specs.declared.state.Answer.the-variants as answer
-use Rattle.front.specs.declared.state.Told.{Told}
-use Rattle.front.specs.State.{refusedBy, shown, atRest}
-use Rattle.pool.specs.Run.{Ran, answeredOf, runOf}
+use borrow.Author.Tests.{eqb-true}
+use lib.Dec.{leb}
+use Rattle.lists.specs.Links.{Table, firstOf}
 use Rattle.log.specs.declared.Answer as of-log
 use Rattle.log.specs.declared.Answer.the-variants as logged
-use Rattle.log.specs.declared.Due.{Due}
-use Rattle.log.specs.declared.Due.the-variants as due
+use Rattle.log.specs.declared.Order.{Order}
 use Rattle.log.specs.Log as log
 use Rattle.actor.specs.declared.message.Caller.{Caller}
 use Rattle.actor.specs.declared.message.Caller.the-variants as caller
-use Rattle.actor.specs.declared.question.Asked.{Asked}
-use Rattle.actor.specs.declared.question.Reply.{Reply}
-use Rattle.actor.specs.Questions.{fitsOf}
-use Rattle.front.specs.declared.state.Check.{Check}
-use Rattle.front.specs.declared.state.Check.the-variants as check
-use Rattle.pool.specs.declared.calls.StoredIn.{StoredIn}
-use Rattle.pool.specs.declared.calls.StoredIn.the-variants as stored
-use Rattle.door.specs.Admit as door
-use Rattle.pool.specs.Calls as one
-use lib.ListN.{length}
-use Rattle.lists.specs.Links.{firstOf}
 use Rattle.actor.specs.declared.question.Who.{Who}
 use Rattle.actor.specs.declared.question.Outcome.{Outcome}
+use Rattle.actor.specs.declared.question.Asked.{Asked}
+use Rattle.actor.specs.declared.question.Asked.the-variants as asked
+use Rattle.actor.specs.declared.question.Reply.{Reply}
+use Rattle.actor.specs.declared.question.Reply.the-variants as reply
+use Rattle.actor.specs.Questions.{kindOf, kindWanted, fitsOf}
 use Rattle.steps.specs.Steps.{HAND, callerFirst}
 use Rattle.steps.specs.declared.fixed.FixedAsk.{FixedAsk}
 use Rattle.steps.specs.declared.fixed.FixedAsk.the-variants as fixed
@@ -49,260 +29,253 @@ use Rattle.steps.specs.declared.eval.EvalAsk.{EvalAsk}
 use Rattle.steps.specs.declared.eval.EvalAsk.the-variants as eval
 use Rattle.steps.specs.StepFixed.{fixedAsks}
 use Rattle.steps.specs.StepEval.{askTell, evalAsks}
+use Rattle.group.specs.declared.at.At.{At}
+use Rattle.group.specs.declared.at.At.the-variants as at
+use Rattle.group.specs.declared.at.Ask.{Ask}
+use Rattle.group.specs.declared.at.Ask.the-variants as asks
 use Rattle.group.specs.At.{whoOf}
-use Rattle.group.specs.Settings.{loadedIn}
-use Rattle.rail.proofs.After.{orderOf}
-use Rattle.rail.specs.Rail.{nothing, orderOpen, orderIn, accepted, State, Call, admit, turn, reply, sync, close}
-use Rattle.rail.specs.Rail.{Did, callOf}
+use Rattle.turn.specs.declared.state.What.{What}
+use Rattle.turn.specs.declared.state.Disk.{Disk}
+use Rattle.turn.specs.declared.state.Disk.the-variants as order
+use Rattle.turn.specs.State.{State, walOf, withPool, isFree, runningOf}
+use Rattle.turn.specs.Asks.{askedBy, askedAt, askedIn, openIn}
+use Rattle.turn.specs.Resume.{resumeOf}
+use Rattle.turn.specs.Step.{markAt, stepOf, advanced}
+use Rattle.places.proofs.Steps.{pick-rule}
+use Rattle.front.specs.declared.answer.Refusal.{Refusal}
+use Rattle.front.specs.Answers.{Did, refused, shown}
+use Rattle.front.specs.Refusals.{judged, inTurn, fitsIn, isMessage, admitRefusals, turnRefusals, replyRefusals}
+use Rattle.front.specs.Refusals.{syncRefusals, closeRefusals}
+use Rattle.door.specs.Admit as door
+use Rattle.pool.specs.declared.calls.StoredIn.{StoredIn}
+use Rattle.pool.specs.declared.calls.StoredIn.the-variants as stored
+use Rattle.pool.specs.Run.{answeredOf, runOf}
+use Rattle.pool.specs.Calls as pool
+use Rattle.pool.specs.Calls.{begunOf, storedIn, freed, resumeIn, resumeAt}
+use Rattle.rail.specs.Rail.{nothing, orderAsked, orderOpen, orderIn, accepted, Call, admit, turn, reply, sync}
+use Rattle.rail.specs.Rail.{close, callOf}
+use Rattle.rail.proofs.Running.{Aside, asideOf, go-aside, mark-stays, advanced-rule, step-rule}
+use Rattle.rail.proofs.After.{orderOf, table-rule, turn-fine, reply-fine}
 
-unfoldable pub Shows : Told → Type 0
-Shows t = accepted (t .answer) ≡ true → orderIn (t .answer) ≡ orderOf (t .pool .turn .disk)
+unfoldable pub Shows : Did → Type 0
+Shows d = accepted (d .answer) ≡ true → orderIn (d .answer) ≡ orderOf (d .state .pool .turn .disk)
 
 pub never : false ≡ true → ⊥
-never e = let z : _≡_ {A = ℕ} 0 1 = cc in omega arith
+never = false≢true
 
-pub refused-shows : (p : Pool) (r : Refusal) → Shows (refusedBy p r)
+refused-shows : (s : State) (r : Refusal) → Shows (refused s r)
 unfolding Shows
-refused-shows p r ok = absurd (never ok)
+refused-shows s r ok = absurd (never ok)
 
--- no question of the turn is an order
-tell-shows : (c : Caller) (o : Outcome) → orderOpen (askTell c o) ≡ nothing
-tell-shows (caller.From x) o = refl
-tell-shows caller.Nobody o = refl
+-- ---- what is open
 
-fixed-shows : (t : Table) (who : Who) (a : FixedAsk) → orderOpen (fixedAsks t who a) ≡ nothing
+-- no question of the turn is an order, nor of an order's kind
+abbrev OfTurn : Asked → Type 0
+OfTurn (asked.Open q) = (orderAsked q ≡ nothing) × (kindWanted q < 7)
+OfTurn asked.Nothing = 0 ≤ 0
+
+tell-asks : (c : Caller) (o : Outcome) → OfTurn (askTell c o)
+tell-asks (caller.From x) o = (refl, omega arith)
+tell-asks caller.Nobody o = omega arith
+
+fixed-asks : (t : Table) (who : Who) (a : FixedAsk) → OfTurn (fixedAsks t who a)
 unfolding fixedAsks
-fixed-shows t who (fixed.Run start) = refl
-fixed-shows t who fixed.Drain = refl
-fixed-shows t who fixed.Push = refl
-fixed-shows t who fixed.Dispatch = refl
+fixed-asks t who (fixed.Run start) = (refl, omega arith)
+fixed-asks t who fixed.Drain = (refl, omega arith)
+fixed-asks t who fixed.Push = (refl, omega arith)
+fixed-asks t who fixed.Dispatch = (refl, omega arith)
 
-eval-shows : (t rows : Table) (who : Who) (a : EvalAsk) → orderOpen (evalAsks t rows who a) ≡ nothing
+eval-asks : (t rows : Table) (who : Who) (a : EvalAsk) → OfTurn (evalAsks t rows who a)
 unfolding evalAsks
-eval-shows t rows who eval.Clock = refl
-eval-shows t rows who eval.Boot = refl
-eval-shows t rows who eval.StartClock = refl
-eval-shows t rows who (eval.Run start) = refl
-eval-shows t rows who eval.Dispatch = refl
-eval-shows t rows who (eval.Tell o) = tell-shows (callerFirst rows (firstOf t HAND)) o
+eval-asks t rows who eval.Clock = (refl, omega arith)
+eval-asks t rows who eval.Boot = (refl, omega arith)
+eval-asks t rows who eval.StartClock = (refl, omega arith)
+eval-asks t rows who (eval.Run start) = (refl, omega arith)
+eval-asks t rows who eval.Dispatch = (refl, omega arith)
+eval-asks t rows who (eval.Tell o) = tell-asks (callerFirst rows (firstOf t HAND)) o
 
-asks-none : (a : At) (t rows : Table) → orderOpen (asksAt a t rows) ≡ nothing
-unfolding asksAt
-asks-none at.Rest t rows = refl
-asks-none (at.Seed g) t rows = refl
-asks-none (at.SeedBoot g) t rows = refl
-asks-none (at.Intake left) t rows = refl
-asks-none (at.Route left) t rows = refl
-asks-none (at.RouteBoot g left) t rows = refl
-asks-none at.TickClock t rows = refl
-asks-none (at.Wake g clock) t rows = refl
-asks-none (at.WakeNext g clock left) t rows = refl
-asks-none (at.WakePoll g k clock left) t rows = refl
-asks-none (at.Ready g clock pops) t rows = refl
-asks-none (at.Fixed c a) t rows = fixed-shows t (whoOf (c .group) (c .key)) a
-asks-none (at.Eval c a) t rows = eval-shows t rows (whoOf (c .group) (c .key)) a
-asks-none (at.StepEnd c s) t rows = refl
-asks-none (at.Sends c s) t rows = refl
-asks-none (at.Settle c s) t rows = refl
-asks-none (at.Crash c) t rows = refl
-asks-none (at.AskTrap c) t rows = refl
-asks-none (at.Trap c) t rows = refl
-asks-none (at.Trapped c k) t rows = refl
-asks-none (at.Doomed c left) t rows = refl
+ask-asks : (a : Ask) (t rows : Table) → OfTurn (askedBy a t rows)
+unfolding askedBy
+ask-asks (asks.SeedBoot g) t rows = (refl, omega arith)
+ask-asks (asks.RouteBoot g left) t rows = (refl, omega arith)
+ask-asks asks.TickClock t rows = (refl, omega arith)
+ask-asks (asks.WakePoll g k clock left) t rows = (refl, omega arith)
+ask-asks (asks.Fixed c a) t rows = fixed-asks t (whoOf (c .group) (c .key)) a
+ask-asks (asks.Eval c a) t rows = eval-asks t rows (whoOf (c .group) (c .key)) a
+ask-asks (asks.Sends c s) t rows = (refl, omega arith)
+ask-asks (asks.Trap c) t rows = (refl, omega arith)
+ask-asks (asks.Trapped c k) t rows = (refl, omega arith)
 
-asked-shows-disk : (d : Disk) (a : At) (t rows : Table) → orderOpen (asksIn d a t rows) ≡ orderOf d
-unfolding asksIn
-asked-shows-disk order.Free a t rows = asks-none a t rows
-asked-shows-disk (order.Waits o for) a t rows = refl
-asked-shows-disk order.Failed a t rows = refl
+at-asks : (a : At) (t rows : Table) → OfTurn (askedAt a t rows)
+at-asks at.Rest t rows = omega arith
+at-asks (at.Asks a) t rows = ask-asks a t rows
+at-asks (at.Runs p) t rows = omega arith
 
-pub shown-shows : (p : Pool) (t rows : Table) → Shows (shown p t rows)
+turn-shows : (a : Asked) → OfTurn a → orderOpen a ≡ nothing
+turn-shows (asked.Open q) is = is .0
+turn-shows asked.Nothing is = refl
+
+disk-shows : (d : Disk) (a : At) (t rows : Table) → orderOpen (askedIn d a t rows) ≡ orderOf d
+unfolding askedIn
+disk-shows order.Free a t rows = turn-shows (askedAt a t rows) (at-asks a t rows)
+disk-shows (order.Waits o for) a t rows = refl
+disk-shows order.Failed a t rows = refl
+
+shown-shows : (s : State) → Shows (shown s)
 unfolding Shows shown
-shown-shows p t rows ok = asked-shows-disk (p .turn .disk) (p .turn .at) t rows
+shown-shows s ok = disk-shows (s .pool .turn .disk) (s .pool .turn .at) (s .links) (s .rows)
 
--- where marks go out the turn is not at rest
-marks-move : (a : At) → marksAt a ≡ true → atRest a ≡ false
-unfolding marksAt atRest
-marks-move at.Rest e = absurd (never e)
-marks-move (at.Seed g) e = refl
-marks-move (at.SeedBoot g) e = refl
-marks-move (at.Intake left) e = refl
-marks-move (at.Route left) e = refl
-marks-move (at.RouteBoot g left) e = refl
-marks-move at.TickClock e = refl
-marks-move (at.Wake g clock) e = refl
-marks-move (at.WakeNext g clock left) e = refl
-marks-move (at.WakePoll g k clock left) e = refl
-marks-move (at.Ready g clock pops) e = refl
-marks-move (at.Fixed c a) e = refl
-marks-move (at.Eval c a) e = refl
-marks-move (at.StepEnd c s) e = refl
-marks-move (at.Sends c s) e = refl
-marks-move (at.Settle c s) e = refl
-marks-move (at.Crash c) e = refl
-marks-move (at.AskTrap c) e = refl
-marks-move (at.Trap c) e = refl
-marks-move (at.Trapped c k) e = refl
-marks-move (at.Doomed c left) e = refl
+-- ---- which reply fits
 
-abbrev Moving : Work → Type 0
-Moving w = (isFree (w .turn .disk) ≡ true) ⊎ (atRest (w .turn .at) ≡ false)
+turn-fits : (a : Asked) (r : Reply) → OfTurn a → fitsIn a r ≡ true → kindOf r < 7
+unfolding fitsOf
+turn-fits (asked.Open q) r is fits = omega (arith, is .1, eqb-true (kindWanted q) (kindOf r) fits)
+turn-fits asked.Nothing r is fits = absurd (never fits)
 
-step-moving : (g : Given) (w : Work) → isFree (w .turn .disk) ≡ true → Moving (stepOf g w)
-unfolding stepOf
-step-moving g w free =
-    pick-rule Moving (marksAt (w .turn .at))
-    (λ marking. pick-rule Moving (isFree (markFirst (w .bytes) (w .records) (w .links) (w .rows) (w .turn .log)
-    (g .limits .«compact_at») .marked .disk))
-    (λ f. inl f) (λ f. inr (marks-move (w .turn .at) marking)))
-    (λ e. inl free)
+-- a reply to an order is of the order's kind, and no other is
+abbrev OfKind : StoredIn → ℕ → Type 0
+OfKind stored.Stored k = k ≡ 7
+OfKind stored.Failed k = k ≡ 7
+OfKind stored.Other k = k < 7
 
-stays : (n : ℕ) (g : Given) (w : Work) → isFree (w .turn .disk) ≡ false → advanceOf n g w ≡ w
-unfolding advanceOf runningOf
-stays zero g w waits = refl
-stays (suc n) g w waits = rw waits
+reply-kind : (r : Reply) → OfKind (storedIn r) (kindOf r)
+reply-kind reply.Yes = omega arith
+reply-kind reply.No = omega arith
+reply-kind (reply.Clock ns) =
+    pick-rule (λ (k : ℕ). k < 7) (leb ns 9223372036854775807) (λ e. omega arith) (λ e. omega arith)
+reply-kind (reply.Count n) = omega arith
+reply-kind (reply.Ran s) = omega arith
+reply-kind reply.Message = omega arith
+reply-kind reply.End = omega arith
+reply-kind reply.Told = omega arith
+reply-kind reply.Stored = refl
+reply-kind reply.Failed = refl
 
-moving : (n : ℕ) (g : Given) (w : Work) → isFree (w .turn .disk) ≡ true → Moving (advanceOf n g w)
-unfolding advanceOf
-moving zero g w free = inl free
-moving (suc n) g w free = pick-rule Moving (runningOf (w .turn)) (λ e. go (stepOf g w) (moving n g (stepOf g w))
-    (step-moving g w free)) (λ e. inl free)
+-- an order waits
+pub record Waiting (d : Disk) : Type 0 where
+  pub out : Order
+  pub for : What
+  pub is : d ≡ order.Waits out for
+
+-- a reply to an order fits where one waits, any other where none does
+abbrev pub FitsOn : Disk → StoredIn → Type 0
+FitsOn d stored.Stored = Waiting d
+FitsOn d stored.Failed = Waiting d
+FitsOn d stored.Other = d ≡ order.Free
+
+pub reply-fits : (s : State) (r : Reply) → fitsIn (openIn s) r ≡ true
+    → FitsOn (s .pool .turn .disk) (storedIn r)
+unfolding askedIn fitsOf
+reply-fits s r fits = go (s .pool .turn .disk) (storedIn r) (reply-kind r) fits
   where
-    by : (v : Work) → (isFree (v .turn .disk) ≡ true → Moving (advanceOf n g v)) → atRest (v .turn .at) ≡ false
-        → (b : Bool) → isFree (v .turn .disk) ≡ b → Moving (advanceOf n g v)
-    by v later m true e = later e
-    by v later m false e = subst Moving (sym (stays n g v e)) (inr m)
+    other : fitsIn (askedAt (s .pool .turn .at) (s .links) (s .rows)) r ≡ true → kindOf r < 7
+    other =
+        turn-fits (askedAt (s .pool .turn .at) (s .links) (s .rows)) r
+        (at-asks (s .pool .turn .at) (s .links) (s .rows))
 
-    go : (v : Work) → (isFree (v .turn .disk) ≡ true → Moving (advanceOf n g v)) → Moving v → Moving (advanceOf n g v)
-    go v later (inl f) = later f
-    go v later (inr m) = by v later m (isFree (v .turn .disk)) refl
+    go : (d : Disk) (x : StoredIn) → OfKind x (kindOf r)
+        → fitsIn (askedIn d (s .pool .turn .at) (s .links) (s .rows)) r ≡ true → FitsOn d x
+    go order.Free stored.Stored kind e = absurd (omega (arith, other e))
+    go order.Free stored.Failed kind e = absurd (omega (arith, other e))
+    go order.Free stored.Other kind e = refl
+    go (order.Waits o for) stored.Stored kind e = record { out = o; for = for; is = refl }
+    go (order.Waits o for) stored.Failed kind e = record { out = o; for = for; is = refl }
+    go (order.Waits o for) stored.Other kind e = absurd (omega (arith, eqb-true 7 (kindOf r) e))
+    go order.Failed x kind e = absurd (never e)
+
+-- ---- a run
+
+-- where an order waits the turn is under way
+abbrev Moving : State → Type 0
+Moving s = (isFree (s .pool .turn .disk) ≡ true) ⊎ (inTurn (s .pool .turn .at) ≡ true)
+
+step-moving : (s : State) → runningOf (s .pool) ≡ true → Moving s → Moving (stepOf s)
+step-moving s run moves =
+    step-rule Moving s run
+    (λ p at-is free. pick-rule Moving (isFree (markAt s p .pool .turn .disk))
+    (λ e. inl (ap (λ (a : Aside). isFree (a .disk)) (go-aside (markAt s p) p) ∙ e))
+    (λ e. inr (ap inTurn (mark-stays s p .0 ∙ at-is))))
 
 free-none : (d : Disk) → isFree d ≡ true → orderOf d ≡ nothing
 free-none order.Free e = refl
 free-none (order.Waits o for) e = absurd (never e)
 free-none order.Failed e = refl
 
-ended-shows : (p : Pool) (busy waiters : Bool) → isFree (p .turn .disk) ≡ true
-    → Shows (record { pool = p; answer = answer.Ended busy waiters })
-unfolding Shows
-ended-shows p busy waiters f ok = sym (free-none (p .turn .disk) f)
-
-answered-shows : (p : Pool) (t rows keys : Table) → (isFree (p .turn .disk) ≡ true) ⊎ (atRest (p .turn .at) ≡ false)
-    → Shows (answeredOf p t rows keys)
-unfolding answeredOf
-answered-shows p t rows keys m = pick-rule Shows (atRest (p .turn .at)) (λ e. rest m e _ _) (λ e. shown-shows p t rows)
+answered-shows : (s : State) → Moving s → Shows (answeredOf s)
+unfolding Shows answeredOf
+answered-shows s moves = pick-rule Shows (inTurn (s .pool .turn .at)) (λ e. shown-shows s) (λ e ok. rest moves e)
   where
-    rest : (isFree (p .turn .disk) ≡ true) ⊎ (atRest (p .turn .at) ≡ false) → atRest (p .turn .at) ≡ true
-        → (busy waiters : Bool) → Shows (record { pool = p; answer = answer.Ended busy waiters })
-    rest (inl f) e busy waiters = ended-shows p busy waiters f
-    rest (inr m) e busy waiters = absurd (never (sym m ∙ e))
+    rest : Moving s → inTurn (s .pool .turn .at) ≡ false → nothing ≡ orderOf (s .pool .turn .disk)
+    rest (inl free) e = sym (free-none (s .pool .turn .disk) free)
+    rest (inr moves) e = absurd (never (sym e ∙ moves))
 
--- a run
-pub run-shows : (p : Pool) (bytes : List ℕ) (records : Table) (store : List ℕ) (groups t rows keys actors : Table)
-    → p .turn .disk ≡ order.Free
-    → Shows (runOf p bytes records store groups t rows keys actors .told)
+run-shows : (s : State) → s .pool .turn .disk ≡ order.Free → Shows (runOf s)
 unfolding runOf
-run-shows p bytes records store groups t rows keys actors free =
-    answered-shows _ _ _ _
-    (moving (weightOf (p .turn)) (record { limits = p .limits; store = store; groups = groups })
-    (record { turn = p .turn; bytes = bytes; records = records; links = t; rows = rows; keys = keys; actors = actors })
-    (ap isFree free))
+run-shows s free = answered-shows (advanced s) (advanced-rule Moving step-moving s (inl (ap isFree free)))
 
 -- ---- the calls
 
-module _ (p : Pool) (bytes : List ℕ) (records : Table) (store : List ℕ) (groups t rows keys actors : Table) where
-  logged-shows : (name body : List ℕ) (d : log.Did) (a : of-log.Answer)
-      → Shows (door.loggedBy p store t rows name body d a .told)
-  logged-shows name body d (logged.Ordered o) = shown-shows _ _ _
+-- no reply changes what no point changes
+pub resume-aside : (s : State) (a : Ask) (r : Reply) → asideOf (resumeOf s a r) ≡ asideOf s
+unfolding resumeOf
+resume-aside s (asks.SeedBoot g) r = refl
+resume-aside s (asks.RouteBoot g left) r = refl
+resume-aside s asks.TickClock r = refl
+resume-aside s (asks.WakePoll g k clock left) r = refl
+resume-aside s (asks.Fixed c a) r = refl
+resume-aside s (asks.Eval c a) r = refl
+resume-aside s (asks.Sends c step) r = refl
+resume-aside s (asks.Trap c) r = refl
+resume-aside s (asks.Trapped c k) r = refl
+
+pub resumed-aside : (s : State) (r : Reply) → asideOf (resumeAt s r) ≡ asideOf s
+unfolding resumeAt
+resumed-aside s r = go (s .pool .turn .at)
+  where
+    go : (a : At) → asideOf (resumeIn s a r) ≡ asideOf s
+    go at.Rest = refl
+    go (at.Asks a) = resume-aside s a r
+    go (at.Runs p) = refl
+
+module _ (s : State) where
+  logged-shows : (name body : List ℕ) (d : log.DidAppend) (a : of-log.Answer) → Shows (door.loggedIn s name body d a)
+  logged-shows name body d (logged.Ordered o) = shown-shows _
   logged-shows name body d (logged.Refused r) = refused-shows _ _
 
-  fit-shows : (name body : List ℕ) (who : Caller) → Shows (door.admitFit p bytes records store t rows name body who
-      .told)
-  unfolding door.admitFit door.admitLogged
-  fit-shows name body (caller.From who) = shown-shows _ _ _
-  fit-shows name body caller.Nobody = logged-shows name body (log.appendOf (log.state bytes records (p .turn .log))
-      name body) (log.appendOf (log.state bytes records (p .turn .log)) name body .answer)
+  admit-shows : (name body : List ℕ) (who : Caller) → Shows (door.admitEffect s name body who)
+  unfolding door.admitCalled door.admitLogged door.loggedBy
+  admit-shows name body (caller.From who) = shown-shows _
+  admit-shows name body caller.Nobody =
+      logged-shows name body (log.appendOf (walOf s) name body) (log.appendOf (walOf s) name body .answer)
 
-  checked-shows : (name body : List ℕ) (who : Caller) (k : Check)
-      → Shows (door.admitChecked p bytes records store t rows name body who k .told)
-  checked-shows name body who (check.Refuse r) = refused-shows _ _
-  checked-shows name body who check.Fine = fit-shows name body who
+  reply-shows : (r : Reply) (name body : List ℕ) (x : StoredIn) → FitsOn (s .pool .turn .disk) x
+      → Shows (pool.replyBy s r name body x)
+  unfolding pool.storedOf pool.failedOf pool.sentOf pool.resumedOf
+  reply-shows r name body stored.Stored fits =
+      pick-rule Shows (inTurn (s .pool .turn .at)) (λ e. run-shows (freed s) refl) (λ e. shown-shows _)
+  reply-shows r name body stored.Failed fits = shown-shows _
+  reply-shows r name body stored.Other free =
+      pick-rule Shows (isMessage r) (λ e. shown-shows _)
+      (λ e. run-shows (resumeAt s r) (ap (λ (a : Aside). a .disk) (resumed-aside s r) ∙ free))
 
-  admit-in-shows : (name body : List ℕ) (who : Caller) (d : Disk)
-      → Shows (door.admitIn p bytes records store groups t rows name body who d .told)
-  unfolding door.admitFree
-  admit-in-shows name body who order.Free =
-      checked-shows name body who
-      (door.admitCheck p t (loadedIn groups name (p .limits .groups)) (length name) (length body))
-  admit-in-shows name body who (order.Waits o w) = refused-shows _ _
-  admit-in-shows name body who order.Failed = refused-shows _ _
-
-  turn-in-shows : (d : Disk) → p .turn .disk ≡ d → Shows (one.turnIn p bytes records store groups t rows keys actors d
-      .told)
-  unfolding one.turnFree
-  turn-in-shows order.Free is =
-      pick-rule (λ (x : Ran). Shows (x .told)) (atRest (p .turn .at)) (λ e. run-shows (one.begunOf p) bytes records
-      store groups t rows keys actors is) (λ e. refused-shows _ _)
-  turn-in-shows (order.Waits o w) is = refused-shows _ _
-  turn-in-shows order.Failed is = refused-shows _ _
-
-  order-shows : (x : StoredIn) → Shows (one.orderBy p bytes records store groups t rows keys actors x .told)
-  unfolding one.storedOf one.failedOf
-  order-shows stored.Stored =
-      pick-rule (λ (x : Ran). Shows (x .told)) (atRest (p .turn .at)) (λ e. shown-shows _ _ _)
-      (λ e. run-shows (one.freed p) bytes records store groups t rows keys actors refl)
-  order-shows stored.Failed = shown-shows _ _ _
-  order-shows stored.Other = refused-shows _ _
-
-  module _ (r : Reply) (name body : List ℕ) where
-    sent-shows : (k : Check) → Shows (one.sentBy p store t rows name body k .told)
-    sent-shows (check.Refuse r) = refused-shows _ _
-    sent-shows check.Fine = shown-shows _ _ _
-
-    asked-shows : p .turn .disk ≡ order.Free → (a : Asked) → Shows (one.askedReply p bytes records store groups t rows
-        keys actors r name body a .told)
-    unfolding one.openReply one.fitReply one.sentOf one.resumedOf
-    asked-shows free (asked.Open q) =
-        pick-rule (λ (x : one.Replied). Shows (x .told)) (fitsOf q r)
-        (λ e. pick-rule (λ (x : one.Replied). Shows (x .told)) (one.isMessage r)
-        (λ e. sent-shows (one.sentCheck t (length name) (length body))) (λ e. run-shows _ bytes records store
-        groups _ rows _ _ free))
-        (λ e. refused-shows _ _)
-    asked-shows free asked.Nothing = refused-shows _ _
-
-    reply-in-shows : (d : Disk) → p .turn .disk ≡ d → Shows (one.replyIn p bytes records store groups t rows keys
-        actors r name body d .told)
-    unfolding one.turnReply one.orderReply
-    reply-in-shows order.Free is = asked-shows is (asksIn (p .turn .disk) (p .turn .at) t rows)
-    reply-in-shows (order.Waits o w) is = order-shows (one.storedIn r)
-    reply-in-shows order.Failed is = refused-shows _ _
-
-  sync-by-shows : (a : Due) → Shows (one.syncBy p t rows (log.syncOf (p .turn .log)) a)
-  sync-by-shows (due.Ordered o) = shown-shows _ _ _
-  sync-by-shows due.Nothing = shown-shows _ _ _
-
-  sync-in-shows : (d : Disk) → Shows (one.syncIn p t rows d)
-  unfolding one.syncFree
-  sync-in-shows order.Free = sync-by-shows (log.syncOf (p .turn .log) .due)
-  sync-in-shows (order.Waits o w) = refused-shows _ _
-  sync-in-shows order.Failed = refused-shows _ _
-
-  close-in-shows : (d : Disk) → Shows (one.closeIn p t rows d)
-  close-in-shows order.Free = shown-shows _ _ _
-  close-in-shows (order.Waits o w) = refused-shows _ _
-  close-in-shows order.Failed = refused-shows _ _
+call-shows : (s : State) (c : Call) → Shows (callOf s c)
+unfolding callOf door.admitOf pool.turnOf pool.replyOf pool.replyEffect pool.syncOf pool.closeOf
+call-shows s (admit name body who) =
+    table-rule Shows s (judged (admitRefusals s name body who)) _ (refused-shows s)
+    (λ fine. admit-shows s name body who)
+call-shows s turn =
+    table-rule Shows s (judged (turnRefusals (s .pool))) _ (refused-shows s)
+    (λ fine. run-shows (withPool s (begunOf (s .pool))) (turn-fine (s .pool) fine .0))
+call-shows s (reply r name body) =
+    table-rule Shows s (judged (replyRefusals s r name body)) _ (refused-shows s)
+    (λ fine. reply-shows s r name body (storedIn r) (reply-fits s r (reply-fine s r name body fine .0)))
+call-shows s sync =
+    table-rule Shows s (judged (syncRefusals (s .pool))) _ (refused-shows s) (λ fine. shown-shows _)
+call-shows s close =
+    table-rule Shows s (judged (closeRefusals (s .pool))) _ (refused-shows s) (λ fine. shown-shows _)
 
 -- After every accepted call the order that waits is the one that the answer shows.
-pub order-shown : (s : State) (c : Call) → accepted (callOf s c .answer) ≡ true → orderIn (callOf s c .answer)
-    ≡ orderOf (callOf s c .state .pool .turn .disk)
-unfolding Shows callOf door.admitOf one.turnOf one.replyOf one.syncOf one.closeOf
-order-shown s (admit name body who) = admit-in-shows (s .pool) (s .bytes) (s .records) (s .store) (s .groups)
-    (s .links) (s .rows) (s .keys) (s .actors) name body who (s .pool .turn .disk)
-order-shown s turn = turn-in-shows (s .pool) (s .bytes) (s .records) (s .store) (s .groups) (s .links) (s .rows)
-    (s .keys) (s .actors) (s .pool .turn .disk) refl
-order-shown s (reply r name body) = reply-in-shows (s .pool) (s .bytes) (s .records) (s .store) (s .groups) (s .links)
-    (s .rows) (s .keys) (s .actors) r name body (s .pool .turn .disk) refl
-order-shown s sync = sync-in-shows (s .pool) (s .bytes) (s .records) (s .store) (s .groups) (s .links) (s .rows)
-    (s .keys) (s .actors) (s .pool .turn .disk)
-order-shown s close = close-in-shows (s .pool) (s .bytes) (s .records) (s .store) (s .groups) (s .links) (s .rows)
-    (s .keys) (s .actors) (s .pool .turn .disk)
+pub order-shown : (s : State) (c : Call) → accepted (callOf s c .answer) ≡ true
+    → orderIn (callOf s c .answer) ≡ orderOf (callOf s c .state .pool .turn .disk)
+unfolding Shows
+order-shown s c = call-shows s c

@@ -1,7 +1,7 @@
 -- Wrong pools, and the clause of `Holds` that refuses each. Whatever a pool makes of a call is an outcome (`Did`), and
 -- the world goes by outcomes; so these are laws of any outcome of any pool. Assumes nothing.
 use mathlib.Core.Path.{_≡_, refl, sym, ap, _∙_, subst}
-use mathlib.Core.Bool.{false}
+use mathlib.Core.Bool.{false, false≢true}
 use mathlib.Core.Logic.{inl, inr}
 use mathlib.Core.List.{List, [], _∷_, _++_, List·Memᴰ, List·Memᴰ·head, List·Memᴰ·tail}
 use Prim.Native.Nat.{ℕ, _+_, _≤_, _<_}
@@ -27,19 +27,21 @@ use Rattle.actor.specs.declared.message.CallerId.{CallerId}
 use Rattle.actor.specs.declared.question.Question.the-variants as ask
 use Rattle.actor.specs.declared.question.Asked.the-variants as asked
 use Rattle.actor.specs.declared.question.Reply.the-variants as say
-use Rattle.door.specs.Open.{PoolOpened, noLeft}
+use Rattle.door.specs.Open.{openOf}
 use Rattle.setup.specs.Tables as setup
 use Rattle.handing.specs.Handing.{putMessages, Hands}
 use Rattle.handing.proofs.Handing.{hands}
-use Rattle.front.specs.declared.state.Answer.{Answer}
-use Rattle.front.specs.declared.state.Answer.the-variants as answer
-use Rattle.rail.specs.Rail.{Call, admit, turn, reply, State, Did, World, Lent, opens, fileIn, nothing}
-use Rattle.rail.specs.Rail.{stepDid, unordered, ordered, answered}
+use Rattle.turn.specs.State.{State, withLinks, withRows, withLog}
+use Rattle.front.specs.declared.answer.Answer.{Answer}
+use Rattle.front.specs.declared.answer.Answer.the-variants as answer
+use Rattle.front.specs.Answers.{Did}
+use Rattle.front.specs.Refusals.{Lent, fileIn}
+use Rattle.rail.specs.Rail.{Call, admit, turn, reply, World, nothing, stepDid, unordered, ordered, answered}
 use Rattle.rail.specs.Rail.{begin, inPlaces, orderIn, mailboxAt, handAt, Placed, Follows, Holds}
-use Rattle.rail.proofs.Opened.{tables-true, Taken, opensAs, opens-as}
+use Rattle.rail.proofs.Refusals.{Taken}
+use Rattle.rail.proofs.Opened.{tables-true, opensAs, opens-as}
 use Rattle.rail.proofs.Opening.{lent, hands-back}
 use Rattle.rail.proofs.Instance.{rowsOf, rows-are, lentWith, taken-with, nothing-left}
-use Rattle.rail.proofs.Shown.{never}
 use Rattle.rail.proofs.Left.{marked-in}
 
 -- ---- `placed`: a message that was not done stands nowhere, and no order is shown
@@ -66,7 +68,7 @@ module _ (l : Lent) (w : World) (c : Call) (s : State) (x : ℕ) (there : 0 < co
 -- so no pool leaves what a trapped neighbour held in a dead hand
 pub dead-refused : (l : Lent) (w : World) (g k : ℕ) → g < 8 → k < 16 → given (w .state .keys) g k ≡ false
     → 0 < length (mailboxAt (w .state .links) g k) + length (handAt (w .state .links) g k) → Holds l w → ⊥
-dead-refused l w g k g-is k-is dead some h = never (sym dead ∙ h .living g k g-is k-is .0 some)
+dead-refused l w g k g-is k-is dead some h = false≢true (sym dead ∙ h .living g k g-is k-is .0 some)
 
 -- ---- `safe`: a file that a cut may leave, and that reads as no moment
 
@@ -111,10 +113,9 @@ module _ (l : Lent) (t : Taken l) (file : List ℕ) (r : Read) (short : length f
   next-taken = record {
     fit = t .fit;
     tables =
-        tables-true (length (next .groups)) (length (next .links)) (length (next .rows)) (length (next .keys))
-        (length (next .actors)) (rows-are 8) (rows-are 262) (rows-are 256) (rows-are 34) (rows-are 128);
+        tables-true next (rows-are 8) (rows-are 262) (rows-are 256) (rows-are 34) (rows-are 128);
     sizes =
-        sized-true (length bytes) (length file) (length (next .store)) (length (next .records)) (length noLeft)
+        sized-true (length bytes) (length file) (length (next .store)) (length (next .records)) 256
         (record {
           least = omega (arith, follows .bytes, lent l t .least);
           most = omega (arith, follows .bytes, lent l t .most);
@@ -143,24 +144,14 @@ long-refused l w file long possible h = omega (arith, h .safe file possible .fit
 -- ---- three pools with a file that reads as no moment: each opens, has its replace stored, and orders an append
 
 -- the opening's replace is stored, and nothing else happens
-abbrev begun : Lent → PoolOpened → World
-begun l o =
-    let w = begin o (l .actors) (fileIn l) in
+abbrev begun : Lent → Did → World
+begun l d =
+    let w = begin d (fileIn l) in
     stepDid w (reply say.Stored [] []) (record { state = w .state; answer = answer.Open asked.Nothing })
 
 -- the state with these bytes in the log, and with messages in these lists and rows
 abbrev leaves : State → List ℕ → Table → Table → State
-leaves s new t rows = record {
-  pool = s .pool;
-  bytes = new;
-  records = s .records;
-  store = s .store;
-  groups = s .groups;
-  links = t;
-  rows = rows;
-  keys = s .keys;
-  actors = s .actors;
-}
+leaves s new t rows = withRows (withLinks (withLog s new (s .records)) t) rows
 
 -- an accepted call that shows the order to append the log's bytes a to b
 abbrev appends : State → ℕ → ℕ → Did
@@ -180,9 +171,9 @@ empty = lentWith (replicate 16 0) 0
 empty-taken : Taken empty
 empty-taken = taken-with (replicate 16 0) 0 nothingRead (omega arith) (omega arith) (omega arith) nothing-left
 
-abbrev admitted : Caller → ℕ → PoolOpened → World
-admitted who digit o =
-    let w = begun empty o in
+abbrev admitted : Caller → ℕ → Did → World
+admitted who digit d =
+    let w = begun empty d in
     stepDid w (admit [] [] who)
     (appends (leaves (w .state) (bareLine digit ++ replicate 12 0) (w .state .links) (w .state .rows)) 0 4)
 
@@ -221,21 +212,21 @@ longer : (ms a : List Message) → length a < length ms → ms ≡ a → ⊥
 longer ms a more e = omega (arith, ap length e)
 
 -- The cut after it: the record is on the disk. A pool that logs a message for which a caller waits: no moment has it.
-pub caller-refused : (who : CallerId) → Holds empty (admitted (caller.From who) 48 (opens empty)) → ⊥
+pub caller-refused : (who : CallerId) → Holds empty (admitted (caller.From who) 48 (openOf empty)) → ⊥
 unfolding empty-taken taken-with disk.issue disk.storedOrder disk.firmMoment disk.sent Format.split Format.allButLast
     Format.lines Opening.readLines Opening.readFile Opening.allFit Opening.judge Opening.opening Opening.image
 caller-refused who =
-    subst (λ o. Holds empty (admitted (caller.From who) 48 o) → ⊥) (sym (opens-as empty empty-taken))
+    subst (λ d. Holds empty (admitted (caller.From who) 48 d) → ⊥) (sym (opens-as empty empty-taken))
     (unsafe-refused empty empty-taken (bareLine 48) (record { left = bare 0 ∷ []; next = 1 }) (omega arith) zero-reads
     (admitted (caller.From who) 48 (opensAs empty nothingRead)) (cut (caller.From who) 48)
     (one-of-two (bare 0 ∷ []) [] [] (longer _ [] (omega arith)) (longer _ [] (omega arith))))
 
 -- A pool that leaves out an id: the moment after it has the next id, 0, and the file says 1.
-pub skipped-refused : Holds empty (admitted caller.Nobody 49 (opens empty)) → ⊥
+pub skipped-refused : Holds empty (admitted caller.Nobody 49 (openOf empty)) → ⊥
 unfolding empty-taken taken-with disk.issue disk.storedOrder disk.firmMoment disk.sent Format.split Format.allButLast
     Format.lines Opening.readLines Opening.readFile Opening.allFit Opening.judge Opening.opening Opening.image
 skipped-refused =
-    subst (λ o. Holds empty (admitted caller.Nobody 49 o) → ⊥) (sym (opens-as empty empty-taken))
+    subst (λ d. Holds empty (admitted caller.Nobody 49 d) → ⊥) (sym (opens-as empty empty-taken))
     (unsafe-refused empty empty-taken (bareLine 49) (record { left = bare 1 ∷ []; next = 2 }) (omega arith) one-reads
     (admitted caller.Nobody 49 (opensAs empty nothingRead)) (cut caller.Nobody 49)
     (one-of-two (bare 1 ∷ []) [] (bare 0 ∷ []) (longer _ [] (omega arith)) (λ e. omega (arith, ap firstId e))))
@@ -282,9 +273,9 @@ one-stands =
 abbrev newBytes : List ℕ
 newBytes = twoLines ++ (49 ∷ 10 ∷ []) ++ replicate 6 0
 
-abbrev turned : PoolOpened → World
-turned o =
-    let w = begun two o in
+abbrev turned : Did → World
+turned d =
+    let w = begun two d in
     stepDid w turn
     (appends (leaves (w .state) newBytes (oneStands .links) (oneStands .rows)) 8 10)
 
@@ -297,7 +288,7 @@ one-left s =
     (omega arith) (one-stands .same)
 
 -- The moment after it has 1, and the file has 0.
-pub other-refused : Holds two (turned (opens two)) → ⊥
+pub other-refused : Holds two (turned (openOf two)) → ⊥
 unfolding two-taken taken-with disk.issue disk.storedOrder disk.confirm disk.firmMoment disk.sent Format.escapeByte
     Format.escape Format.escaped Format.digits Format.printId Format.recordText Format.line Format.recordLine
     Format.unescape Format.decimal Format.below64 Format.readDigits Format.readId Format.joinHead Format.split
@@ -305,7 +296,7 @@ unfolding two-taken taken-with disk.issue disk.storedOrder disk.confirm disk.fir
     Opening.remove Opening.takeIn Opening.readLines Opening.readFile Opening.fits Opening.allFit Opening.judge
     Opening.opening Opening.image Bytes.write
 other-refused =
-    subst (λ o. Holds two (turned o) → ⊥) (sym (opens-as two two-taken))
+    subst (λ d. Holds two (turned d) → ⊥) (sym (opens-as two two-taken))
     (unsafe-refused two two-taken (twoLines ++ (49 ∷ 10 ∷ [])) (record { left = bare 0 ∷ []; next = 2 }) (omega arith)
     zero-left (turned (opensAs two twoRead)) (2, refl)
     (one-of-two (bare 0 ∷ []) (bare 0 ∷ bare 1 ∷ []) _ (λ e. omega (arith, ap length e))

@@ -1,2 +1,3 @@
 -- Definitions and statements.
 pub mod Rail
+pub mod Refusals

@@ -11,7 +11,7 @@ use mathlib.Core.Logic.{_⊎_}
 use mathlib.Core.List.{List, [], _∷_, _++_, List·Memᴰ}
 use Prim.Native.Nat.{ℕ, _+_, _*_, _<_, _≤_}
 use lib.Dec.{ltb}
-use lib.ListN.{length, take, drop}
+use lib.ListN.{length, drop}
 use Rattle.text.specs.Format.{Message}
 use Rattle.log.specs.Opening.{Opening, opened, refused, opening, Rising}
 use Rattle.log.specs.Log.{Wal}
@@ -31,20 +31,19 @@ use Rattle.places.specs.Places.{stands, mailTotal}
 use Rattle.mailboxes.specs.Mailboxes.{Chained}
 use Rattle.keeping.specs.Living.{given}
 use Rattle.handing.specs.Handing.{handed, idsOf}
-use Rattle.setup.specs.declared.settings.Settings.{Settings}
 use Rattle.setup.specs.Entry.{storeEntry}
-use Rattle.front.specs.declared.state.Pool.{Pool}
-use Rattle.front.specs.declared.state.Refusal.the-variants.{NotLoaded}
-use Rattle.front.specs.declared.state.Answer.{Answer}
-use Rattle.front.specs.declared.state.Answer.the-variants as answer
-use Rattle.front.specs.declared.state.Told.{Told}
+use Rattle.turn.specs.State.{State, walOf}
+use Rattle.front.specs.declared.answer.Refusal.the-variants.{NotLoaded}
+use Rattle.front.specs.declared.answer.Answer.{Answer}
+use Rattle.front.specs.declared.answer.Answer.the-variants as answer
+use Rattle.front.specs.Answers.{Did}
+use Rattle.front.specs.Refusals.{Lent, fileIn}
 use Rattle.pool.specs.declared.calls.StoredIn.{StoredIn}
 use Rattle.pool.specs.declared.calls.StoredIn.the-variants as stored
-use Rattle.door.specs.Open.{PoolOpened, openOf}
-use Rattle.door.specs.Admit.{Admitted, admitOf}
+use Rattle.door.specs.Open.{openOf}
+use Rattle.door.specs.Admit.{admitOf}
 use Rattle.door.specs.Loaded.{Routes, LoadedAt}
-use Rattle.pool.specs.Run.{Ran}
-use Rattle.pool.specs.Calls.{Replied, turnOf, storedIn, replyOf, syncOf, closeOf}
+use Rattle.pool.specs.Calls.{turnOf, storedIn, replyOf, syncOf, closeOf}
 
 -- ---- a call
 
@@ -57,101 +56,13 @@ pub data Call : Type 0 where
   sync : Call
   close : Call
 
--- what each call gets as the one before left it: the pool, the log's bytes and table of open records, the body store,
--- and the pool's tables
-pub record State : Type 0 where
-  pub pool : Pool
-  pub bytes : List ℕ
-  pub records : Table
-  pub store : List ℕ
-  pub groups : Table
-  pub links : Table
-  pub rows : Table
-  pub keys : Table
-  pub actors : Table
-
-pub record Did : Type 0 where
-  pub state : State
-  pub answer : Answer
-
-abbrev pub didAdmit : State → Admitted → Did
-didAdmit s a = record {
-  state = record {
-    pool = a .told .pool;
-    bytes = a .bytes;
-    records = a .records;
-    store = a .store;
-    groups = s .groups;
-    links = a .links;
-    rows = a .rows;
-    keys = s .keys;
-    actors = s .actors;
-  };
-  answer = a .told .answer;
-}
-
-abbrev pub didRun : State → Ran → Did
-didRun s r = record {
-  state = record {
-    pool = r .told .pool;
-    bytes = r .bytes;
-    records = r .records;
-    store = s .store;
-    groups = s .groups;
-    links = r .links;
-    rows = r .rows;
-    keys = r .keys;
-    actors = r .actors;
-  };
-  answer = r .told .answer;
-}
-
-abbrev pub didReply : State → Replied → Did
-didReply s r = record {
-  state = record {
-    pool = r .told .pool;
-    bytes = r .bytes;
-    records = r .records;
-    store = r .store;
-    groups = s .groups;
-    links = r .links;
-    rows = r .rows;
-    keys = r .keys;
-    actors = r .actors;
-  };
-  answer = r .told .answer;
-}
-
-abbrev pub didTell : State → Told → Did
-didTell s t = record {
-  state = record {
-    pool = t .pool;
-    bytes = s .bytes;
-    records = s .records;
-    store = s .store;
-    groups = s .groups;
-    links = s .links;
-    rows = s .rows;
-    keys = s .keys;
-    actors = s .actors;
-  };
-  answer = t .answer;
-}
-
 -- what a call does: the definitions that the code equals
 unfoldable pub callOf : State → Call → Did
-callOf s (admit name body who) =
-    didAdmit s
-    (admitOf (s .pool) (s .bytes) (s .records) (s .store) (s .groups) (s .links) (s .rows) name body who)
-callOf s turn =
-    didRun s
-    (turnOf (s .pool) (s .bytes) (s .records) (s .store) (s .groups) (s .links) (s .rows) (s .keys) (s .actors))
-callOf s (reply r name body) =
-    didReply s
-    (replyOf (s .pool) (s .bytes) (s .records) (s .store) (s .groups) (s .links) (s .rows) (s .keys) (s .actors)
-    r name body)
-callOf s sync = didTell s (syncOf (s .pool) (s .links) (s .rows))
-callOf s close = didTell s (closeOf (s .pool) (s .links) (s .rows))
+callOf s (admit name body who) = admitOf s name body who
+callOf s turn = turnOf s
+callOf s (reply r name body) = replyOf s r name body
+callOf s sync = syncOf s
+callOf s close = closeOf s
 
 -- ---- what an answer shows
 
@@ -194,10 +105,6 @@ ordersIn nothing = 0
 ordersIn (shows o) = 1
 
 -- ---- the world
-
--- the log as the state has it
-abbrev pub walOf : State → Wal
-walOf s = record { bytes = s .bytes; table = s .records; counters = s .pool .turn .log }
 
 -- journal: the disk, the moments, the messages logged and not done now, and the moment of the last confirmed flush or
 -- replace (crates/log/specs/Recovery). The log is carried along in it, as there; nothing here is decided by it.
@@ -329,32 +236,9 @@ run w (c ∷ cs) = run (step w c) cs
 
 -- ---- an accepted opening
 
--- what an opening is given: the settings, with a row for each of their groups; the lent log, of which the first `size`
--- bytes are the file; the lent body store and tables
-pub record Lent : Type 0 where
-  pub settings : Settings
-  pub groupsGiven : Table
-  pub bytes : List ℕ
-  pub size : ℕ
-  pub store : List ℕ
-  pub records : Table
-  pub groups : Table
-  pub links : Table
-  pub rows : Table
-  pub keys : Table
-  pub actors : Table
-
-abbrev pub opens : Lent → PoolOpened
-opens l =
-    openOf (l .settings) (l .groupsGiven) (l .bytes) (l .size) (l .store) (l .records) (l .groups) (l .links) (l .rows)
-    (l .keys) (l .actors)
-
 -- an opening that is accepted
 abbrev pub Accepts : Lent → Type 0
-Accepts l = accepted (opens l .told .answer) ≡ true
-
-abbrev pub fileIn : Lent → List ℕ
-fileIn l = take (l .size) (l .bytes)
+Accepts l = accepted (openOf l .answer) ≡ true
 
 -- the messages that a file leaves
 abbrev pub leftBy : Opening → List Message
@@ -374,27 +258,14 @@ abbrev pub startStatus : List ℕ → Shown → disk.Status
 startStatus bytes nothing = disk.settled
 startStatus bytes (shows o) = disk.waits (disk.sent bytes o)
 
-abbrev pub openState : PoolOpened → Table → State
-openState o actors = record {
-  pool = o .told .pool;
-  bytes = o .bytes;
-  records = o .records;
-  store = o .store;
-  groups = o .groups;
-  links = o .links;
-  rows = o .rows;
-  keys = o .keys;
-  actors = actors;
-}
-
 -- the world at the start: the file given counts as confirmed, the order that the answer shows is out, and the messages
 -- left are handed back
-abbrev pub begin : PoolOpened → Table → List ℕ → World
-begin o actors file = record {
-  state = openState o actors;
+abbrev pub begin : Did → List ℕ → World
+begin d file = record {
+  state = d .state;
   journal = record {
-    wal = walOf (openState o actors);
-    disk = record { sure = file; since = []; status = startStatus (o .bytes) (orderIn (o .told .answer)) };
+    wal = walOf (d .state);
+    disk = record { sure = file; since = []; status = startStatus (d .state .bytes) (orderIn (d .answer)) };
     moments = leftOf file ∷ [];
     now = leftOf file;
     firm = 0;
@@ -406,7 +277,7 @@ begin o actors file = record {
 
 -- a list of calls after an opening
 abbrev pub after : Lent → List Call → World
-after l calls = run (begin (opens l) (l .actors) (fileIn l)) calls
+after l calls = run (begin (openOf l) (fileIn l)) calls
 
 -- ---- what holds after every list
 
@@ -430,8 +301,8 @@ Living t keys g k =
     (0 < length (mailboxAt t g k) + length (handAt t g k) → given keys g k ≡ true) × (length (handAt t g k) ≤ 1)
 
 -- what an opening hands back: the messages in pending, in order, each with log id, group and body
-abbrev pub handedBack : PoolOpened → List Message
-handedBack o = handed (o .store) (o .links) (o .rows)
+abbrev pub handedBack : State → List Message
+handedBack s = handed (s .store) (s .links) (s .rows)
 
 -- an opening after this one, of this file: the same settings, a lent log of the same length that begins with the file,
 -- and any store and tables of the right sizes
@@ -458,7 +329,7 @@ pub record Reopens (l : Lent) (file : List ℕ) (moments : List (List Message)) 
   pub rises : (high : ℕ) × Rising 0 found high
   pub among : List·Memᴰ found moments
   pub accepts : (next : Lent) → Follows l next file → Accepts next
-  pub back : (next : Lent) → Follows l next file → handedBack (opens next) ≡ found
+  pub back : (next : Lent) → Follows l next file → handedBack (openOf next .state) ≡ found
 
 pub record Holds (l : Lent) (w : World) : Type 0 where
   -- each message logged or handed back is in its place, and no other id stands anywhere
@@ -512,7 +383,8 @@ pub record TailsKept : Type 0 where
   pub sizes : (l : Lent) → Accepts l → (calls : List Call)
       → SizeIs (after l calls .state .pool .turn .log .size) (after l calls .journal .disk)
       (after l calls .journal .disk .status)
-  pub openings : (l : Lent) → Accepts l → KeepsTail (opens l .told .pool .turn .log .size) (l .bytes) (opens l .bytes)
+  pub openings : (l : Lent) → Accepts l
+      → KeepsTail (openOf l .state .pool .turn .log .size) (l .bytes) (openOf l .state .bytes)
   pub calls : EveryCall CallKeepsTail
 
 -- a refused call leaves pool, log, store and every table as they were
@@ -520,22 +392,23 @@ abbrev pub CallRefusedSame : World → Call → Type 0
 CallRefusedSame w c = accepted (callOf (w .state) c .answer) ≡ false → callOf (w .state) c .state ≡ w .state
 
 -- an opening that leaves all that it was lent as it was
-abbrev pub Untouched : Lent → PoolOpened → Type 0
-Untouched l o =
-    o
+abbrev pub Untouched : Lent → State → Type 0
+Untouched l s =
+    s
     ≡ record {
+      pool = s .pool;
       bytes = l .bytes;
-      store = l .store;
       records = l .records;
+      store = l .store;
       groups = l .groups;
       links = l .links;
       rows = l .rows;
       keys = l .keys;
-      told = o .told;
+      actors = l .actors;
     }
 
 pub record RefusedSame : Type 0 where
-  pub openings : (l : Lent) → accepted (opens l .told .answer) ≡ false → Untouched l (opens l)
+  pub openings : (l : Lent) → accepted (openOf l .answer) ≡ false → Untouched l (openOf l .state)
   pub calls : EveryCall CallRefusedSame
 
 -- What an accepted call orders. An admission for which no caller waits has an order: it is logged. One with a caller,
@@ -556,7 +429,7 @@ CallOrderFits w c =
 
 -- and an accepted opening replaces the file
 pub record OrdersFit : Type 0 where
-  pub openings : (l : Lent) → Accepts l → (size : ℕ) × (orderIn (opens l .told .answer) ≡ shows (Replace size))
+  pub openings : (l : Lent) → Accepts l → (size : ℕ) × (orderIn (openOf l .answer) ≡ shows (Replace size))
   pub calls : EveryCall CallOrderFits
 
 -- Whom an admission is for. Accepted, its message comes to the inbox's end, and its program is loaded: the group that
@@ -570,8 +443,8 @@ abbrev pub AcceptsLoaded : State → List ℕ → List ℕ → Caller → Type 0
 AcceptsLoaded s name body who =
     accepted (callOf s (admit name body who) .answer) ≡ true → ComesLoaded s (callOf s (admit name body who) .state)
 
--- Refused with 17, it is for no such program: in whatever entry it were written, routing would find no group for it that
--- may have an actor.
+-- Refused with 17, it is for no such program: in whatever entry it were written, routing would find no group for it
+-- that may have an actor.
 abbrev pub RefusesUnloaded : State → List ℕ → List ℕ → Caller → Type 0
 RefusesUnloaded s name body who =
     callOf s (admit name body who) .answer ≡ answer.Refused NotLoaded

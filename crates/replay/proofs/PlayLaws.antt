@@ -11,7 +11,6 @@ use lib.ListN.{length, take, replicate, length-replicate}
 use Rattle.lists.specs.Links.{pick, Table}
 use Rattle.lists.specs.declared.Found.{Found}
 use Rattle.lists.specs.declared.Found.the-variants.{Entry, Nothing}
-use Rattle.front.specs.declared.state.Answer.{Answer}
 use Rattle.wire.specs.Number.{numbers}
 use Rattle.wire.specs.Pour.{Poured, poured, pour, pourRows, pourKeys}
 use Rattle.wire.specs.Script.{headerOf, groupsInto, callAt}
@@ -20,12 +19,14 @@ use Rattle.wire.specs.declared.script.HeaderRead.{HeaderRead}
 use Rattle.wire.specs.declared.script.HeaderRead.the-variants as header
 use Rattle.wire.specs.declared.script.CallAt.{CallAt}
 use Rattle.wire.specs.declared.script.CallRead.the-variants as call
-use Rattle.door.specs.Open.{PoolOpened, openOf}
-use Rattle.rail.specs.Rail.{State, Did, callOf, openState, accepted}
+use Rattle.turn.specs.State.{State}
+use Rattle.front.specs.Answers.{Did}
+use Rattle.door.specs.Open.{openOf}
+use Rattle.rail.specs.Rail.{callOf, accepted}
 use Rattle.replay.specs.Entry.{pourMessage, pourLog, pourTables, pourStore, pourEntry}
-use Rattle.replay.specs.Replay.{heard, Calls, ended, malformed, next, endOf, callsAt, Played, played, stopped}
-use Rattle.replay.specs.Replay.{coded, play, blank, placed, didOpen, playOpened, playFrom, playHeaded}
-use Rattle.replay.specs.Replay.{playScript, Replayed, replayed, counted, replayOf}
+use Rattle.replay.specs.Replay.{heard, Calls, ended, malformed, next, callsAt, Played, played, stopped}
+use Rattle.replay.specs.Replay.{coded, play, blank, placed, playOpened, playFrom, playHeaded}
+use Rattle.replay.specs.Replay.{playScript, replayed, counted, replayOf}
 
 -- ---- the calls from p on
 
@@ -92,8 +93,8 @@ module _ {whole : Played} {show : ℕ} {s : List ℕ} {st : State} {d : Poured} 
 
       pub running-torn : call.Malformed ≡ callAt s p → stopped st (poured (d .out) (d .at) 1) ≡ whole
       running-torn e =
-          let torn : callsAt (r .most) s p ≡ malformed = ap (λ k. callsAt k s p) more ∙ calls-torn (r .most - 1) s p h e
-          in
+          let torn : callsAt (r .most) s p ≡ malformed =
+          ap (λ k. callsAt k s p) more ∙ calls-torn (r .most - 1) s p h e in
           sym (ap (play show st d) torn ∙ play-torn show st d code) ∙ r .same
 
       -- the next call is run, and its entry written
@@ -203,30 +204,22 @@ module _ (a : ℕ) where
 
 -- ---- the opening
 
-module _ (show : ℕ) (s : List ℕ) (start : ℕ) (d : Poured) {o x : PoolOpened} (opens : o ≡ x) {actors : Table}
-    (lent : actors ≡ blank 128 12) {e : Poured}
-    (wrote : e ≡ pourEntry show d (record { state = openState o actors; answer = o .told .answer })) where
-  abbrev did : Did
-  did = record { state = openState o actors; answer = o .told .answer }
-
-  did-is : did ≡ didOpen x
-  did-is = ap (λ t. record { state = openState o t; answer = o .told .answer }) lent ∙ ap didOpen opens
-
-  pub opened-refused : accepted (o .told .answer) ≡ false → stopped (openState o actors) e
-      ≡ playOpened show s start (didOpen x) d
+module _ (show : ℕ) (s : List ℕ) (start : ℕ) (d : Poured) {did x : Did} (opens : did ≡ x) {e : Poured}
+    (wrote : e ≡ pourEntry show d did) where
+  pub opened-refused : accepted (did .answer) ≡ false → stopped (did .state) e ≡ playOpened show s start x d
   unfolding playOpened
   opened-refused h =
-      let no : playOpened show s start did d ≡ stopped (openState o actors) (pourEntry show d did) = rw h in
-      ap (stopped (openState o actors)) wrote ∙ (sym no ∙ ap (λ y. playOpened show s start y d) did-is)
+      let no : playOpened show s start did d ≡ stopped (did .state) (pourEntry show d did) = rw h in
+      ap (stopped (did .state)) wrote ∙ (sym no ∙ ap (λ y. playOpened show s start y d) opens)
 
-  pub opened-on : accepted (o .told .answer) ≡ true → {p : Played} → p ≡ play show (openState o actors) e
-      (callsAt (length s) s start) → p ≡ playOpened show s start (didOpen x) d
+  pub opened-on : accepted (did .answer) ≡ true → {p : Played} → p ≡ play show (did .state) e
+      (callsAt (length s) s start) → p ≡ playOpened show s start x d
   unfolding playOpened
   opened-on h q =
-      let yes : playOpened show s start did d ≡ play show (openState o actors) (pourEntry show d did)
+      let yes : playOpened show s start did d ≡ play show (did .state) (pourEntry show d did)
       (callsAt (length s) s start) = rw h in
-      q ∙ (ap (λ y. play show (openState o actors) y (callsAt (length s) s start)) wrote
-      ∙ (sym yes ∙ ap (λ y. playOpened show s start y d) did-is))
+      q ∙ (ap (λ y. play show (did .state) y (callsAt (length s) s start)) wrote
+      ∙ (sym yes ∙ ap (λ y. playOpened show s start y d) opens))
 
 -- ---- a script by its header
 
@@ -261,8 +254,22 @@ module _ (s bytes store out : List ℕ) where
           → given ≡ blank 16 37 → records ≡ blank 256 3 → groups ≡ blank 8 37 → links ≡ blank 262 4 → rows
           ≡ blank 256 7 → keys ≡ blank 34 65 → actors ≡ blank 128 12
           → given′ ≡ groupsInto (h .groups) s 88 given → log ≡ placed s (h .file) (h .n) bytes → {p : Played}
-          → p ≡ playOpened (h .show) s (h .file + h .n) (didOpen (openOf (h .settings) (take (h .groups) given′) log
-          (h .n) store records groups links rows keys actors)) (poured out 8 0) → p ≡ whole
+          → p ≡ playOpened (h .show) s (h .file + h .n)
+          (openOf (record {
+            settings = h .settings;
+            groupsGiven = take (h .groups) given′;
+            bytes = log;
+            size = h .n;
+            store = store;
+            records = records;
+            groups = groups;
+            links = links;
+            rows = rows;
+            keys = keys;
+            actors = actors;
+          }))
+          (poured out 8 0)
+          → p ≡ whole
       script-opened l a b c d e f g grouped filed q = q ∙ (rw (grouped, filed, a, b, c, d, e, f, g) refl
           ∙ script-runs l)
 

@@ -9,12 +9,13 @@ use Rattle.lists.specs.declared.Found.{Found}
 use Rattle.lists.specs.declared.Found.the-variants.{Entry, Nothing}
 use Rattle.setup.specs.declared.part.Part.{Part}
 use Rattle.setup.specs.Part.{bytesIn, partOf}
-use Rattle.front.specs.declared.state.Pool.{Pool}
+use Rattle.turn.specs.declared.state.Pool.{Pool}
+use Rattle.turn.specs.State.{State}
 use Rattle.front.specs.declared.numbers.AnswerNumbers.{AnswerNumbers}
+use Rattle.front.specs.Answers.{Did}
 use Rattle.front.specs.Numbers.{flagNumber, numbersOf}
 use Rattle.wire.specs.Number.{numbers}
 use Rattle.wire.specs.Pour.{Poured, pour, pourRows, pourKeys}
-use Rattle.rail.specs.Rail.{State, Did}
 
 -- the answer; next, live, size, dirty and the number of open records; queued, dead and crashes
 abbrev pub entryNumbers : AnswerNumbers → Pool → List ℕ

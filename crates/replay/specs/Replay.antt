@@ -1,7 +1,6 @@
 -- What `replay` makes of a script, the lent log and store, and the output: the script's calls decoded, the pool's own
 -- definitions run over them one after the other, each with what the one before left (`callOf`,
 -- crates/rail/specs/Rail), and an entry written for each.
-use mathlib.Core.Bool.{Bool, true, false}
 use mathlib.Core.List.{List, [], _∷_}
 use Prim.Native.Nat.{ℕ, zero, suc, _+_, _-_}
 use lib.Dec.{eqb, ltb}
@@ -19,8 +18,11 @@ use Rattle.wire.specs.declared.script.Kind.the-variants as kind
 use Rattle.wire.specs.declared.script.CallAt.{CallAt}
 use Rattle.wire.specs.declared.script.CallRead.{CallRead}
 use Rattle.wire.specs.declared.script.CallRead.the-variants as call
-use Rattle.door.specs.Open.{PoolOpened, openOf}
-use Rattle.rail.specs.Rail.{Call, admit, turn, reply, sync, close, State, Did, callOf, openState, accepted}
+use Rattle.turn.specs.State.{State}
+use Rattle.front.specs.Answers.{Did}
+use Rattle.front.specs.Refusals.{Lent}
+use Rattle.door.specs.Open.{openOf}
+use Rattle.rail.specs.Rail.{Call, admit, turn, reply, sync, close, callOf, accepted}
 use Rattle.replay.specs.Entry.{pourEntry}
 
 -- ---- calls
@@ -94,8 +96,21 @@ givenIn s groups = take groups (groupsInto groups s 88 (blank 16 37))
 unfoldable pub placed : List ℕ → ℕ → ℕ → List ℕ → List ℕ
 placed s from n bytes = pour (poured bytes 0 0) (part s from (from + n)) .out
 
-abbrev pub didOpen : PoolOpened → Did
-didOpen o = record { state = openState o (blank 128 12); answer = o .told .answer }
+-- what the opening is given
+abbrev pub lentBy : List ℕ → Header → List ℕ → List ℕ → Lent
+lentBy s h bytes store = record {
+  settings = h .settings;
+  groupsGiven = givenIn s (h .groups);
+  bytes = placed s (h .file) (h .n) bytes;
+  size = h .n;
+  store = store;
+  records = blank 256 3;
+  groups = blank 8 37;
+  links = blank 262 4;
+  rows = blank 256 7;
+  keys = blank 34 65;
+  actors = blank 128 12;
+}
 
 -- the opening's entry; then, if it was accepted, the calls
 unfoldable pub playOpened : ℕ → List ℕ → ℕ → Did → Poured → Played
@@ -106,11 +121,7 @@ playOpened show s start did d =
 
 abbrev pub playFrom : List ℕ → Header → List ℕ → List ℕ → Poured → Played
 playFrom s h bytes store d =
-    playOpened (h .show) s (h .file + h .n)
-    (didOpen
-    (openOf (h .settings) (givenIn s (h .groups)) (placed s (h .file) (h .n) bytes) (h .n) store (blank 256 3)
-    (blank 8 37) (blank 262 4) (blank 256 7) (blank 34 65) (blank 128 12)))
-    d
+    playOpened (h .show) s (h .file + h .n) (openOf (lentBy s h bytes store)) d
 
 -- 1: the header is malformed; 3: the lent log or store has another length than the script says
 abbrev pub playHeaded : List ℕ → HeaderRead → List ℕ → List ℕ → Poured → Played

@@ -12,13 +12,13 @@ ghost use Rattle.replay.specs.Entry.{
 };
 ghost use Rattle.wire.specs.Pour.{pour};
 ghost use Rattle.wire.specs.Number.{numbers};
+use front::answer::Answer;
 use front::numbers;
 use front::numbers::AnswerNumbers;
-use front::state::Answer;
-use front::state::Pool;
 use lists::Found;
 use setup::part;
 use setup::part::Span;
+use turn::state::Pool;
 use wire::pour;
 use wire::pour::Done;
 

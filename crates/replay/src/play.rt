@@ -5,15 +5,15 @@ ghost use Prim.Native.Nat.{_+_, _≤_};
 ghost use lib.ListN.{length, take};
 ghost use Rattle.rail.specs.Rail.{callOf, accepted};
 ghost use Rattle.door.specs.Open.{openOf};
-ghost use Rattle.replay.specs.Replay.{heard, callsAt, play, blank, placed, didOpen, playOpened, playScript};
+ghost use Rattle.replay.specs.Replay.{heard, callsAt, play, blank, placed, playOpened, playScript};
 use crate::entry;
 use door::admit;
 use door::open;
-use front::state::Answer;
-use front::state::Pool;
-use front::state::Told;
+use front::answer::Answer;
+use front::answer::Called;
 use pool::calls;
 use setup::settings::Settings;
+use turn::state::Pool;
 use wire::pour;
 use wire::pour::Done;
 use wire::script;
@@ -35,7 +35,7 @@ fn step(
     rows: &mut [[u64; 7]],
     lists: &mut [[u8; 65]],
     actors: &mut [[u64; 12]],
-) -> Told
+) -> Called
     requires { ⌜ (call .name ≤ call .body) × (call .body ≤ call .end) × (call .end ≤ length (now script)) ⌝ }
     ensures { λ r.
         ⌜ record {
@@ -165,7 +165,7 @@ fn run_calls(
             }
             CallRead::Next(call) => {
                 let end = call.end;
-                let told = step(
+                let called = step(
                     script,
                     call,
                     pool,
@@ -178,8 +178,8 @@ fn run_calls(
                     lists,
                     actors,
                 );
-                let after = told.pool;
-                let answer = told.answer;
+                let after = called.pool;
+                let answer = called.answer;
                 let next = entry::pour_entry(
                     out,
                     e,
@@ -234,7 +234,6 @@ fn run_opened(
     out: &mut [u8],
     d: Done,
 ) -> Done
-    requires { ⌜ now actors ≡ blank 128 12 ⌝ }
     ensures { λ r.
         ⌜ record {
           bytes = now (log .exit);
@@ -242,12 +241,22 @@ fn run_opened(
           poured = record { out = now (out .exit); at = r .at; code = r .code };
         }
         ≡ playOpened show (now (script .entry)) start
-        (didOpen
-        (openOf settings (now (given .entry)) (now (log .entry)) n (now (store .entry)) (now (records .entry))
-        (now (groups .entry)) (now (links .entry)) (now (rows .entry)) (now (lists .entry)) (now (actors .entry))))
+        (openOf (record {
+          settings = settings;
+          groupsGiven = now (given .entry);
+          bytes = now (log .entry);
+          size = n;
+          store = now (store .entry);
+          records = now (records .entry);
+          groups = now (groups .entry);
+          links = now (links .entry);
+          rows = now (rows .entry);
+          keys = now (lists .entry);
+          actors = now (actors .entry);
+        }))
         (record { out = now (out .entry); at = d .at; code = d .code }) ⌝ }
 {
-    let told = open::open(
+    let called = open::open(
         settings,
         given,
         log,
@@ -260,8 +269,8 @@ fn run_opened(
         lists,
         actors,
     );
-    let pool = told.pool;
-    let answer = told.answer;
+    let pool = called.pool;
+    let answer = called.answer;
     let e = entry::pour_entry(
         out,
         d,

@@ -4,6 +4,7 @@ use lib.Dec.{eqb, ltb, leb}
 use Rattle.lists.specs.Links.{pick, Table, lenOf, capped, moveFirst, moveAll}
 use Rattle.group.specs.declared.at.At.{At}
 use Rattle.group.specs.declared.at.At.the-variants as at
+use Rattle.group.specs.declared.at.Point.the-variants as point
 
 abbrev pub INBOX : ℕ
 INBOX = 1
@@ -24,7 +25,10 @@ batchSize n = pick (ltb n 256) n 256
 
 unfoldable pub batchOf : Table → Linked
 batchOf t =
-    record { links = moveAll t PENDING BATCH; at = at.Route (batchSize (lenOf (moveAll t PENDING BATCH) BATCH)) }
+    record {
+      links = moveAll t PENDING BATCH;
+      at = at.Runs (point.Route (batchSize (lenOf (moveAll t PENDING BATCH) BATCH)));
+    }
 
 -- one message more, while there is one and room for it; `left` counts what may still be taken in
 unfoldable pub intakeOf : Table → ℕ → ℕ → ℕ → Linked
@@ -32,4 +36,4 @@ intakeOf t queued backlog left =
     pick (eqb left 0) (batchOf t)
     (pick (leb backlog (capped (lenOf t PENDING + queued))) (batchOf t)
     (pick (eqb (lenOf t INBOX) 0) (batchOf t)
-    (record { links = moveFirst t INBOX PENDING; at = at.Intake (left - 1) })))
+    (record { links = moveFirst t INBOX PENDING; at = at.Runs (point.Intake (left - 1)) })))

@@ -18,6 +18,8 @@ use Rattle.actor.specs.Actors.{actorAt, putActor, deliveredTo}
 use Rattle.steps.specs.Steps.{overFirst}
 use Rattle.group.specs.declared.at.At.{At}
 use Rattle.group.specs.declared.at.At.the-variants as at
+use Rattle.group.specs.declared.at.Ask.the-variants as asks
+use Rattle.group.specs.declared.at.Point.the-variants as point
 use Rattle.group.specs.declared.settings.Named.{Named}
 use Rattle.group.specs.declared.settings.Named.the-variants as named
 use Rattle.group.specs.Settings.{groupAt, groupFor}
@@ -41,7 +43,7 @@ routedTo a queued = record { at = a; queued = queued }
 
 -- the batch's first message is over
 unfoldable pub undeliverable : Table → Table → ℕ → Linked
-undeliverable t rows left = record { links = overFirst t rows BATCH; at = at.Route (left - 1) }
+undeliverable t rows left = record { links = overFirst t rows BATCH; at = at.Runs (point.Route (left - 1)) }
 
 abbrev pub lostTo : Linked → Table → Table → ℕ → Sent
 lostTo l keys actors queued =
@@ -68,7 +70,7 @@ deliveredBy m k left =
       links = m .links;
       keys = k .keys;
       actors = k .actors;
-      routed = routedTo (at.Route (left - 1)) (m .queued);
+      routed = routedTo (at.Runs (point.Route (left - 1))) (m .queued);
     }
 
 unfoldable pub deliver : Table → Table → Table → ℕ → ℕ → ℕ → ℕ → Sent
@@ -100,7 +102,7 @@ routeNew groups t rows keys actors g queued left =
     pick (ltb (liveLen keys g) (groupAt groups g .ceiling))
     (pick (groupAt groups g .eval)
     (routeSpawned t rows keys actors g true queued left)
-    (record { links = t; keys = keys; actors = actors; routed = routedTo (at.RouteBoot g left) queued }))
+    (record { links = t; keys = keys; actors = actors; routed = routedTo (at.Asks (asks.RouteBoot g left)) queued }))
     (routeLeast t rows keys actors g queued left)
 
 abbrev pub routeIdle : Table → Table → Table → Table → ℕ → ℕ → ℕ → Table → Key → Sent
@@ -126,7 +128,7 @@ routeOne groups count store t rows keys actors entry queued left =
 
 abbrev pub clockNext : Table → Table → Table → ℕ → Sent
 clockNext t keys actors queued =
-    record { links = t; keys = keys; actors = actors; routed = routedTo at.TickClock queued }
+    record { links = t; keys = keys; actors = actors; routed = routedTo (at.Asks asks.TickClock) queued }
 
 abbrev pub routeFirst : Table → ℕ → List ℕ → Table → Table → Table → Table → ℕ → ℕ → Found → Sent
 routeFirst groups count store t rows keys actors queued left (found.Entry e) =
@@ -147,7 +149,7 @@ abbrev pub routeBy : Table → Table → Table → Table → ℕ → ℕ → ℕ
 routeBy t rows keys actors g queued left yes.Yes = routeBooted t rows keys actors g queued left true
 routeBy t rows keys actors g queued left yes.No = routeBooted t rows keys actors g queued left false
 routeBy t rows keys actors g queued left yes.Other =
-    record { links = t; keys = keys; actors = actors; routed = routedTo (at.RouteBoot g left) queued }
+    record { links = t; keys = keys; actors = actors; routed = routedTo (at.Asks (asks.RouteBoot g left)) queued }
 
 unfoldable pub routeReply : Table → Table → Table → Table → ℕ → ℕ → ℕ → Reply → Sent
 routeReply t rows keys actors g queued left r = routeBy t rows keys actors g queued left (yesIn r)

@@ -10,6 +10,8 @@ use Rattle.actor.specs.declared.question.YesIn.the-variants as yes
 use Rattle.actor.specs.Questions.{yesIn}
 use Rattle.group.specs.declared.at.At.{At}
 use Rattle.group.specs.declared.at.At.the-variants as at
+use Rattle.group.specs.declared.at.Ask.the-variants as asks
+use Rattle.group.specs.declared.at.Point.the-variants as point
 use Rattle.group.specs.At.{nextGroup}
 use Rattle.group.specs.Settings.{groupAt}
 use Rattle.group.specs.Roster.{Spawned, spawnOf}
@@ -32,21 +34,21 @@ spawnedTo s a = record { keys = s .keys; actors = s .actors; at = a }
 -- group g, of `count` groups: a ceiling of 0 spawns nothing
 unfoldable pub seedOf : Table → ℕ → Table → Table → ℕ → Seeded
 seedOf groups count keys actors g =
-    pick (leb count g) (seededTo keys actors (at.Intake MESSAGES))
-    (pick (leb 8 g) (seededTo keys actors (at.Intake MESSAGES))
-    (pick (eqb (groupAt groups g .ceiling) 0) (seededTo keys actors (at.Seed (nextGroup g)))
-    (pick (groupAt groups g .eval) (spawnedTo (spawnOf keys actors g true) (at.Seed (nextGroup g)))
-    (seededTo keys actors (at.SeedBoot g)))))
+    pick (leb count g) (seededTo keys actors (at.Runs (point.Intake MESSAGES)))
+    (pick (leb 8 g) (seededTo keys actors (at.Runs (point.Intake MESSAGES)))
+    (pick (eqb (groupAt groups g .ceiling) 0) (seededTo keys actors (at.Runs (point.Seed (nextGroup g))))
+    (pick (groupAt groups g .eval) (spawnedTo (spawnOf keys actors g true) (at.Runs (point.Seed (nextGroup g))))
+    (seededTo keys actors (at.Asks (asks.SeedBoot g))))))
 
 -- Boot yes: spawn; either: the next group
 unfoldable pub seedBooted : Table → Table → ℕ → Bool → Seeded
-seedBooted keys actors g true = spawnedTo (spawnOf keys actors g false) (at.Seed (nextGroup g))
-seedBooted keys actors g false = seededTo keys actors (at.Seed (nextGroup g))
+seedBooted keys actors g true = spawnedTo (spawnOf keys actors g false) (at.Runs (point.Seed (nextGroup g)))
+seedBooted keys actors g false = seededTo keys actors (at.Runs (point.Seed (nextGroup g)))
 
 abbrev pub seedBy : Table → Table → ℕ → YesIn → Seeded
 seedBy keys actors g yes.Yes = seedBooted keys actors g true
 seedBy keys actors g yes.No = seedBooted keys actors g false
-seedBy keys actors g yes.Other = seededTo keys actors (at.SeedBoot g)
+seedBy keys actors g yes.Other = seededTo keys actors (at.Asks (asks.SeedBoot g))
 
 unfoldable pub seedReply : Table → Table → ℕ → Reply → Seeded
 seedReply keys actors g r = seedBy keys actors g (yesIn r)

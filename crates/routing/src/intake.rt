@@ -3,6 +3,7 @@
 ghost use mathlib.Core.Path.{_≡_};
 ghost use Rattle.routing.specs.Intake.{batchSize, batchOf, intakeOf};
 use group::at::At;
+use group::at::Point;
 
 // At most all entries.
 fn batch_size(n: u64) -> u64
@@ -18,7 +19,7 @@ fn batch(links: &mut [[u64; 4]]) -> At
     lists::move_all(links, lists::PENDING, lists::BATCH);
     let n = lists::length_of(links, lists::BATCH);
     let left = batch_size(n);
-    At::Route(left)
+    At::Runs(Point::Route(left))
 }
 
 // One message more of the inbox is taken in, or the batch begins.
@@ -41,5 +42,5 @@ pub fn intake(links: &mut [[u64; 4]], queued: u64, backlog: u64, left: u64) -> A
     }
     lists::move_first(links, lists::INBOX, lists::PENDING);
     let fewer = lists::less(left, 1);
-    At::Intake(fewer)
+    At::Runs(Point::Intake(fewer))
 }

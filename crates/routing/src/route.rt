@@ -21,7 +21,9 @@ use actor::question;
 use actor::question::Reply;
 use actor::question::YesIn;
 use actor::state;
+use group::at::Ask;
 use group::at::At;
+use group::at::Point;
 use group::roster;
 use group::settings;
 use group::settings::Named;
@@ -43,7 +45,7 @@ fn undeliverable_first(links: &mut [[u64; 4]], rows: &[[u64; 7]], left: u64) -> 
 {
     step::over_first(links, rows, lists::BATCH);
     let fewer = lists::less(left, 1);
-    At::Route(fewer)
+    At::Runs(Point::Route(fewer))
 }
 
 // A message came to an actor's mailbox: it is idle no more, and queued to run.
@@ -90,7 +92,7 @@ fn deliver_first(
     wake_at(lists, actors, g, key);
     let fewer = lists::less(left, 1);
     Routed {
-        at: At::Route(fewer),
+        at: At::Runs(Point::Route(fewer)),
         queued: more,
     }
 }
@@ -186,7 +188,7 @@ fn route_new(
             return route_spawned(links, rows, lists, actors, g, true, queued, left);
         }
         return Routed {
-            at: At::RouteBoot(g, left),
+            at: At::Asks(Ask::RouteBoot(g, left)),
             queued,
         };
     }
@@ -263,7 +265,7 @@ pub fn route(
 {
     if left == 0 {
         return Routed {
-            at: At::TickClock,
+            at: At::Asks(Ask::TickClock),
             queued,
         };
     }
@@ -281,7 +283,7 @@ pub fn route(
             left,
         ),
         Found::Nothing => Routed {
-            at: At::TickClock,
+            at: At::Asks(Ask::TickClock),
             queued,
         },
     }
@@ -330,7 +332,7 @@ pub fn route_reply(
         YesIn::Yes => route_booted(links, rows, lists, actors, g, queued, left, true),
         YesIn::No => route_booted(links, rows, lists, actors, g, queued, left, false),
         YesIn::Other => Routed {
-            at: At::RouteBoot(g, left),
+            at: At::Asks(Ask::RouteBoot(g, left)),
             queued,
         },
     }

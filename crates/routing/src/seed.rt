@@ -6,11 +6,13 @@ use actor::question;
 use actor::question::Reply;
 use actor::question::YesIn;
 use group::at;
+use group::at::Ask;
 use group::at::At;
+use group::at::Point;
 use group::roster;
 use group::settings;
 
-// Once a message is in the inbox it is taken in by the turn that is there: no more than all entries.
+// A turn takes in at most as many messages from the inbox as there are entries.
 const MESSAGES: u64 = 256;
 
 // The spawn of a group, or the intake where there is no group left.
@@ -26,23 +28,23 @@ pub fn seed(
         ≡ seedOf (now (groups .entry)) count (now (lists .entry)) (now (actors .entry)) g ⌝ }
 {
     if count <= g {
-        return At::Intake(MESSAGES);
+        return At::Runs(Point::Intake(MESSAGES));
     }
     if 8 <= g {
-        return At::Intake(MESSAGES);
+        return At::Runs(Point::Intake(MESSAGES));
     }
     let next = at::next_group(g);
     let s = settings::group_at(groups, g);
     let ceiling = s.ceiling;
     if ceiling == 0 {
-        return At::Seed(next);
+        return At::Runs(Point::Seed(next));
     }
     let eval = s.eval;
     if eval {
         roster::spawn(lists, actors, g, true);
-        return At::Seed(next);
+        return At::Runs(Point::Seed(next));
     }
-    At::SeedBoot(g)
+    At::Asks(Ask::SeedBoot(g))
 }
 
 // Boot was answered: yes spawns the actor.
@@ -54,9 +56,9 @@ fn seed_booted(lists: &mut [[u8; 65]], actors: &mut [[u64; 12]], g: usize, boote
     let next = at::next_group(g);
     if booted {
         roster::spawn(lists, actors, g, false);
-        return At::Seed(next);
+        return At::Runs(Point::Seed(next));
     }
-    At::Seed(next)
+    At::Runs(Point::Seed(next))
 }
 
 // The reply to Boot; one that does not fit changes nothing.
@@ -69,6 +71,6 @@ pub fn seed_reply(lists: &mut [[u8; 65]], actors: &mut [[u64; 12]], g: usize, re
     match came {
         YesIn::Yes => seed_booted(lists, actors, g, true),
         YesIn::No => seed_booted(lists, actors, g, false),
-        YesIn::Other => At::SeedBoot(g),
+        YesIn::Other => At::Asks(Ask::SeedBoot(g)),
     }
 }

@@ -22,7 +22,7 @@ use Rattle.actor.specs.declared.message.Logged.{Logged}
 use Rattle.actor.specs.declared.message.Message.{Message}
 use Rattle.actor.specs.Messages.{messageAt, putMessage, triedOf}
 use Rattle.actor.proofs.Back.{message-put, message-other}
-use Rattle.setup.specs.Entry.{Kept, putBytes, storeEntry, newRow, keepAt, keepFound, keepOf}
+use Rattle.setup.specs.Entry.{Messages, Arrival, putBytes, storeEntry, newRow, keepAt, keepFound, keepOf}
 use Rattle.setup.specs.Part.{bytesIn, noPart, rowPart, inLimits, partAt, partOf, Inside, Shows}
 use Rattle.setup.specs.declared.part.Part.{Part}
 
@@ -159,13 +159,12 @@ entry-long store e name body = go (ltb e 256)
     go true = put-long (putBytes store (160 * e) name) (160 * e + 32) body ∙ put-long store (160 * e) name
     go false = refl
 
-pub keep-long : (store : List ℕ) (t rows : Table) (name body : List ℕ) (who : Caller) (id : Logged) (to : ℕ)
-    → length (keepOf store t rows name body who id to .store) ≡ length store
+pub keep-long : (m : Messages) (a : Arrival) (to : ℕ) → length (keepOf m a to .store) ≡ length (m .store)
 unfolding keepOf keepAt
-keep-long store t rows name body who id to = go (firstOf t FREE)
+keep-long m a to = go (firstOf (m .links) FREE)
   where
-    go : (f : Found) → length (keepFound store t rows name body who id to f .store) ≡ length store
-    go (Entry e) = entry-long store e name body
+    go : (f : Found) → length (keepFound m a to f .store) ≡ length (m .store)
+    go (Entry e) = entry-long (m .store) e (a .name) (a .body)
     go Nothing = refl
 
 -- name and body in an entry of the store
@@ -204,8 +203,14 @@ module _ (store : List ℕ) (e : ℕ) (name body : List ℕ) (long : length stor
           ∙ part-above store (160 * e) a b name (omega arith) (omega arith)
 
   module _ (t rows : Table) (caller : Caller) (id : Logged) (to : ℕ) (sized : length rows ≡ 256) where
-    abbrev kept : Kept
-    kept = keepAt store t rows e name body caller id to
+    abbrev before : Messages
+    before = record { store = store; links = t; rows = rows }
+
+    abbrev arrival : Arrival
+    arrival = record { name = name; body = body; caller = caller; id = id }
+
+    abbrev kept : Messages
+    kept = keepAt before e arrival to
 
     -- what is kept in an entry is shown as it was given
     pub kept-shows : Shows (kept .store) (kept .rows) (Entry e) name body
@@ -216,7 +221,9 @@ module _ (store : List ℕ) (e : ℕ) (name body : List ℕ) (long : length stor
         let fits : Limits m e = record { entry = inside; name = short-name; body = short-body } in
         let p = sym (part-is (putMessage rows e m) e m there fits) in
         record {
-          name-is = ap (λ q. bytesIn (storeEntry store e name body) (q .name)) p ∙ name-back store e name body long inside short-name;
+          name-is =
+              ap (λ q. bytesIn (storeEntry store e name body) (q .name)) p
+              ∙ name-back store e name body long inside short-name;
           body-is = ap (λ q. bytesIn (storeEntry store e name body) (q .body)) p ∙ body-back;
         }
 
@@ -246,7 +253,6 @@ module _ (store : List ℕ) (e : ℕ) (name body : List ℕ) (long : length stor
 
     -- the first free entry is the one that is taken
     pub keep-shows : firstOf t FREE ≡ Entry e
-        → Shows (keepOf store t rows name body caller id to .store) (keepOf store t rows name body caller id to .rows)
-        (Entry e) name body
+        → Shows (keepOf before arrival to .store) (keepOf before arrival to .rows) (Entry e) name body
     unfolding keepOf
     keep-shows free = rw free kept-shows

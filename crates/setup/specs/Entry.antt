@@ -13,11 +13,18 @@ use Rattle.actor.specs.declared.message.Logged.{Logged}
 use Rattle.actor.specs.declared.message.Message.{Message}
 use Rattle.actor.specs.Messages.{putMessage}
 
--- what a message that is kept changes
-pub record Kept : Type 0 where
+-- the messages: the body store, the lists that they stand in, and their rows
+pub record Messages : Type 0 where
   pub store : List ℕ
   pub links : Table
   pub rows : Table
+
+-- a message that comes: its group's name, its body, who waits for its outcome, and the id that it is logged under
+pub record Arrival : Type 0 where
+  pub name : List ℕ
+  pub body : List ℕ
+  pub caller : Caller
+  pub id : Logged
 
 -- written over what stands there, where it fits
 unfoldable pub putBytes : List ℕ → ℕ → List ℕ → List ℕ
@@ -29,19 +36,18 @@ storeEntry store e name body = pick (ltb e 256) (putBytes (putBytes store (160 *
 abbrev pub newRow : ℕ → ℕ → Caller → Logged → Message
 newRow name body caller id = record { attempts = 0; name = name; body = body; caller = caller; id = id }
 
-unfoldable pub keepAt : List ℕ → Table → Table → ℕ → List ℕ → List ℕ → Caller → Logged → ℕ → Kept
-keepAt store t rows e name body caller id to =
+unfoldable pub keepAt : Messages → ℕ → Arrival → ℕ → Messages
+keepAt m e a to =
     record {
-      store = storeEntry store e name body;
-      links = moveFirst t FREE to;
-      rows =
-          putMessage rows e (newRow (length name) (length body) caller id);
+      store = storeEntry (m .store) e (a .name) (a .body);
+      links = moveFirst (m .links) FREE to;
+      rows = putMessage (m .rows) e (newRow (length (a .name)) (length (a .body)) (a .caller) (a .id));
     }
 
-abbrev pub keepFound : List ℕ → Table → Table → List ℕ → List ℕ → Caller → Logged → ℕ → Found → Kept
-keepFound store t rows name body caller id to (found.Entry e) = keepAt store t rows e name body caller id to
-keepFound store t rows name body caller id to found.Nothing = record { store = store; links = t; rows = rows }
+abbrev pub keepFound : Messages → Arrival → ℕ → Found → Messages
+keepFound m a to (found.Entry e) = keepAt m e a to
+keepFound m a to found.Nothing = m
 
--- the first free entry is taken
-unfoldable pub keepOf : List ℕ → Table → Table → List ℕ → List ℕ → Caller → Logged → ℕ → Kept
-keepOf store t rows name body caller id to = keepFound store t rows name body caller id to (firstOf t FREE)
+-- the first free entry is taken, and goes to the end of a list; with none free nothing changes
+unfoldable pub keepOf : Messages → Arrival → ℕ → Messages
+keepOf m a to = keepFound m a to (firstOf (m .links) FREE)

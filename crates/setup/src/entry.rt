@@ -62,8 +62,11 @@ fn keep_at(
     to: usize,
 )
     ensures { λ r. ⌜ record { store = now (store .exit); links = now (links .exit); rows = now (rows .exit) }
-        ≡ keepAt (now (store .entry)) (now (links .entry)) (now (rows .entry)) entry (now (name .entry))
-        (now (body .entry)) caller id to ⌝ }
+        ≡ keepAt
+        (record { store = now (store .entry); links = now (links .entry); rows = now (rows .entry) })
+        entry
+        (record { name = now (name .entry); body = now (body .entry); caller = caller; id = id })
+        to ⌝ }
 {
     store_entry(store, entry, name, body);
     let m = new_row(name.len() as u64, body.len() as u64, caller, id);
@@ -83,8 +86,10 @@ pub fn keep(
     to: usize,
 )
     ensures { λ r. ⌜ record { store = now (store .exit); links = now (links .exit); rows = now (rows .exit) }
-        ≡ keepOf (now (store .entry)) (now (links .entry)) (now (rows .entry)) (now (name .entry)) (now (body .entry))
-        caller id to ⌝ }
+        ≡ keepOf
+        (record { store = now (store .entry); links = now (links .entry); rows = now (rows .entry) })
+        (record { name = now (name .entry); body = now (body .entry); caller = caller; id = id })
+        to ⌝ }
 {
     match lists::first(links, lists::FREE) {
         Found::Entry(e) => keep_at(store, links, rows, e, name, body, caller, id, to),

@@ -19,6 +19,8 @@ use Rattle.actor.specs.Messages.{messageAt, putMessage, triedOf}
 use Rattle.steps.specs.Steps.{HAND, overFirst}
 use Rattle.group.specs.declared.at.At.{At}
 use Rattle.group.specs.declared.at.At.the-variants as at
+use Rattle.group.specs.declared.at.Ask.the-variants as asks
+use Rattle.group.specs.declared.at.Point.the-variants as point
 use Rattle.group.specs.declared.at.Cursor.{Cursor}
 use Rattle.group.specs.At.{readyAfter}
 use Rattle.group.specs.Settings.{groupAt}
@@ -68,8 +70,8 @@ crashOf groups t rows c l = losing (crashedFirst groups t rows (c .group) HAND (
 -- ---- Trap, and Trapped of each actor in key order
 
 abbrev pub trappedAt : Cursor → Key → At
-trappedAt c (key.At k) = at.Trapped c k
-trappedAt c key.Nothing = at.Doomed c 16
+trappedAt c (key.At k) = at.Asks (asks.Trapped c k)
+trappedAt c key.Nothing = at.Runs (point.Doomed c 16)
 
 unfoldable pub trappedNext : Table → Cursor → ℕ → At
 trappedNext keys c from = trappedAt c (nextKey (keysAt keys (slabRow (c .group))) (16 - from) from)
@@ -80,7 +82,7 @@ listedAt keys a = record { keys = keys; at = a }
 abbrev pub trapBy : Table → Cursor → YesIn → Listed
 trapBy keys c yes.Yes = listedAt (set keys DOOMED blankRow) (trappedNext (set keys DOOMED blankRow) c 0)
 trapBy keys c yes.No = listedAt keys (readyAfter c)
-trapBy keys c yes.Other = listedAt keys (at.Trap c)
+trapBy keys c yes.Other = listedAt keys (at.Asks (asks.Trap c))
 
 unfoldable pub trapReply : Table → Cursor → Reply → Listed
 trapReply keys c r = trapBy keys c (yesIn r)
@@ -91,7 +93,7 @@ nextAsked k = pick (ltb k 16) (k + 1) 16
 abbrev pub trappedBy : Table → Cursor → ℕ → YesIn → Listed
 trappedBy keys c k yes.Yes = listedAt (pushKey keys DOOMED k) (trappedNext (pushKey keys DOOMED k) c (nextAsked k))
 trappedBy keys c k yes.No = listedAt keys (trappedNext keys c (nextAsked k))
-trappedBy keys c k yes.Other = listedAt keys (at.Trapped c k)
+trappedBy keys c k yes.Other = listedAt keys (at.Asks (asks.Trapped c k))
 
 unfoldable pub trappedReply : Table → Cursor → ℕ → Reply → Listed
 trappedReply keys c k r = trappedBy keys c k (yesIn r)
@@ -114,7 +116,7 @@ doomedKey groups t rows keys c k left queued l =
     doomedBy
     (crashedFirst groups (mailBack t (slotAt (c .group) k)) rows (c .group) (handOf (slotAt (c .group) k)) (l .dead))
     (removeKey keys (c .group) k)
-    (at.Doomed c left)
+    (at.Runs (point.Doomed c left))
     (capped (queued + lenOf (mailBack t (slotAt (c .group) k)) (mailboxOf (slotAt (c .group) k)))
     - lenOf t (mailboxOf (slotAt (c .group) k)))
     (capped (l .crashes + 1))

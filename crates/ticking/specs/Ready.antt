@@ -16,6 +16,8 @@ use Rattle.steps.specs.StepFixed.{FixedActors, fixedStart}
 use Rattle.steps.specs.StepEval.{EvalStarted, evalStart}
 use Rattle.group.specs.declared.at.At.{At}
 use Rattle.group.specs.declared.at.At.the-variants as at
+use Rattle.group.specs.declared.at.Ask.the-variants as asks
+use Rattle.group.specs.declared.at.Point.the-variants as point
 use Rattle.group.specs.declared.at.Cursor.{Cursor}
 use Rattle.group.specs.At.{nextGroup, readyAfter, evalAfter}
 use Rattle.group.specs.Roster.{readyRow, slotAt, liveOf}
@@ -44,7 +46,7 @@ unfoldable pub restsOf : Actor → ℕ → Bool
 restsOf a waiting = pick (eqb waiting 0) (pick (a .runnable) false (a .ran)) false
 
 abbrev pub startedFixed : Cursor → FixedActors → Started
-startedFixed c f = record { actors = f .actors; at = at.Fixed c (f .ask) }
+startedFixed c f = record { actors = f .actors; at = at.Asks (asks.Fixed c (f .ask)) }
 
 unfoldable pub beginFixed : Table → Cursor → ℕ → Started
 beginFixed actors c slot = startedFixed c (fixedStart actors slot)
@@ -92,7 +94,12 @@ readiedWith keys s = record { links = s .links; keys = keys; actors = s .actors;
 
 abbrev pub wakeAfter : Table → Table → Table → ℕ → Bool → ℕ → ℕ → Readied
 wakeAfter t keys actors queued stepped g clock =
-    record { links = t; keys = keys; actors = actors; begun = begunAt (at.Wake (nextGroup g) clock) queued stepped }
+    record {
+      links = t;
+      keys = keys;
+      actors = actors;
+      begun = begunAt (at.Runs (point.Wake (nextGroup g) clock)) queued stepped;
+    }
 
 -- the cursor of a key that is popped
 abbrev pub cursorAt : ℕ → ℕ → ℕ → ℕ → Cursor

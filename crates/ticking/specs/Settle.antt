@@ -16,6 +16,8 @@ use Rattle.steps.specs.declared.step.End.{End}
 use Rattle.steps.specs.declared.step.End.the-variants as end
 use Rattle.group.specs.declared.at.At.{At}
 use Rattle.group.specs.declared.at.At.the-variants as at
+use Rattle.group.specs.declared.at.Ask.the-variants as asks
+use Rattle.group.specs.declared.at.Point.the-variants as point
 use Rattle.group.specs.declared.at.Cursor.{Cursor}
 use Rattle.group.specs.At.{readyAfter}
 use Rattle.group.specs.Roster.{slabRow, idleRow, waitingRow, slotAt, Keyed, pushKey, scheduleOf, overAll}
@@ -46,8 +48,8 @@ slotOn c = slotAt (c .group) (c .key)
 
 -- what the step finished has its marks
 abbrev pub stepEnd : Cursor → End → At
-stepEnd c (end.Fixed s) = at.Sends c s
-stepEnd c (end.Eval p) = at.Settle c (step.Parked p)
+stepEnd c (end.Fixed s) = at.Asks (asks.Sends c s)
+stepEnd c (end.Eval p) = at.Runs (point.Settle c (step.Parked p))
 
 unfoldable pub removeKey : Table → ℕ → ℕ → Table
 removeKey keys g k = set keys (slabRow g) (removeOf (keysAt keys (slabRow g)) k)
@@ -103,4 +105,4 @@ settleOf t rows keys actors c step.Done queued =
     settledRelease (releaseOf t rows keys actors c queued) actors (readyAfter c)
 settleOf t rows keys actors c (step.Parked p) queued = settledKeys t (parkAt keys actors c p) (readyAfter c) queued
 settleOf t rows keys actors c step.Failed queued =
-    settledRelease (releaseOf t rows keys actors c queued) actors (at.Crash c)
+    settledRelease (releaseOf t rows keys actors c queued) actors (at.Runs (point.Crash c))

@@ -20,6 +20,8 @@ use Rattle.actor.specs.Questions.{countIn}
 use Rattle.actor.specs.Actors.{actorAt, putActor, wokenAs, hasRun}
 use Rattle.group.specs.declared.at.At.{At}
 use Rattle.group.specs.declared.at.At.the-variants as at
+use Rattle.group.specs.declared.at.Ask.the-variants as asks
+use Rattle.group.specs.declared.at.Point.the-variants as point
 use Rattle.group.specs.Roster.{REST, readyRow, waitingRow, slotAt, Keyed, pushKey, liveOf, scheduleOf}
 
 -- what a step over keys changes, and where the turn stands then
@@ -44,7 +46,7 @@ wakeOf keys n g clock =
     (pick (leb 8 g) (record { keys = keys; at = at.Rest })
     (record {
       keys = set (set keys REST (keysAt keys (waitingRow g))) (waitingRow g) blankRow;
-      at = at.WakeNext g clock (atMost64 (countOf (keysAt keys (waitingRow g))));
+      at = at.Runs (point.WakeNext g clock (atMost64 (countOf (keysAt keys (waitingRow g)))));
     }))
 
 -- its deadline has passed
@@ -75,16 +77,20 @@ unfoldable pub wakeOne : Table → Table → ℕ → ℕ → ℕ → ℕ → Wak
 wakeOne keys actors g k clock left =
     pick (liveOf keys g k)
     (pick (lateAt (actorAt actors (slotAt g k) .«wake_at») clock)
-    (wakedTo (wokenTo keys actors g k true) (at.WakeNext g clock left))
+    (wakedTo (wokenTo keys actors g k true) (at.Runs (point.WakeNext g clock left)))
     (pick (pollsOf (actorAt actors (slotAt g k)))
-    (record { keys = keys; actors = actors; at = at.WakePoll g k clock left })
-    (wakedTo (wokenTo keys actors g k false) (at.WakeNext g clock left))))
-    (record { keys = keys; actors = actors; at = at.WakeNext g clock left })
+    (record { keys = keys; actors = actors; at = at.Asks (asks.WakePoll g k clock left) })
+    (wakedTo (wokenTo keys actors g k false) (at.Runs (point.WakeNext g clock left)))))
+    (record { keys = keys; actors = actors; at = at.Runs (point.WakeNext g clock left) })
 
 -- pops: how many keys the ready list has at the end of the group's own wake
 abbrev pub readyNow : Table → Table → ℕ → ℕ → Waked
 readyNow keys actors g clock =
-    record { keys = keys; actors = actors; at = at.Ready g clock (atMost64 (countOf (keysAt keys (readyRow g)))) }
+    record {
+      keys = keys;
+      actors = actors;
+      at = at.Runs (point.Ready g clock (atMost64 (countOf (keysAt keys (readyRow g)))));
+    }
 
 abbrev pub wakeFirst : Table → Table → ℕ → ℕ → ℕ → Key → Waked
 wakeFirst keys actors g clock left (key.At k) =
@@ -98,10 +104,10 @@ wakeNext keys actors g clock left =
 -- Poll: above 0 it is awake
 abbrev pub pollBy : Table → Table → ℕ → ℕ → ℕ → ℕ → CountIn → Waked
 pollBy keys actors g k clock left (count.Of n) =
-    pick (ltb 0 n) (wakedTo (wokenTo keys actors g k true) (at.WakeNext g clock left))
-    (wakedTo (wokenTo keys actors g k false) (at.WakeNext g clock left))
+    pick (ltb 0 n) (wakedTo (wokenTo keys actors g k true) (at.Runs (point.WakeNext g clock left)))
+    (wakedTo (wokenTo keys actors g k false) (at.Runs (point.WakeNext g clock left)))
 pollBy keys actors g k clock left count.Other =
-    record { keys = keys; actors = actors; at = at.WakePoll g k clock left }
+    record { keys = keys; actors = actors; at = at.Asks (asks.WakePoll g k clock left) }
 
 unfoldable pub pollReply : Table → Table → ℕ → ℕ → ℕ → ℕ → Reply → Waked
 pollReply keys actors g k clock left r = pollBy keys actors g k clock left (countIn r)

@@ -18,8 +18,10 @@ use actor::question;
 use actor::question::Reply;
 use actor::question::YesIn;
 use group::at;
+use group::at::Ask;
 use group::at::At;
 use group::at::Cursor;
+use group::at::Point;
 use group::roster;
 use group::settings;
 use lists::Found;
@@ -113,8 +115,8 @@ fn trapped_next(lists: &[[u8; 65]], c: Cursor, from: u8) -> At
     let row = roster::slab_row(c.group);
     let given = keys::keys_at(lists, row);
     match slab::next_key(given, from) {
-        Key::At(key) => At::Trapped(c, key),
-        Key::Nothing => At::Doomed(c, 16),
+        Key::At(key) => At::Asks(Ask::Trapped(c, key)),
+        Key::Nothing => At::Runs(Point::Doomed(c, 16)),
     }
 }
 
@@ -130,7 +132,7 @@ pub fn trap_reply(lists: &mut [[u8; 65]], c: Cursor, reply: Reply) -> At
             trapped_next(lists, c, 0)
         }
         YesIn::No => at::ready_after(c),
-        YesIn::Other => At::Trap(c),
+        YesIn::Other => At::Asks(Ask::Trap(c)),
     }
 }
 
@@ -153,7 +155,7 @@ pub fn trapped_reply(lists: &mut [[u8; 65]], c: Cursor, key: u8, reply: Reply) -
             trapped_next(lists, c, after)
         }
         YesIn::No => trapped_next(lists, c, after),
-        YesIn::Other => At::Trapped(c, key),
+        YesIn::Other => At::Asks(Ask::Trapped(c, key)),
     }
 }
 
@@ -186,7 +188,7 @@ fn doomed_key(
     let hand = lists::hand(slot);
     let dead = crashed_first(groups, links, rows, c.group, hand, losses.dead);
     Crashed {
-        at: At::Doomed(c, left),
+        at: At::Runs(Point::Doomed(c, left)),
         queued: fewer,
         losses: Losses { dead, crashes },
     }

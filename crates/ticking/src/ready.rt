@@ -5,8 +5,10 @@ use actor::state;
 use actor::state::Actor;
 use actor::state::Mode;
 use group::at;
+use group::at::Ask;
 use group::at::At;
 use group::at::Cursor;
+use group::at::Point;
 use group::roster;
 use lists::keys;
 use lists::keys::Key;
@@ -38,7 +40,7 @@ fn begin_fixed(actors: &mut [[u64; 12]], c: Cursor, slot: usize) -> At
     ensures { λ r. ⌜ record { actors = now (actors .exit); at = r } ≡ beginFixed (now (actors .entry)) c slot ⌝ }
 {
     let ask = fixed::fixed_start(actors, slot);
-    At::Fixed(c, ask)
+    At::Asks(Ask::Fixed(c, ask))
 }
 
 // A step of an eval actor begins; one with no run and no mail ends at once.
@@ -148,7 +150,7 @@ pub fn ready(
     let after = at::next_group(g);
     if pops == 0 {
         return Begun {
-            at: At::Wake(after, clock),
+            at: At::Runs(Point::Wake(after, clock)),
             queued,
             stepped,
         };
@@ -169,7 +171,7 @@ pub fn ready(
             ready_key(links, lists, actors, c, queued, stepped)
         }
         Key::Nothing => Begun {
-            at: At::Wake(after, clock),
+            at: At::Runs(Point::Wake(after, clock)),
             queued,
             stepped,
         },

@@ -4,8 +4,10 @@ ghost use Rattle.ticking.specs.Settle.{stepEnd, removeKey, letGo, releas
 use actor::state;
 use actor::state::Wake;
 use group::at;
+use group::at::Ask;
 use group::at::At;
 use group::at::Cursor;
+use group::at::Point;
 use group::over;
 use group::roster;
 use lists::keys;
@@ -25,10 +27,10 @@ pub fn step_end(c: Cursor, end: End) -> At
     ensures { λ r. ⌜ r ≡ stepEnd c end ⌝ }
 {
     match end {
-        End::Fixed(step) => At::Sends(c, step),
+        End::Fixed(step) => At::Asks(Ask::Sends(c, step)),
         End::Eval(parked) => {
             let step = Step::Parked(parked);
-            At::Settle(c, step)
+            At::Runs(Point::Settle(c, step))
         }
     }
 }
@@ -165,7 +167,7 @@ pub fn settle(
         Step::Failed => {
             let fewer = release(links, rows, lists, actors, c, queued);
             Settled {
-                at: At::Crash(c),
+                at: At::Runs(Point::Crash(c)),
                 queued: fewer,
             }
         }

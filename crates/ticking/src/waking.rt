@@ -8,7 +8,9 @@ use actor::state;
 use actor::state::Actor;
 use actor::state::Mode;
 use actor::state::Wake;
+use group::at::Ask;
 use group::at::At;
+use group::at::Point;
 use group::roster;
 use lists::keys;
 use lists::keys::Key;
@@ -37,7 +39,7 @@ pub fn wake(lists: &mut [[u8; 65]], count: usize, g: usize, clock: u64) -> At
     let none = keys::empty();
     keys::put_keys(lists, row, none);
     let left = at_most_64(n);
-    At::WakeNext(g, clock, left)
+    At::Runs(Point::WakeNext(g, clock, left))
 }
 
 // Whether its deadline has passed.
@@ -107,15 +109,15 @@ fn wake_one(
         let asks = polls(a);
         if over {
             woken_to(lists, actors, g, key, true);
-            return At::WakeNext(g, clock, left);
+            return At::Runs(Point::WakeNext(g, clock, left));
         }
         if asks {
-            return At::WakePoll(g, key, clock, left);
+            return At::Asks(Ask::WakePoll(g, key, clock, left));
         }
         woken_to(lists, actors, g, key, false);
-        return At::WakeNext(g, clock, left);
+        return At::Runs(Point::WakeNext(g, clock, left));
     }
-    At::WakeNext(g, clock, left)
+    At::Runs(Point::WakeNext(g, clock, left))
 }
 
 // The next of the waiting list; with none left the ready list is popped as often as it has keys now.
@@ -134,7 +136,7 @@ pub fn wake_next(
     let n = keys::count(ready) as u64;
     let pops = at_most_64(n);
     if left == 0 {
-        return At::Ready(g, clock, pops);
+        return At::Runs(Point::Ready(g, clock, pops));
     }
     let rest = keys::keys_at(lists, roster::REST);
     match keys::front(rest) {
@@ -144,7 +146,7 @@ pub fn wake_next(
             let less = lists::less(left, 1);
             wake_one(lists, actors, g, key, clock, less)
         }
-        Key::Nothing => At::Ready(g, clock, pops),
+        Key::Nothing => At::Runs(Point::Ready(g, clock, pops)),
     }
 }
 
@@ -167,11 +169,11 @@ pub fn poll_reply(
         CountIn::Of(n) => {
             if 0 < n {
                 woken_to(lists, actors, g, key, true);
-                return At::WakeNext(g, clock, left);
+                return At::Runs(Point::WakeNext(g, clock, left));
             }
             woken_to(lists, actors, g, key, false);
-            At::WakeNext(g, clock, left)
+            At::Runs(Point::WakeNext(g, clock, left))
         }
-        CountIn::Other => At::WakePoll(g, key, clock, left),
+        CountIn::Other => At::Asks(Ask::WakePoll(g, key, clock, left)),
     }
 }

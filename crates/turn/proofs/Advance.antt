@@ -18,7 +18,7 @@ use Rattle.actor.specs.declared.state.Mode.the-variants as mode
 use Rattle.actor.specs.Messages.{messageAt}
 use Rattle.actor.specs.Actors.{actorAt, putActor, beganStep}
 use Rattle.steps.specs.declared.step.Step.{Step}
-use Rattle.steps.specs.declared.step.Step.the-variants as step
+use Rattle.steps.specs.declared.step.Step.the-variants as ended
 use Rattle.steps.specs.declared.step.End.{End}
 use Rattle.steps.specs.declared.step.End.the-variants as end
 use Rattle.steps.specs.declared.eval.EvalNext.{EvalNext}
@@ -26,6 +26,9 @@ use Rattle.steps.specs.declared.eval.EvalNext.the-variants as eval
 use Rattle.steps.specs.StepEval.{evalStart}
 use Rattle.group.specs.declared.at.At.{At}
 use Rattle.group.specs.declared.at.At.the-variants as at
+use Rattle.group.specs.declared.at.Ask.the-variants as asks
+use Rattle.group.specs.declared.at.Point.{Point}
+use Rattle.group.specs.declared.at.Point.the-variants as point
 use Rattle.group.specs.declared.at.Cursor.{Cursor}
 use Rattle.group.specs.declared.settings.Named.{Named}
 use Rattle.group.specs.declared.settings.Named.the-variants as named
@@ -45,12 +48,11 @@ use Rattle.ticking.specs.Settle.{stepEnd, settleOf}
 use Rattle.ticking.specs.Crash.{Crashing, doomedKey, doomedFront, doomedOf}
 use Rattle.turn.specs.declared.state.Disk.{Disk}
 use Rattle.turn.specs.declared.state.Disk.the-variants as disk
-use Rattle.turn.specs.declared.state.Counts.{Counts}
-use Rattle.turn.specs.declared.state.Limits.{Limits}
-use Rattle.turn.specs.State.{runsAt, marksAt, isFree, runningOf}
-use Rattle.turn.specs.Go.{goRoute, goReady, goSettle, goCrash, goDoomed, goOf}
-use Rattle.turn.specs.Step.{Given, Work, MarkedFirst, markFirst, goAfter, markThen, stepOf, advanceOf, popsLeft}
-use Rattle.turn.specs.Step.{weightAt, weightIn, weightOf}
+use Rattle.turn.specs.State.{State, isFree, runsAt, runningOf}
+use Rattle.turn.specs.Go.{goOf}
+use Rattle.turn.specs.Weight.{popsLeft, weightAt, weightIn, weightBy, weightOf}
+use Rattle.turn.specs.Step.{markAt, goFree, stepAt, stepOf, advanceOf, advanced}
+use Rattle.turn.specs.Advance.{GoesOn, here, step, Stops, Advances, AdvancesOnly}
 
 pick-rule : {A : Type 0} (P : A → Type 0) (b : Bool) {x y : A} → (b ≡ true → P x) → (b ≡ false → P y) → P (pick b x y)
 pick-rule P true f g = f refl
@@ -58,15 +60,15 @@ pick-rule P false f g = g refl
 
 -- ---- the groups' first actors
 
-next-seed : (g : ℕ) → g < 8 → weightAt (at.Seed (nextGroup g)) < weightAt (at.Seed g)
-unfolding weightAt
+next-seed : (g : ℕ) → g < 8 → weightIn (at.Runs (point.Seed (nextGroup g))) < weightIn (at.Runs (point.Seed g))
+unfolding weightIn weightAt
 next-seed g l = rw (lt-ltb g 8 l) (omega arith)
 
 seed-falls : (groups : Table) (count : ℕ) (keys actors : Table) (g : ℕ)
-    → weightAt (seedOf groups count keys actors g .at) < weightAt (at.Seed g)
-unfolding seedOf weightAt
+    → weightIn (seedOf groups count keys actors g .at) < weightIn (at.Runs (point.Seed g))
+unfolding seedOf weightIn weightAt
 seed-falls groups count keys actors g =
-    let P : Seeded → Type 0 = λ s. weightAt (s .at) < weightAt (at.Seed g) in
+    let P : Seeded → Type 0 = λ s. weightIn (s .at) < weightIn (at.Runs (point.Seed g)) in
     pick-rule P (leb count g) (λ e. omega arith)
     (λ e. pick-rule P (leb 8 g) (λ e. omega arith)
     (λ e. let next = next-seed g (leb-false 8 g e) in
@@ -78,15 +80,15 @@ seed-falls groups count keys actors g =
 batch-size : (n : ℕ) → batchSize n ≤ 256
 batch-size n = pick-rule (λ (m : ℕ). m ≤ 256) (ltb n 256) (λ e. omega (arith, ltb-true n 256 e)) (λ e. omega arith)
 
-batch-falls : (t : Table) → weightAt (batchOf t .at) ≤ 257
-unfolding batchOf weightAt
+batch-falls : (t : Table) → weightIn (batchOf t .at) ≤ 257
+unfolding batchOf weightIn weightAt
 batch-falls t = omega (arith, batch-size (lenOf (batchOf t .links) BATCH))
 
-intake-falls : (t : Table) (queued backlog left : ℕ) → weightAt (intakeOf t queued backlog left .at) < weightAt
-    (at.Intake left)
-unfolding intakeOf weightAt
+intake-falls : (t : Table) (queued backlog left : ℕ) → weightIn (intakeOf t queued backlog left .at) < weightIn
+    (at.Runs (point.Intake left))
+unfolding intakeOf weightIn weightAt
 intake-falls t queued backlog left =
-    let P : Linked → Type 0 = λ l. weightAt (l .at) < weightAt (at.Intake left) in
+    let P : Linked → Type 0 = λ l. weightIn (l .at) < weightIn (at.Runs (point.Intake left)) in
     pick-rule P (eqb left 0) (λ e. omega (arith, batch-falls t))
     (λ e. let n = eqb-false left 0 e in
     pick-rule P (leb backlog (capped (lenOf t PENDING + queued))) (λ b. omega (arith, batch-falls t))
@@ -95,14 +97,14 @@ intake-falls t queued backlog left =
 -- a message of the batch is routed, or a question is open
 module _ (left : ℕ) (some : 0 < left) where
   abbrev Less : Sent → Type 0
-  Less s = weightAt (s .routed .at) < 1 + left
+  Less s = weightIn (s .routed .at) < 1 + left
 
-  lost-less : (t rows : Table) → weightAt (undeliverable t rows left .at) < 1 + left
-  unfolding undeliverable weightAt
+  lost-less : (t rows : Table) → weightIn (undeliverable t rows left .at) < 1 + left
+  unfolding undeliverable weightIn weightAt
   lost-less t rows = omega arith
 
   deliver-less : (t keys actors : Table) (g k queued : ℕ) → Less (deliver t keys actors g k queued left)
-  unfolding deliver weightAt
+  unfolding deliver weightIn weightAt
   deliver-less t keys actors g k queued = omega arith
 
   key-less : (t rows keys actors : Table) (g : ℕ) (k : Key) (queued : ℕ)
@@ -128,7 +130,7 @@ module _ (left : ℕ) (some : 0 < left) where
 
   new-less : (groups t rows keys actors : Table) (g queued : ℕ)
       → Less (routeNew groups t rows keys actors g queued left)
-  unfolding routeNew weightAt
+  unfolding routeNew weightIn weightAt
   new-less groups t rows keys actors g queued =
       pick-rule Less (ltb (liveLen keys g) (groupAt groups g .ceiling))
       (λ e. pick-rule Less (groupAt groups g .eval) (λ v. spawn-less t rows keys actors g true queued)
@@ -152,16 +154,17 @@ module _ (left : ℕ) (some : 0 < left) where
 
   first-less : (groups : Table) (count : ℕ) (store : List ℕ) (t rows keys actors : Table) (queued : ℕ) (f : Found)
       → Less (routeFirst groups count store t rows keys actors queued left f)
-  unfolding routeOne weightAt
+  unfolding routeOne weightIn weightAt
   first-less groups count store t rows keys actors queued (found.Entry e) =
       named-less groups t rows keys actors queued (groupFor groups store e (messageAt rows e .name) count)
   first-less groups count store t rows keys actors queued found.Nothing = omega arith
 
 route-falls : (groups : Table) (count : ℕ) (store : List ℕ) (t rows keys actors : Table) (queued left : ℕ)
-    → weightAt (routeOf groups count store t rows keys actors queued left .routed .at) < weightAt (at.Route left)
-unfolding routeOf weightAt
+    → weightIn (routeOf groups count store t rows keys actors queued left .routed .at)
+    < weightIn (at.Runs (point.Route left))
+unfolding routeOf weightIn weightAt
 route-falls groups count store t rows keys actors queued left =
-    pick-rule (λ (s : Sent). weightAt (s .routed .at) < 1 + left) (eqb left 0)
+    pick-rule (λ (s : Sent). weightIn (s .routed .at) < 1 + left) (eqb left 0)
     (λ e. omega arith)
     (λ e. first-less left (omega (arith, eqb-false left 0 e)) groups count store t rows keys actors queued
     (firstOf t BATCH))
@@ -171,279 +174,279 @@ route-falls groups count store t rows keys actors queued left =
 at-most : (n : ℕ) → atMost64 n ≤ 64
 at-most n = pick-rule (λ (m : ℕ). m ≤ 64) (ltb n 64) (λ e. omega (arith, ltb-true n 64 e)) (λ e. omega arith)
 
-wake-falls : (keys : Table) (n g clock : ℕ) → weightAt (wakeOf keys n g clock .at) < weightAt (at.Wake g clock)
-unfolding wakeOf weightAt
+wake-falls : (keys : Table) (n g clock : ℕ) → weightIn (wakeOf keys n g clock .at)
+    < weightIn (at.Runs (point.Wake g clock))
+unfolding wakeOf weightIn weightAt
 wake-falls keys n g clock =
-    let P : Listed → Type 0 = λ l. weightAt (l .at) < weightAt (at.Wake g clock) in
+    let P : Listed → Type 0 = λ l. weightIn (l .at) < weightIn (at.Runs (point.Wake g clock)) in
     pick-rule P (leb n g) (λ e. omega arith)
     (λ e. pick-rule P (leb 8 g) (λ f. omega arith)
     (λ f. omega (arith, leb-false 8 g f, at-most (countOf (keysAt keys (waitingRow g))))))
 
-one-falls : (keys actors : Table) (g k clock left : ℕ) → weightAt (wakeOne keys actors g k clock left .at) ≤ weightAt
-    (at.WakeNext g clock left)
-unfolding wakeOne weightAt
+one-falls : (keys actors : Table) (g k clock left : ℕ) → weightIn (wakeOne keys actors g k clock left .at) ≤ weightIn
+    (at.Runs (point.WakeNext g clock left))
+unfolding wakeOne weightIn weightAt
 one-falls keys actors g k clock left =
-    let P : Waked → Type 0 = λ s. weightAt (s .at) ≤ weightAt (at.WakeNext g clock left) in
+    let P : Waked → Type 0 = λ s. weightIn (s .at) ≤ weightIn (at.Runs (point.WakeNext g clock left)) in
     pick-rule P (liveOf keys g k)
     (λ e. pick-rule P (lateAt (actorAt actors (slotAt g k) .«wake_at») clock) (λ l. omega arith)
     (λ l. pick-rule P (pollsOf (actorAt actors (slotAt g k))) (λ p. omega arith) (λ p. omega arith)))
     (λ e. omega arith)
 
 ready-now : (keys : Table) (g clock left : ℕ)
-    → weightAt (at.Ready g clock (atMost64 (countOf (keysAt keys (readyRow g))))) < weightAt (at.WakeNext g clock left)
-unfolding weightAt
+    → weightIn (at.Runs (point.Ready g clock (atMost64 (countOf (keysAt keys (readyRow g))))))
+    < weightIn (at.Runs (point.WakeNext g clock left))
+unfolding weightIn weightAt
 ready-now keys g clock left = omega (arith, at-most (countOf (keysAt keys (readyRow g))))
 
 front-falls : (keys actors : Table) (g clock left : ℕ) (k : Key) → 0 < left
-    → weightAt (wakeFirst keys actors g clock left k .at) < weightAt (at.WakeNext g clock left)
-unfolding weightAt
+    → weightIn (wakeFirst keys actors g clock left k .at) < weightIn (at.Runs (point.WakeNext g clock left))
+unfolding weightIn weightAt
 front-falls keys actors g clock left (key.At k) some =
     omega (arith, one-falls (set keys REST (popFront (keysAt keys REST))) actors g k clock (left - 1))
 front-falls keys actors g clock left key.Nothing some = ready-now keys g clock left
 
-next-falls : (keys actors : Table) (g clock left : ℕ) → weightAt (wakeNext keys actors g clock left .at) < weightAt
-    (at.WakeNext g clock left)
+next-falls : (keys actors : Table) (g clock left : ℕ) → weightIn (wakeNext keys actors g clock left .at) < weightIn
+    (at.Runs (point.WakeNext g clock left))
 unfolding wakeNext
 next-falls keys actors g clock left =
-    pick-rule (λ (s : Waked). weightAt (s .at) < weightAt (at.WakeNext g clock left)) (eqb left 0)
+    pick-rule (λ (s : Waked). weightIn (s .at) < weightIn (at.Runs (point.WakeNext g clock left))) (eqb left 0)
     (λ e. ready-now keys g clock left)
     (λ e. front-falls keys actors g clock left (frontOf (keysAt keys REST)) (omega (arith, eqb-false left 0 e)))
 
 -- ---- a group's ready list
 
-eval-begun : (c : Cursor) (n : EvalNext) → weightAt (evalAfter c n) ≤ popsLeft (c .group) (c .pops) + 60
-unfolding weightAt
+eval-begun : (c : Cursor) (n : EvalNext) → weightIn (evalAfter c n) ≤ popsLeft (c .group) (c .pops) + 60
+unfolding weightIn weightAt
 eval-begun c (eval.Asks a) = omega arith
 eval-begun c (eval.Ended p) = omega arith
 
 begin-by : (t actors : Table) (c : Cursor) (slot queued : ℕ) (m : Mode)
-    → weightAt (beginBy t actors c slot queued m .begun .at) ≤ popsLeft (c .group) (c .pops) + 60
-unfolding beginFixed beginEval weightAt
+    → weightIn (beginBy t actors c slot queued m .begun .at) ≤ popsLeft (c .group) (c .pops) + 60
+unfolding beginFixed beginEval weightIn weightAt
 begin-by t actors c slot queued mode.Fixed = omega arith
 begin-by t actors c slot queued mode.Eval = eval-begun c (evalStart t actors slot queued .step .next)
 
 key-begun : (t keys actors : Table) (c : Cursor) (queued : ℕ) (stepped : Bool)
-    → weightAt (readyKey t keys actors c queued stepped .begun .at) ≤ popsLeft (c .group) (c .pops) + 60
-unfolding readyKey beginStep weightAt
+    → weightIn (readyKey t keys actors c queued stepped .begun .at) ≤ popsLeft (c .group) (c .pops) + 60
+unfolding readyKey beginStep weightIn weightAt
 key-begun t keys actors c queued stepped =
     let slot = slotAt (c .group) (c .key) in
     let free = unscheduled actors slot in
-    let P : Stepping → Type 0 = λ s. weightAt (s .begun .at) ≤ popsLeft (c .group) (c .pops) + 60 in
+    let P : Stepping → Type 0 = λ s. weightIn (s .begun .at) ≤ popsLeft (c .group) (c .pops) + 60 in
     pick-rule P (liveOf keys (c .group) (c .key))
     (λ e. pick-rule P (restsOf (actorAt actors slot) (lenOf t (mailboxOf slot))) (λ r. omega arith)
     (λ r. begin-by t (putActor free slot (beganStep (actorAt free slot))) c slot queued (actorAt free slot .mode)))
     (λ e. omega arith)
 
-wake-after : (g clock pops : ℕ) → weightAt (at.Wake (nextGroup g) clock) < weightAt (at.Ready g clock pops)
-unfolding weightAt
+wake-after : (g clock pops : ℕ) → weightIn (at.Runs (point.Wake (nextGroup g) clock))
+    < weightIn (at.Runs (point.Ready g clock pops))
+unfolding weightIn weightAt
 wake-after g clock pops =
-    pick-rule (λ (n : ℕ). weightAt (at.Wake n clock) < weightAt (at.Ready g clock pops)) (ltb g 8) (λ e. omega arith)
+    pick-rule (λ (n : ℕ). weightIn (at.Runs (point.Wake n clock))
+    < weightIn (at.Runs (point.Ready g clock pops))) (ltb g 8) (λ e. omega arith)
     (λ e. omega arith)
 
 ready-front : (t keys actors : Table) (queued : ℕ) (stepped : Bool) (g clock pops : ℕ) (k : Key) → 0 < pops
-    → weightAt (readyFront t keys actors queued stepped g clock pops k .begun .at) < weightAt (at.Ready g clock pops)
-unfolding weightAt
+    → weightIn (readyFront t keys actors queued stepped g clock pops k .begun .at)
+    < weightIn (at.Runs (point.Ready g clock pops))
+unfolding weightIn weightAt
 ready-front t keys actors queued stepped g clock pops (key.At k) some =
     omega (arith, key-begun t (popReady keys g) actors (cursorAt g k clock (pops - 1)) queued stepped)
 ready-front t keys actors queued stepped g clock pops key.Nothing some = wake-after g clock pops
 
 ready-falls : (t keys actors : Table) (queued : ℕ) (stepped : Bool) (g clock pops : ℕ)
-    → weightAt (readyOf t keys actors queued stepped g clock pops .begun .at) < weightAt (at.Ready g clock pops)
+    → weightIn (readyOf t keys actors queued stepped g clock pops .begun .at)
+    < weightIn (at.Runs (point.Ready g clock pops))
 unfolding readyOf
 ready-falls t keys actors queued stepped g clock pops =
-    pick-rule (λ (s : Readied). weightAt (s .begun .at) < weightAt (at.Ready g clock pops)) (eqb pops 0)
+    pick-rule (λ (s : Readied). weightIn (s .begun .at) < weightIn (at.Runs (point.Ready g clock pops))) (eqb pops 0)
     (λ e. wake-after g clock pops)
     (λ e. ready-front t keys actors queued stepped g clock pops (frontOf (keysAt keys (readyRow g)))
     (omega (arith, eqb-false pops 0 e)))
 
 -- ---- the end of an actor's step
 
-end-falls : (c : Cursor) (e : End) → weightAt (stepEnd c e) < weightAt (at.StepEnd c e)
-unfolding weightAt
+end-falls : (c : Cursor) (e : End) → weightIn (stepEnd c e) < weightIn (at.Runs (point.StepEnd c e))
+unfolding weightIn weightAt
 end-falls c (end.Fixed s) = omega arith
 end-falls c (end.Eval p) = omega arith
 
 settle-falls : (t rows keys actors : Table) (c : Cursor) (s : Step) (queued : ℕ)
-    → weightAt (settleOf t rows keys actors c s queued .settled .at) < weightAt (at.Settle c s)
-unfolding settleOf weightAt
-settle-falls t rows keys actors c step.Done queued = omega arith
-settle-falls t rows keys actors c (step.Parked p) queued = omega arith
-settle-falls t rows keys actors c step.Failed queued = omega arith
+    → weightIn (settleOf t rows keys actors c s queued .settled .at) < weightIn (at.Runs (point.Settle c s))
+unfolding settleOf weightIn weightAt
+settle-falls t rows keys actors c ended.Done queued = omega arith
+settle-falls t rows keys actors c (ended.Parked p) queued = omega arith
+settle-falls t rows keys actors c ended.Failed queued = omega arith
 
-crash-falls : (c : Cursor) → weightAt (at.AskTrap c) < weightAt (at.Crash c)
-unfolding weightAt
+crash-falls : (c : Cursor) → weightIn (at.Runs (point.AskTrap c)) < weightIn (at.Runs (point.Crash c))
+unfolding weightIn weightAt
 crash-falls c = omega arith
 
-trap-falls : (c : Cursor) → weightAt (at.Trap c) < weightAt (at.AskTrap c)
-unfolding weightAt
+trap-falls : (c : Cursor) → weightIn (at.Asks (asks.Trap c)) < weightIn (at.Runs (point.AskTrap c))
+unfolding weightIn weightAt
 trap-falls c = omega arith
 
 doomed-front : (groups t rows keys : Table) (c : Cursor) (left queued : ℕ) (l : Losses) (k : Key) → 0 < left
-    → weightAt (doomedFront groups t rows keys c left queued l k .crashed .at) < weightAt (at.Doomed c left)
-unfolding doomedKey weightAt
+    → weightIn (doomedFront groups t rows keys c left queued l k .crashed .at)
+    < weightIn (at.Runs (point.Doomed c left))
+unfolding doomedKey weightIn weightAt
 doomed-front groups t rows keys c left queued l (key.At k) some = omega arith
 doomed-front groups t rows keys c left queued l key.Nothing some = omega arith
 
 doomed-falls : (groups t rows keys : Table) (c : Cursor) (left queued : ℕ) (l : Losses)
-    → weightAt (doomedOf groups t rows keys c left queued l .crashed .at) < weightAt (at.Doomed c left)
-unfolding doomedOf weightAt
+    → weightIn (doomedOf groups t rows keys c left queued l .crashed .at) < weightIn (at.Runs (point.Doomed c left))
+unfolding doomedOf weightIn weightAt
 doomed-falls groups t rows keys c left queued l =
-    pick-rule (λ (s : Crashing). weightAt (s .crashed .at) < weightAt (at.Doomed c left)) (eqb left 0)
+    pick-rule (λ (s : Crashing). weightIn (s .crashed .at) < weightIn (at.Runs (point.Doomed c left))) (eqb left 0)
     (λ e. omega arith)
     (λ e. doomed-front groups t rows keys c left queued l (frontOf (keysAt keys DOOMED))
     (omega (arith, eqb-false left 0 e)))
 
 -- ---- every point that runs
 
-go-falls : (a : At) (n : Counts) (limits : Limits) (store : List ℕ) (groups t rows keys actors : Table) → runsAt a
-    ≡ true → weightAt (goOf a n limits store groups t rows keys actors .went .at) < weightAt a
-unfolding runsAt goOf goRoute goReady goSettle goCrash goDoomed
-go-falls at.Rest n limits store groups t rows keys actors m = absurd (false≢true m)
-go-falls (at.Seed g) n limits store groups t rows keys actors m = seed-falls groups (limits .groups) keys actors g
-go-falls (at.SeedBoot g) n limits store groups t rows keys actors m = absurd (false≢true m)
-go-falls (at.Intake left) n limits store groups t rows keys actors m = intake-falls t (n .queued) (limits .backlog)
-    left
-go-falls (at.Route left) n limits store groups t rows keys actors m = route-falls groups (limits .groups) store t rows
-    keys actors (n .queued) left
-go-falls (at.RouteBoot g left) n limits store groups t rows keys actors m = absurd (false≢true m)
-go-falls at.TickClock n limits store groups t rows keys actors m = absurd (false≢true m)
-go-falls (at.Wake g clock) n limits store groups t rows keys actors m = wake-falls keys (limits .groups) g clock
-go-falls (at.WakeNext g clock left) n limits store groups t rows keys actors m = next-falls keys actors g clock left
-go-falls (at.WakePoll g k clock left) n limits store groups t rows keys actors m = absurd (false≢true m)
-go-falls (at.Ready g clock pops) n limits store groups t rows keys actors m = ready-falls t keys actors (n .queued)
-    (n .stepped) g clock pops
-go-falls (at.Fixed c a) n limits store groups t rows keys actors m = absurd (false≢true m)
-go-falls (at.Eval c a) n limits store groups t rows keys actors m = absurd (false≢true m)
-go-falls (at.StepEnd c e) n limits store groups t rows keys actors m = end-falls c e
-go-falls (at.Sends c s) n limits store groups t rows keys actors m = absurd (false≢true m)
-go-falls (at.Settle c s) n limits store groups t rows keys actors m = settle-falls t rows keys actors c s (n .queued)
-go-falls (at.Crash c) n limits store groups t rows keys actors m = crash-falls c
-go-falls (at.AskTrap c) n limits store groups t rows keys actors m = trap-falls c
-go-falls (at.Trap c) n limits store groups t rows keys actors m = absurd (false≢true m)
-go-falls (at.Trapped c k) n limits store groups t rows keys actors m = absurd (false≢true m)
-go-falls (at.Doomed c left) n limits store groups t rows keys actors m = doomed-falls groups t rows keys c left
-    (n .queued) (n .losses)
+go-falls : (s : State) (p : Point) → weightIn (goOf s p .pool .turn .at) < weightAt p
+unfolding goOf weightIn
+go-falls s (point.Seed g) = seed-falls (s .groups) (s .pool .limits .groups) (s .keys) (s .actors) g
+go-falls s (point.Intake left) =
+    intake-falls (s .links) (s .pool .turn .counts .queued) (s .pool .limits .backlog) left
+go-falls s (point.Route left) =
+    route-falls (s .groups) (s .pool .limits .groups) (s .store) (s .links) (s .rows) (s .keys) (s .actors)
+    (s .pool .turn .counts .queued) left
+go-falls s (point.Wake g clock) = wake-falls (s .keys) (s .pool .limits .groups) g clock
+go-falls s (point.WakeNext g clock left) = next-falls (s .keys) (s .actors) g clock left
+go-falls s (point.Ready g clock pops) =
+    ready-falls (s .links) (s .keys) (s .actors) (s .pool .turn .counts .queued) (s .pool .turn .counts .stepped) g
+    clock pops
+go-falls s (point.StepEnd c e) = end-falls c e
+go-falls s (point.Settle c e) =
+    settle-falls (s .links) (s .rows) (s .keys) (s .actors) c e (s .pool .turn .counts .queued)
+go-falls s (point.Crash c) = crash-falls c
+go-falls s (point.AskTrap c) = trap-falls c
+go-falls s (point.Doomed c left) =
+    doomed-falls (s .groups) (s .links) (s .rows) (s .keys) c left (s .pool .turn .counts .queued)
+    (s .pool .turn .counts .losses)
 
 -- ---- a step
 
-weight-most : (d : Disk) (a : At) → weightIn d a ≤ 1 + weightAt a
+weight-most : (d : Disk) (a : At) → weightBy d a ≤ 1 + weightIn a
 weight-most disk.Free a = omega arith
 weight-most (disk.Waits o w) a = omega arith
 weight-most disk.Failed a = omega arith
 
-weight-free : (d : Disk) (a : At) → pick (isFree d) (runsAt a) false ≡ true → weightIn d a ≡ 1 + weightAt a
-weight-free disk.Free a m = refl
-weight-free (disk.Waits o w) a m = absurd (false≢true m)
-weight-free disk.Failed a m = absurd (false≢true m)
-
-runs-free : (d : Disk) (a : At) → pick (isFree d) (runsAt a) false ≡ true → runsAt a ≡ true
-runs-free disk.Free a m = m
-runs-free (disk.Waits o w) a m = absurd (false≢true m)
-runs-free disk.Failed a m = absurd (false≢true m)
-
-weight-stopped : (d : Disk) (a : At) → isFree d ≡ false → weightIn d a ≡ 0
+weight-stopped : (d : Disk) (a : At) → isFree d ≡ false → weightBy d a ≡ 0
 weight-stopped disk.Free a m = absurd (false≢true (sym m))
 weight-stopped (disk.Waits o w) a m = refl
 weight-stopped disk.Failed a m = refl
 
-then-falls : (g : Given) (w : Work) (m : MarkedFirst) → runsAt (w .turn .at) ≡ true → weightOf (markThen g w m .turn)
-    < 1 + weightAt (w .turn .at)
+-- a state that runs is at a point, with no order waiting
+runs-rule : (P : At → Type 0) (d : Disk) (a : At) → pick (isFree d) (runsAt a) false ≡ true
+    → ((p : Point) → P (at.Runs p)) → P a
+runs-rule P disk.Free at.Rest m f = absurd (false≢true m)
+runs-rule P disk.Free (at.Asks a) m f = absurd (false≢true m)
+runs-rule P disk.Free (at.Runs p) m f = f p
+runs-rule P (disk.Waits o w) a m f = absurd (false≢true m)
+runs-rule P disk.Failed a m f = absurd (false≢true m)
+
+weight-free : (d : Disk) (a : At) → pick (isFree d) (runsAt a) false ≡ true → weightBy d a ≡ 1 + weightIn a
+weight-free disk.Free a m = refl
+weight-free (disk.Waits o w) a m = absurd (false≢true m)
+weight-free disk.Failed a m = absurd (false≢true m)
+
+free-falls : (s : State) (p : Point) → weightOf (goFree s p .pool .turn) < 1 + weightAt p
 unfolding weightOf
-then-falls g w m runs =
-    pick-rule (λ (v : Work). weightIn (v .turn .disk) (v .turn .at) < 1 + weightAt (w .turn .at))
-    (isFree (m .marked .disk))
+free-falls s p =
+    pick-rule (λ (v : State). weightOf (v .pool .turn) < 1 + weightAt p) (isFree (s .pool .turn .disk))
     (λ e. omega (
       arith,
-      weight-most (m .marked .disk) (goAfter g w m .turn .at),
-      go-falls (w .turn .at)
-          (w .turn .counts) (g .limits) (g .store) (g .groups) (m .links) (w .rows) (w .keys) (w .actors) runs,
+      weight-most (goOf s p .pool .turn .disk) (goOf s p .pool .turn .at),
+      go-falls s p,
     ))
-    (λ e. omega (arith, weight-stopped (m .marked .disk) (w .turn .at) e))
+    (λ e. omega (arith, weight-stopped (s .pool .turn .disk) (s .pool .turn .at) e))
 
-step-falls : (g : Given) (w : Work) → runsAt (w .turn .at) ≡ true → weightOf (stepOf g w .turn) < 1 + weightAt
-    (w .turn .at)
-unfolding stepOf weightOf
-step-falls g w runs =
-    let gone = goOf (w .turn .at) (w .turn .counts) (g .limits) (g .store) (g .groups) (w .links) (w .rows) (w .keys)
-    (w .actors) in
-    pick-rule (λ (v : Work). weightOf (v .turn) < 1 + weightAt (w .turn .at)) (marksAt (w .turn .at))
-    (λ e. then-falls g w (markFirst (w .bytes) (w .records) (w .links) (w .rows) (w .turn .log)
-    (g .limits .«compact_at»)) runs)
-    (λ e. omega (
-      arith,
-      weight-most (w .turn .disk) (gone .went .at),
-      go-falls (w .turn .at) (w .turn .counts)
-          (g .limits) (g .store) (g .groups) (w .links) (w .rows) (w .keys) (w .actors) runs,
-    ))
-
-pub falls : (g : Given) (w : Work) → runningOf (w .turn) ≡ true → weightOf (stepOf g w .turn) < weightOf (w .turn)
-unfolding runningOf weightOf
-falls g w m =
-    rw (weight-free (w .turn .disk) (w .turn .at) m) (step-falls g w (runs-free (w .turn .disk) (w .turn .at) m))
+pub falls : (s : State) → runningOf (s .pool) ≡ true → weightOf (stepOf s .pool .turn) < weightOf (s .pool .turn)
+unfolding runningOf weightOf weightIn stepOf
+falls s m =
+    rw (weight-free (s .pool .turn .disk) (s .pool .turn .at) m)
+    (runs-rule (λ a. weightOf (stepAt s a .pool .turn) < 1 + weightIn a) (s .pool .turn .disk) (s .pool .turn .at) m
+    (λ p. free-falls (markAt s p) p))
 
 -- ---- so the steps end
 
-pub advance-stop : (n : ℕ) (g : Given) (w : Work) → runningOf (w .turn) ≡ false → advanceOf n g w ≡ w
+pub advance-stop : (n : ℕ) (s : State) → runningOf (s .pool) ≡ false → advanceOf n s ≡ s
 unfolding advanceOf
-advance-stop zero g w h = refl
-advance-stop (suc n) g w h = rw h
+advance-stop zero s h = refl
+advance-stop (suc n) s h = rw h
 
-no-weight : (b : Bool) (g : Given) (w : Work) → runningOf (w .turn) ≡ b → weightOf (w .turn) ≤ 0 → runningOf (w .turn)
-    ≡ false
-no-weight true g w e h = absurd (omega (arith, falls g w e))
-no-weight false g w e h = e
+no-weight : (b : Bool) (s : State) → runningOf (s .pool) ≡ b → weightOf (s .pool .turn) ≤ 0
+    → runningOf (s .pool) ≡ false
+no-weight true s e h = absurd (omega (arith, falls s e))
+no-weight false s e h = e
 
-same-by : (b : Bool) (n m : ℕ) (g : Given) (w : Work) → runningOf (w .turn) ≡ b → (runningOf (w .turn) ≡ true
-    → advanceOf n g (stepOf g w) ≡ advanceOf m g (stepOf g w)) → advanceOf (suc n) g w ≡ advanceOf (suc m) g w
+same-by : (b : Bool) (n m : ℕ) (s : State) → runningOf (s .pool) ≡ b
+    → (runningOf (s .pool) ≡ true → advanceOf n (stepOf s) ≡ advanceOf m (stepOf s))
+    → advanceOf (suc n) s ≡ advanceOf (suc m) s
 unfolding advanceOf
-same-by true n m g w e h = rw e (h e)
-same-by false n m g w e h = rw e
+same-by true n m s e h = rw e (h e)
+same-by false n m s e h = rw e
 
 -- any two fuels that are no less than the weight give the same
-pub advance-same : (n m : ℕ) (g : Given) (w : Work) → weightOf (w .turn) ≤ n → weightOf (w .turn) ≤ m → advanceOf n g w
-    ≡ advanceOf m g w
-advance-same zero m g w hn hm = let s = no-weight (runningOf (w .turn)) g w refl hn in advance-stop zero g w s
-    ∙ sym (advance-stop m g w s)
-advance-same (suc n) zero g w hn hm = let s = no-weight (runningOf (w .turn)) g w refl hm in advance-stop (suc n) g w s
-    ∙ sym (advance-stop zero g w s)
-advance-same (suc n) (suc m) g w hn hm =
-    same-by (runningOf (w .turn)) n m g w refl
-    (λ e. advance-same n m g (stepOf g w) (omega (arith, falls g w e)) (omega (arith, falls g w e)))
+advance-same : (n m : ℕ) (s : State) → weightOf (s .pool .turn) ≤ n → weightOf (s .pool .turn) ≤ m
+    → advanceOf n s ≡ advanceOf m s
+advance-same zero m s hn hm =
+    let stops = no-weight (runningOf (s .pool)) s refl hn in
+    advance-stop zero s stops ∙ sym (advance-stop m s stops)
+advance-same (suc n) zero s hn hm =
+    let stops = no-weight (runningOf (s .pool)) s refl hm in
+    advance-stop (suc n) s stops ∙ sym (advance-stop zero s stops)
+advance-same (suc n) (suc m) s hn hm =
+    same-by (runningOf (s .pool)) n m s refl
+    (λ e. advance-same n m (stepOf s) (omega (arith, falls s e)) (omega (arith, falls s e)))
 
--- one step of a running turn, at the fuels of the two weights
-pub advance-step : (g : Given) (w : Work) → runningOf (w .turn) ≡ true → advanceOf (weightOf (stepOf g w .turn)) g
-    (stepOf g w) ≡ advanceOf (weightOf (w .turn)) g w
-unfolding advanceOf
-advance-step g w e =
-    let n = weightOf (w .turn) in
-    let one : advanceOf n g (stepOf g w) ≡ advanceOf (suc n) g w = rw e in
-    advance-same (weightOf (stepOf g w .turn)) n g (stepOf g w) (omega arith) (omega (arith, falls g w e))
-    ∙ (one ∙ advance-same (suc n) n g w (omega arith) (omega arith))
+-- where nothing runs, a turn stays
+pub advanced-stop : (s : State) → runningOf (s .pool) ≡ false → advanced s ≡ s
+unfolding advanced
+advanced-stop s h = advance-stop (weightOf (s .pool .turn)) s h
 
--- the turn as far as it runs by itself
-abbrev pub runs : Given → Work → Work
-runs g w = advanceOf (weightOf (w .turn)) g w
+-- a step of a running turn leads to the same
+pub advanced-step : (s : State) → runningOf (s .pool) ≡ true → advanced (stepOf s) ≡ advanced s
+unfolding advanceOf advanced
+advanced-step s e =
+    let n = weightOf (s .pool .turn) in
+    let one : advanceOf n (stepOf s) ≡ advanceOf (suc n) s = rw e in
+    advance-same (weightOf (stepOf s .pool .turn)) n (stepOf s) (omega arith) (omega (arith, falls s e))
+    ∙ (one ∙ advance-same (suc n) n s (omega arith) (omega arith))
 
 -- the two laws of a step for what a function gave
-pub fell : (g : Given) (w v : Work) → v ≡ stepOf g w → runningOf (w .turn) ≡ true → weightOf (v .turn) < weightOf
-    (w .turn)
-fell g w v e run = rw (ap (λ (u : Work). weightOf (u .turn)) e) (falls g w run)
+pub fell : (s v : State) → v ≡ stepOf s → runningOf (s .pool) ≡ true
+    → weightOf (v .pool .turn) < weightOf (s .pool .turn)
+fell s v e run = rw (ap (λ (u : State). weightOf (u .pool .turn)) e) (falls s run)
 
-pub stepped : (g : Given) (w v : Work) → v ≡ stepOf g w → runningOf (w .turn) ≡ true → runs g v ≡ runs g w
-stepped g w v e run = ap (runs g) e ∙ advance-step g w run
+pub stepped : (s v : State) → v ≡ stepOf s → runningOf (s .pool) ≡ true → advanced v ≡ advanced s
+stepped s v e run = ap advanced e ∙ advanced-step s run
 
-settles-by : (b : Bool) (n : ℕ) (g : Given) (w : Work) → runningOf (w .turn) ≡ b → (runningOf (w .turn) ≡ true
-    → runningOf (advanceOf n g (stepOf g w) .turn) ≡ false) → runningOf (advanceOf (suc n) g w .turn) ≡ false
+-- ---- where a call stops
+
+goes-by : (b : Bool) (n : ℕ) (s : State) → runningOf (s .pool) ≡ b
+    → (runningOf (s .pool) ≡ true → GoesOn (stepOf s) (advanceOf n (stepOf s)) × Stops (advanceOf n (stepOf s)))
+    → GoesOn s (advanceOf (suc n) s) × Stops (advanceOf (suc n) s)
 unfolding advanceOf
-settles-by true n g w e h = rw e (h e)
-settles-by false n g w e h = rw e e
+goes-by true n s e h = rw e (step s (advanceOf n (stepOf s)) e (h e .0), h e .1)
+goes-by false n s e h = rw e (here s, e)
 
-settles : (n : ℕ) (g : Given) (w : Work) → weightOf (w .turn) ≤ n → runningOf (advanceOf n g w .turn) ≡ false
+goes : (n : ℕ) (s : State) → weightOf (s .pool .turn) ≤ n → GoesOn s (advanceOf n s) × Stops (advanceOf n s)
 unfolding advanceOf
-settles zero g w h = no-weight (runningOf (w .turn)) g w refl h
-settles (suc n) g w h = settles-by (runningOf (w .turn)) n g w refl (λ e. settles n g (stepOf g w)
-    (omega (arith, falls g w e)))
+goes zero s h = (here s, no-weight (runningOf (s .pool)) s refl h)
+goes (suc n) s h = goes-by (runningOf (s .pool)) n s refl (λ e. goes n (stepOf s) (omega (arith, falls s e)))
 
--- the weight is fuel enough: after the steps a question is open, an order waits or failed, or the turn is over
-pub settled : (g : Given) (w : Work) → runningOf (runs g w .turn) ≡ false
-settled g w = settles (weightOf (w .turn)) g w (omega arith)
+pub advances : Advances
+unfolding advanced
+advances s = goes (weightOf (s .pool .turn)) s (omega arith)
+
+pub advances-only : AdvancesOnly
+advances-only s s' (here _) stops = sym (advanced-stop s stops)
+advances-only s s' (step _ _ run on) stops = advances-only (stepOf s) s' on stops ∙ advanced-step s run
+
+-- after the steps a question is open, an order waits or failed, or the turn is over
+pub settled : (s : State) → runningOf (advanced s .pool) ≡ false
+settled s = advances s .1

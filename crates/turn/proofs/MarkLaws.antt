@@ -18,6 +18,7 @@ pub marked-id : (bytes bytes' : List ℕ) (records records' : Table) (before : C
     → m ≡ markedBy n d id
     → _≡_ {A = MarkedLog} (record { bytes = bytes'; records = records'; marked = m })
     (markedLog (markOf limit (state bytes records before) (id .0)) id)
+unfolding markedLog
 marked-id bytes bytes' records records' before limit id n d m did answered =
     ap (λ (x : Marked). record { bytes = bytes'; records = records'; marked = x }) answered
     ∙ ap (λ (x : DidMark). markedLog x id) did

@@ -1,40 +1,41 @@
 -- What is open: the order that waits, else the turn's question; after a failed order nothing.
 use Rattle.lists.specs.Links.{Table}
-use Rattle.actor.specs.declared.question.Question.the-variants as ask
+use Rattle.actor.specs.declared.question.Question.the-variants as question
 use Rattle.actor.specs.declared.question.Asked.{Asked}
 use Rattle.actor.specs.declared.question.Asked.the-variants as asked
 use Rattle.steps.specs.StepFixed.{fixedAsks}
 use Rattle.steps.specs.StepEval.{evalAsks}
 use Rattle.group.specs.declared.at.At.{At}
 use Rattle.group.specs.declared.at.At.the-variants as at
+use Rattle.group.specs.declared.at.Ask.{Ask}
+use Rattle.group.specs.declared.at.Ask.the-variants as asks
 use Rattle.group.specs.At.{whoOf}
 use Rattle.turn.specs.declared.state.Disk.{Disk}
 use Rattle.turn.specs.declared.state.Disk.the-variants as disk
+use Rattle.turn.specs.State.{State}
 
-unfoldable pub asksAt : At → Table → Table → Asked
-asksAt at.Rest t rows = asked.Nothing
-asksAt (at.Seed g) t rows = asked.Nothing
-asksAt (at.SeedBoot g) t rows = asked.Open (ask.Boot g)
-asksAt (at.Intake left) t rows = asked.Nothing
-asksAt (at.Route left) t rows = asked.Nothing
-asksAt (at.RouteBoot g left) t rows = asked.Open (ask.Boot g)
-asksAt at.TickClock t rows = asked.Open ask.Clock
-asksAt (at.Wake g clock) t rows = asked.Nothing
-asksAt (at.WakeNext g clock left) t rows = asked.Nothing
-asksAt (at.WakePoll g k clock left) t rows = asked.Open (ask.Poll (whoOf g k))
-asksAt (at.Ready g clock pops) t rows = asked.Nothing
-asksAt (at.Fixed c a) t rows = fixedAsks t (whoOf (c .group) (c .key)) a
-asksAt (at.Eval c a) t rows = evalAsks t rows (whoOf (c .group) (c .key)) a
-asksAt (at.StepEnd c e) t rows = asked.Nothing
-asksAt (at.Sends c s) t rows = asked.Open (ask.Sends (whoOf (c .group) (c .key)))
-asksAt (at.Settle c s) t rows = asked.Nothing
-asksAt (at.Crash c) t rows = asked.Nothing
-asksAt (at.AskTrap c) t rows = asked.Nothing
-asksAt (at.Trap c) t rows = asked.Open (ask.Trap (c .group))
-asksAt (at.Trapped c k) t rows = asked.Open (ask.Trapped (whoOf (c .group) k))
-asksAt (at.Doomed c left) t rows = asked.Nothing
+-- the question of an open place of the turn; some name a message, which the lists and rows tell
+unfoldable pub askedBy : Ask → Table → Table → Asked
+askedBy (asks.SeedBoot g) t rows = asked.Open (question.Boot g)
+askedBy (asks.RouteBoot g left) t rows = asked.Open (question.Boot g)
+askedBy asks.TickClock t rows = asked.Open question.Clock
+askedBy (asks.WakePoll g k clock left) t rows = asked.Open (question.Poll (whoOf g k))
+askedBy (asks.Fixed c a) t rows = fixedAsks t (whoOf (c .group) (c .key)) a
+askedBy (asks.Eval c a) t rows = evalAsks t rows (whoOf (c .group) (c .key)) a
+askedBy (asks.Sends c s) t rows = asked.Open (question.Sends (whoOf (c .group) (c .key)))
+askedBy (asks.Trap c) t rows = asked.Open (question.Trap (c .group))
+askedBy (asks.Trapped c k) t rows = asked.Open (question.Trapped (whoOf (c .group) k))
 
-unfoldable pub asksIn : Disk → At → Table → Table → Asked
-asksIn disk.Free a t rows = asksAt a t rows
-asksIn (disk.Waits o w) a t rows = asked.Open (ask.Store o)
-asksIn disk.Failed a t rows = asked.Nothing
+-- what runs, and a turn that is over, ask nothing
+abbrev pub askedAt : At → Table → Table → Asked
+askedAt at.Rest t rows = asked.Nothing
+askedAt (at.Asks a) t rows = askedBy a t rows
+askedAt (at.Runs p) t rows = asked.Nothing
+
+unfoldable pub askedIn : Disk → At → Table → Table → Asked
+askedIn disk.Free a t rows = askedAt a t rows
+askedIn (disk.Waits o w) a t rows = asked.Open (question.Store o)
+askedIn disk.Failed a t rows = asked.Nothing
+
+abbrev pub openIn : State → Asked
+openIn s = askedIn (s .pool .turn .disk) (s .pool .turn .at) (s .links) (s .rows)

@@ -1,6 +1,8 @@
 -- Definitions and statements.
 pub mod State
 pub mod Go
+pub mod Weight
 pub mod Step
+pub mod Advance
 pub mod Asks
 pub mod Resume

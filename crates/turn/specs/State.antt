@@ -1,64 +1,187 @@
--- Where a turn stands, and whether it runs on by itself.
+-- The state of a pool, as every definition of the pool has it: the pool's own state and the lent tables.
 use mathlib.Core.Bool.{Bool, true, false}
-use Rattle.lists.specs.Links.{pick}
+use mathlib.Core.List.{List}
+use Prim.Native.Nat.{ℕ}
+use Rattle.lists.specs.Links.{pick, Table}
+use Rattle.log.specs.declared.Counters.{Counters}
+use Rattle.log.specs.Log.{Wal}
 use Rattle.group.specs.declared.at.At.{At}
 use Rattle.group.specs.declared.at.At.the-variants as at
+use Rattle.group.specs.declared.at.Point.{Point}
+use Rattle.group.specs.declared.at.Point.the-variants as point
+use Rattle.ticking.specs.declared.crash.Losses.{Losses}
 use Rattle.turn.specs.declared.state.Disk.{Disk}
 use Rattle.turn.specs.declared.state.Disk.the-variants as disk
+use Rattle.turn.specs.declared.state.Counts.{Counts}
 use Rattle.turn.specs.declared.state.Turn.{Turn}
+use Rattle.turn.specs.declared.state.Pool.{Pool}
 
--- a point between questions
-unfoldable pub runsAt : At → Bool
-runsAt at.Rest = false
-runsAt (at.Seed g) = true
-runsAt (at.SeedBoot g) = false
-runsAt (at.Intake left) = true
-runsAt (at.Route left) = true
-runsAt (at.RouteBoot g left) = false
-runsAt at.TickClock = false
-runsAt (at.Wake g clock) = true
-runsAt (at.WakeNext g clock left) = true
-runsAt (at.WakePoll g k clock left) = false
-runsAt (at.Ready g clock pops) = true
-runsAt (at.Fixed c a) = false
-runsAt (at.Eval c a) = false
-runsAt (at.StepEnd c e) = true
-runsAt (at.Sends c s) = false
-runsAt (at.Settle c s) = true
-runsAt (at.Crash c) = true
-runsAt (at.AskTrap c) = true
-runsAt (at.Trap c) = false
-runsAt (at.Trapped c k) = false
-runsAt (at.Doomed c left) = true
+-- what each call gets as the one before left it: the pool, the log's bytes and table of open records, the body store,
+-- and the pool's tables
+pub record State : Type 0 where
+  pub pool : Pool
+  pub bytes : List ℕ
+  pub records : Table
+  pub store : List ℕ
+  pub groups : Table
+  pub links : Table
+  pub rows : Table
+  pub keys : Table
+  pub actors : Table
 
--- at these points what is over gets its mark first, one order at a time
-unfoldable pub marksAt : At → Bool
-marksAt at.Rest = false
-marksAt (at.Seed g) = false
-marksAt (at.SeedBoot g) = false
-marksAt (at.Intake left) = false
-marksAt (at.Route left) = true
-marksAt (at.RouteBoot g left) = false
-marksAt at.TickClock = false
-marksAt (at.Wake g clock) = false
-marksAt (at.WakeNext g clock left) = false
-marksAt (at.WakePoll g k clock left) = false
-marksAt (at.Ready g clock pops) = true
-marksAt (at.Fixed c a) = false
-marksAt (at.Eval c a) = false
-marksAt (at.StepEnd c e) = true
-marksAt (at.Sends c s) = false
-marksAt (at.Settle c s) = false
-marksAt (at.Crash c) = true
-marksAt (at.AskTrap c) = true
-marksAt (at.Trap c) = false
-marksAt (at.Trapped c k) = false
-marksAt (at.Doomed c left) = true
+-- the log as the state has it
+abbrev pub walOf : State → Wal
+walOf s = record { bytes = s .bytes; table = s .records; counters = s .pool .turn .log }
+
+-- ---- one part is this, all else is as it was
+
+abbrev pub withPool : State → Pool → State
+withPool s p = record {
+  pool = p;
+  bytes = s .bytes;
+  records = s .records;
+  store = s .store;
+  groups = s .groups;
+  links = s .links;
+  rows = s .rows;
+  keys = s .keys;
+  actors = s .actors;
+}
+
+abbrev pub withLinks : State → Table → State
+withLinks s t = record {
+  pool = s .pool;
+  bytes = s .bytes;
+  records = s .records;
+  store = s .store;
+  groups = s .groups;
+  links = t;
+  rows = s .rows;
+  keys = s .keys;
+  actors = s .actors;
+}
+
+abbrev pub withRows : State → Table → State
+withRows s rows = record {
+  pool = s .pool;
+  bytes = s .bytes;
+  records = s .records;
+  store = s .store;
+  groups = s .groups;
+  links = s .links;
+  rows = rows;
+  keys = s .keys;
+  actors = s .actors;
+}
+
+abbrev pub withKeys : State → Table → State
+withKeys s keys = record {
+  pool = s .pool;
+  bytes = s .bytes;
+  records = s .records;
+  store = s .store;
+  groups = s .groups;
+  links = s .links;
+  rows = s .rows;
+  keys = keys;
+  actors = s .actors;
+}
+
+abbrev pub withActors : State → Table → State
+withActors s actors = record {
+  pool = s .pool;
+  bytes = s .bytes;
+  records = s .records;
+  store = s .store;
+  groups = s .groups;
+  links = s .links;
+  rows = s .rows;
+  keys = s .keys;
+  actors = actors;
+}
+
+abbrev pub withStore : State → List ℕ → State
+withStore s store = record {
+  pool = s .pool;
+  bytes = s .bytes;
+  records = s .records;
+  store = store;
+  groups = s .groups;
+  links = s .links;
+  rows = s .rows;
+  keys = s .keys;
+  actors = s .actors;
+}
+
+-- the log's bytes and open records; its counters are the pool's
+abbrev pub withLog : State → List ℕ → Table → State
+withLog s bytes records = record {
+  pool = s .pool;
+  bytes = bytes;
+  records = records;
+  store = s .store;
+  groups = s .groups;
+  links = s .links;
+  rows = s .rows;
+  keys = s .keys;
+  actors = s .actors;
+}
+
+-- ---- the same of the pool
+
+abbrev pub withTurn : Pool → Turn → Pool
+withTurn p t = record { turn = t; limits = p .limits; closed = p .closed; seeded = p .seeded }
+
+abbrev pub withDisk : Pool → Counters → Disk → Pool
+withDisk p n d = withTurn p (record { at = p .turn .at; disk = d; counts = p .turn .counts; log = n })
+
+-- the turn stands there, with these counts
+abbrev pub countedAt : Pool → At → Counts → Pool
+countedAt p a n = withTurn p (record { at = a; disk = p .turn .disk; counts = n; log = p .turn .log })
+
+abbrev pub stoodAt : Pool → At → Pool
+stoodAt p a = countedAt p a (p .turn .counts)
+
+abbrev pub queuedAt : Pool → At → ℕ → Pool
+queuedAt p a queued =
+    countedAt p a
+    (record { queued = queued; losses = p .turn .counts .losses; stepped = p .turn .counts .stepped })
+
+abbrev pub steppedAt : Pool → At → ℕ → Bool → Pool
+steppedAt p a queued stepped =
+    countedAt p a (record { queued = queued; losses = p .turn .counts .losses; stepped = stepped })
+
+abbrev pub lostAt : Pool → At → ℕ → Losses → Pool
+lostAt p a queued losses =
+    countedAt p a (record { queued = queued; losses = losses; stepped = p .turn .counts .stepped })
+
+-- ---- what runs
 
 abbrev pub isFree : Disk → Bool
 isFree disk.Free = true
 isFree (disk.Waits o w) = false
 isFree disk.Failed = false
 
-unfoldable pub runningOf : Turn → Bool
-runningOf t = pick (isFree (t .disk)) (runsAt (t .at)) false
+abbrev pub runsAt : At → Bool
+runsAt at.Rest = false
+runsAt (at.Asks a) = false
+runsAt (at.Runs p) = true
+
+-- no order waits, and the turn is between questions
+unfoldable pub runningOf : Pool → Bool
+runningOf p = pick (isFree (p .turn .disk)) (runsAt (p .turn .at)) false
+
+-- Before these points run, what is over gets its mark, one order at a time. So what a step finished is marked, in its
+-- order, before Sends is asked; what a crash or a retired neighbour left, before the next question.
+unfoldable pub marksAt : Point → Bool
+marksAt (point.Seed g) = false
+marksAt (point.Intake left) = false
+marksAt (point.Route left) = true
+marksAt (point.Wake g clock) = false
+marksAt (point.WakeNext g clock left) = false
+marksAt (point.Ready g clock pops) = true
+marksAt (point.StepEnd c e) = true
+marksAt (point.Settle c s) = false
+marksAt (point.Crash c) = true
+marksAt (point.AskTrap c) = true
+marksAt (point.Doomed c left) = true

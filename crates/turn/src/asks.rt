@@ -1,84 +1,61 @@
 // What is open: the order that waits, else the turn's question. It is a function of the state, so an older question
 // is shown again once an order is stored.
 ghost use mathlib.Core.Path.{_≡_};
-ghost use Rattle.turn.specs.Asks.{asksAt, asksIn};
+ghost use Rattle.turn.specs.Asks.{askedBy, askedIn};
 use crate::state::Disk;
 use actor::question::Asked;
 use actor::question::Question;
 use group::at;
+use group::at::Ask;
 use group::at::At;
 use steps::eval;
 use steps::fixed;
 
 // The turn's question.
-fn asks_at(at: At, links: &[[u64; 4]], rows: &[[u64; 7]]) -> Asked
-    ensures { λ r. ⌜ r ≡ asksAt at (now (links .entry)) (now (rows .entry)) ⌝ }
+fn asked_by(ask: Ask, links: &[[u64; 4]], rows: &[[u64; 7]]) -> Asked
+    ensures { λ r. ⌜ r ≡ askedBy ask (now (links .entry)) (now (rows .entry)) ⌝ }
 {
-    match at {
-        At::Rest => Asked::Nothing,
-        At::Seed(_) => Asked::Nothing,
-        At::SeedBoot(g) => {
-            let q = Question::Boot(g);
-            Asked::Open(q)
-        }
-        At::Intake(_) => Asked::Nothing,
-        At::Route(_) => Asked::Nothing,
-        At::RouteBoot(g, _) => {
-            let q = Question::Boot(g);
-            Asked::Open(q)
-        }
-        At::TickClock => {
-            let q = Question::Clock;
-            Asked::Open(q)
-        }
-        At::Wake(_, _) => Asked::Nothing,
-        At::WakeNext(_, _, _) => Asked::Nothing,
-        At::WakePoll(g, key, _, _) => {
+    match ask {
+        Ask::SeedBoot(g) => Asked::Open(Question::Boot(g)),
+        Ask::RouteBoot(g, _) => Asked::Open(Question::Boot(g)),
+        Ask::TickClock => Asked::Open(Question::Clock),
+        Ask::WakePoll(g, key, _, _) => {
             let who = at::who_of(g, key);
-            let q = Question::Poll(who);
-            Asked::Open(q)
+            Asked::Open(Question::Poll(who))
         }
-        At::Ready(_, _, _) => Asked::Nothing,
-        At::Fixed(c, ask) => {
+        Ask::Fixed(c, step) => {
             let who = at::who_of(c.group, c.key);
-            fixed::fixed_asks(links, who, ask)
+            fixed::fixed_asks(links, who, step)
         }
-        At::Eval(c, ask) => {
+        Ask::Eval(c, step) => {
             let who = at::who_of(c.group, c.key);
-            eval::eval_asks(links, rows, who, ask)
+            eval::eval_asks(links, rows, who, step)
         }
-        At::StepEnd(_, _) => Asked::Nothing,
-        At::Sends(c, _) => {
+        Ask::Sends(c, _) => {
             let who = at::who_of(c.group, c.key);
-            let q = Question::Sends(who);
-            Asked::Open(q)
+            Asked::Open(Question::Sends(who))
         }
-        At::Settle(_, _) => Asked::Nothing,
-        At::Crash(_) => Asked::Nothing,
-        At::AskTrap(_) => Asked::Nothing,
-        At::Trap(c) => {
-            let q = Question::Trap(c.group);
-            Asked::Open(q)
-        }
-        At::Trapped(c, key) => {
+        Ask::Trap(c) => Asked::Open(Question::Trap(c.group)),
+        Ask::Trapped(c, key) => {
             let who = at::who_of(c.group, key);
-            let q = Question::Trapped(who);
-            Asked::Open(q)
+            Asked::Open(Question::Trapped(who))
         }
-        At::Doomed(_, _) => Asked::Nothing,
     }
 }
 
 // The order that waits, else the turn's question; after a failed order nothing.
-pub fn asks(disk: Disk, at: At, links: &[[u64; 4]], rows: &[[u64; 7]]) -> Asked
-    ensures { λ r. ⌜ r ≡ asksIn disk at (now (links .entry)) (now (rows .entry)) ⌝ }
+pub fn asked_in(disk: Disk, at: At, links: &[[u64; 4]], rows: &[[u64; 7]]) -> Asked
+    ensures { λ r. ⌜ r ≡ askedIn disk at (now (links .entry)) (now (rows .entry)) ⌝ }
 {
     match disk {
-        Disk::Free => asks_at(at, links, rows),
-        Disk::Waits(order, _) => {
-            let q = Question::Store(order);
-            Asked::Open(q)
+        Disk::Free => {
+            match at {
+                At::Rest => Asked::Nothing,
+                At::Asks(ask) => asked_by(ask, links, rows),
+                At::Runs(_) => Asked::Nothing,
+            }
         }
+        Disk::Waits(order, _) => Asked::Open(Question::Store(order)),
         Disk::Failed => Asked::Nothing,
     }
 }

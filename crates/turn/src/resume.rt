@@ -1,26 +1,27 @@
 // A reply to the turn's question leads to the next point. A message that was sent is kept by the caller: here Sends
 // only ends.
 ghost use mathlib.Core.Path.{_≡_};
-ghost use Rattle.turn.specs.Resume.{clockReply, sendsReply, routeResumed, fixedResumed, evalResumed, resumeOf};
-use crate::go;
-use crate::go::Went;
-use crate::state::Counts;
-use crate::state::Limits;
+ghost use mathlib.Core.List.{List};
+ghost use Prim.Native.Nat.{ℕ};
+ghost use Rattle.lists.specs.Links.{Table};
+ghost use Rattle.turn.specs.Resume.{clockReply, sendsReply, resumeOf};
+use crate::state;
+use crate::state::Pool;
 use actor::question;
 use actor::question::ClockIn;
 use actor::question::Reply;
 use group::at;
+use group::at::Ask;
 use group::at::At;
 use group::at::Cursor;
+use group::at::Point;
 use group::roster;
 use group::settings;
 use routing::route;
 use routing::seed;
 use steps::eval;
-use steps::eval::EvalAsk;
 use steps::eval::Limit;
 use steps::fixed;
-use steps::fixed::FixedAsk;
 use steps::step::Step;
 use ticking::crash;
 use ticking::waking;
@@ -31,8 +32,8 @@ fn clock_reply(reply: Reply) -> At
 {
     let came = question::clock_in(reply);
     match came {
-        ClockIn::Of(ns) => At::Wake(0, ns),
-        ClockIn::Other => At::TickClock,
+        ClockIn::Of(ns) => At::Runs(Point::Wake(0, ns)),
+        ClockIn::Other => At::Asks(Ask::TickClock),
     }
 }
 
@@ -41,179 +42,106 @@ fn sends_reply(c: Cursor, step: Step, reply: Reply) -> At
     ensures { λ r. ⌜ r ≡ sendsReply c step reply ⌝ }
 {
     match reply {
-        Reply::Yes => At::Sends(c, step),
-        Reply::No => At::Sends(c, step),
-        Reply::Clock(_) => At::Sends(c, step),
-        Reply::Count(_) => At::Sends(c, step),
-        Reply::Ran(_) => At::Sends(c, step),
-        Reply::Message => At::Sends(c, step),
-        Reply::End => At::Settle(c, step),
-        Reply::Told => At::Sends(c, step),
-        Reply::Stored => At::Sends(c, step),
-        Reply::Failed => At::Sends(c, step),
+        Reply::Yes => At::Asks(Ask::Sends(c, step)),
+        Reply::No => At::Asks(Ask::Sends(c, step)),
+        Reply::Clock(_) => At::Asks(Ask::Sends(c, step)),
+        Reply::Count(_) => At::Asks(Ask::Sends(c, step)),
+        Reply::Ran(_) => At::Asks(Ask::Sends(c, step)),
+        Reply::Message => At::Asks(Ask::Sends(c, step)),
+        Reply::End => At::Runs(Point::Settle(c, step)),
+        Reply::Told => At::Asks(Ask::Sends(c, step)),
+        Reply::Stored => At::Asks(Ask::Sends(c, step)),
+        Reply::Failed => At::Asks(Ask::Sends(c, step)),
     }
 }
 
-fn route_resumed(
-    counts: Counts,
-    links: &mut [[u64; 4]],
-    rows: &[[u64; 7]],
-    lists: &mut [[u8; 65]],
-    actors: &mut [[u64; 12]],
-    g: usize,
-    left: u64,
-    reply: Reply,
-) -> Went
-    ensures { λ r.
-        ⌜ record { links = now (links .exit); keys = now (lists .exit); actors = now (actors .exit); went = r }
-        ≡ routeResumed counts (now (links .entry)) (now (rows .entry)) (now (lists .entry))
-        (now (actors .entry)) g left reply ⌝ }
-{
-    let s = route::route_reply(links, rows, lists, actors, g, counts.queued, left, reply);
-    let at = s.at;
-    go::routed_to(at, s.queued, counts)
-}
-
-fn fixed_resumed(
-    counts: Counts,
-    links: &mut [[u64; 4]],
-    rows: &[[u64; 7]],
-    actors: &mut [[u64; 12]],
-    c: Cursor,
-    ask: FixedAsk,
-    reply: Reply,
-) -> Went
-    ensures { λ r.
-        ⌜ record { links = now (links .exit); actors = now (actors .exit); went = r }
-        ≡ fixedResumed counts (now (links .entry)) (now (rows .entry)) (now (actors .entry)) c ask reply ⌝ }
-{
-    let slot = roster::slot_at(c.group, c.key);
-    let s = fixed::step_fixed(links, rows, actors, slot, counts.queued, ask, reply);
-    let next = s.next;
-    let at = at::fixed_after(c, next);
-    go::routed_to(at, s.queued, counts)
-}
-
-fn eval_resumed(
-    limits: Limits,
-    groups: &[[u64; 37]],
-    links: &mut [[u64; 4]],
-    rows: &[[u64; 7]],
-    actors: &mut [[u64; 12]],
-    c: Cursor,
-    ask: EvalAsk,
-    reply: Reply,
-) -> At
-    ensures { λ r.
-        ⌜ record { links = now (links .exit); actors = now (actors .exit); at = r }
-        ≡ evalResumed limits (now (groups .entry)) (now (links .entry)) (now (rows .entry))
-        (now (actors .entry)) c ask reply ⌝ }
-{
-    let s = settings::group_at(groups, c.group);
-    let limit = Limit {
-        timeout: s.timeout,
-        tick: limits.tick,
-    };
-    let slot = roster::slot_at(c.group, c.key);
-    let next = eval::step_eval(links, rows, actors, slot, limit, ask, reply);
-    at::eval_after(c, next)
-}
-
-// The turn's question is answered; with none open nothing changes.
+// The turn's question is answered, whatever the log and the body store are.
 pub fn resume(
-    at: At,
-    counts: Counts,
-    limits: Limits,
+    pool: Pool,
     groups: &[[u64; 37]],
     links: &mut [[u64; 4]],
     rows: &[[u64; 7]],
     lists: &mut [[u8; 65]],
     actors: &mut [[u64; 12]],
+    ask: Ask,
     reply: Reply,
-) -> Went
-    ensures { λ r.
-        ⌜ record { links = now (links .exit); keys = now (lists .exit); actors = now (actors .exit); went = r }
-        ≡ resumeOf at counts limits (now (groups .entry)) (now (links .entry)) (now (rows .entry))
-        (now (lists .entry)) (now (actors .entry)) reply ⌝ }
+) -> Pool
+    ensures { λ r. ⌜
+        ((bytes : List ℕ) (records : Table) (store : List ℕ) →
+        record {
+          pool = r;
+          bytes = bytes;
+          records = records;
+          store = store;
+          groups = now (groups .entry);
+          links = now (links .exit);
+          rows = now (rows .entry);
+          keys = now (lists .exit);
+          actors = now (actors .exit);
+        }
+        ≡ resumeOf
+        (record {
+          pool = pool;
+          bytes = bytes;
+          records = records;
+          store = store;
+          groups = now (groups .entry);
+          links = now (links .entry);
+          rows = now (rows .entry);
+          keys = now (lists .entry);
+          actors = now (actors .entry);
+        })
+        ask reply)
+        ⌝ }
 {
-    match at {
-        At::Rest => Went {
-            at: At::Rest,
-            counts,
-        },
-        At::Seed(g) => Went {
-            at: At::Seed(g),
-            counts,
-        },
-        At::SeedBoot(g) => {
+    let queued = pool.turn.counts.queued;
+    match ask {
+        Ask::SeedBoot(g) => {
             let next = seed::seed_reply(lists, actors, g, reply);
-            Went { at: next, counts }
+            state::stood_at(pool, next)
         }
-        At::Intake(left) => Went {
-            at: At::Intake(left),
-            counts,
-        },
-        At::Route(left) => Went {
-            at: At::Route(left),
-            counts,
-        },
-        At::RouteBoot(g, left) => route_resumed(counts, links, rows, lists, actors, g, left, reply),
-        At::TickClock => {
+        Ask::RouteBoot(g, left) => {
+            let s = route::route_reply(links, rows, lists, actors, g, queued, left, reply);
+            let next = s.at;
+            state::queued_at(pool, next, s.queued)
+        }
+        Ask::TickClock => {
             let next = clock_reply(reply);
-            Went { at: next, counts }
+            state::stood_at(pool, next)
         }
-        At::Wake(g, clock) => Went {
-            at: At::Wake(g, clock),
-            counts,
-        },
-        At::WakeNext(g, clock, left) => Went {
-            at: At::WakeNext(g, clock, left),
-            counts,
-        },
-        At::WakePoll(g, key, clock, left) => {
+        Ask::WakePoll(g, key, clock, left) => {
             let next = waking::poll_reply(lists, actors, g, key, clock, left, reply);
-            Went { at: next, counts }
+            state::stood_at(pool, next)
         }
-        At::Ready(g, clock, pops) => Went {
-            at: At::Ready(g, clock, pops),
-            counts,
-        },
-        At::Fixed(c, ask) => fixed_resumed(counts, links, rows, actors, c, ask, reply),
-        At::Eval(c, ask) => {
-            let next = eval_resumed(limits, groups, links, rows, actors, c, ask, reply);
-            Went { at: next, counts }
+        Ask::Fixed(c, step) => {
+            let slot = roster::slot_at(c.group, c.key);
+            let s = fixed::step_fixed(links, rows, actors, slot, queued, step, reply);
+            let after = s.next;
+            let next = at::fixed_after(c, after);
+            state::queued_at(pool, next, s.queued)
         }
-        At::StepEnd(c, end) => Went {
-            at: At::StepEnd(c, end),
-            counts,
-        },
-        At::Sends(c, step) => {
+        Ask::Eval(c, step) => {
+            let group = settings::group_at(groups, c.group);
+            let limit = Limit {
+                timeout: group.timeout,
+                tick: pool.limits.tick,
+            };
+            let slot = roster::slot_at(c.group, c.key);
+            let after = eval::step_eval(links, rows, actors, slot, limit, step, reply);
+            let next = at::eval_after(c, after);
+            state::stood_at(pool, next)
+        }
+        Ask::Sends(c, step) => {
             let next = sends_reply(c, step, reply);
-            Went { at: next, counts }
+            state::stood_at(pool, next)
         }
-        At::Settle(c, step) => Went {
-            at: At::Settle(c, step),
-            counts,
-        },
-        At::Crash(c) => Went {
-            at: At::Crash(c),
-            counts,
-        },
-        At::AskTrap(c) => Went {
-            at: At::AskTrap(c),
-            counts,
-        },
-        At::Trap(c) => {
+        Ask::Trap(c) => {
             let next = crash::trap_reply(lists, c, reply);
-            Went { at: next, counts }
+            state::stood_at(pool, next)
         }
-        At::Trapped(c, key) => {
+        Ask::Trapped(c, key) => {
             let next = crash::trapped_reply(lists, c, key, reply);
-            Went { at: next, counts }
+            state::stood_at(pool, next)
         }
-        At::Doomed(c, left) => Went {
-            at: At::Doomed(c, left),
-            counts,
-        },
     }
 }

@@ -1,8 +1,10 @@
-// Where a turn stands, the order that waits, the counts, and the log's counters; and the settings that a turn looks
-// at.
+// The pool's own state: where its turn stands, the order that waits, the counts, the log's counters, and the settings
+// that a turn looks at. Beside it are the lent tables; both together are the `State` of specs/State.
 ghost use mathlib.Core.Path.{_≡_};
-ghost use Rattle.turn.specs.State.{runsAt, marksAt, isFree, runningOf};
+ghost use Rattle.turn.specs.State.{withTurn, withDisk, countedAt, stoodAt, queuedAt, steppedAt, lostAt};
+ghost use Rattle.turn.specs.State.{isFree, runsAt, marksAt, runningOf};
 use group::at::At;
+use group::at::Point;
 use log::Counters;
 use log::LogId;
 use log::Order;
@@ -47,65 +49,140 @@ pub struct Limits {
     pub tick: u64,
 }
 
-// Whether a point runs on by itself.
-fn runs_at(at: At) -> bool
-    ensures { λ r. ⌜ r ≡ runsAt at ⌝ }
+pub struct Pool {
+    pub turn: Turn,
+    pub limits: Limits,
+    // no more is admitted
+    pub closed: bool,
+    // the first turn was taken
+    pub seeded: bool,
+}
+
+pub fn with_turn(pool: Pool, turn: Turn) -> Pool
+    ensures { λ r. ⌜ r ≡ withTurn pool turn ⌝ }
 {
-    match at {
-        At::Rest => false,
-        At::Seed(_) => true,
-        At::SeedBoot(_) => false,
-        At::Intake(_) => true,
-        At::Route(_) => true,
-        At::RouteBoot(_, _) => false,
-        At::TickClock => false,
-        At::Wake(_, _) => true,
-        At::WakeNext(_, _, _) => true,
-        At::WakePoll(_, _, _, _) => false,
-        At::Ready(_, _, _) => true,
-        At::Fixed(_, _) => false,
-        At::Eval(_, _) => false,
-        At::StepEnd(_, _) => true,
-        At::Sends(_, _) => false,
-        At::Settle(_, _) => true,
-        At::Crash(_) => true,
-        At::AskTrap(_) => true,
-        At::Trap(_) => false,
-        At::Trapped(_, _) => false,
-        At::Doomed(_, _) => true,
+    let limits = pool.limits;
+    Pool {
+        turn,
+        limits,
+        closed: pool.closed,
+        seeded: pool.seeded,
     }
+}
+
+// The log's counters, as the pool has them.
+pub fn counters_of(pool: Pool) -> Counters
+    ensures { λ r. ⌜ r ≡ pool .turn .log ⌝ }
+{
+    let turn = pool.turn;
+    turn.log
+}
+
+// The log's counters and the disk are these.
+pub fn with_disk(pool: Pool, counters: Counters, disk: Disk) -> Pool
+    ensures { λ r. ⌜ r ≡ withDisk pool counters disk ⌝ }
+{
+    let before = pool.turn;
+    let at = before.at;
+    let counts = before.counts;
+    let turn = Turn {
+        at,
+        disk,
+        counts,
+        log: counters,
+    };
+    with_turn(pool, turn)
+}
+
+// The turn stands there, with these counts.
+fn counted_at(pool: Pool, at: At, counts: Counts) -> Pool
+    ensures { λ r. ⌜ r ≡ countedAt pool at counts ⌝ }
+{
+    let before = pool.turn;
+    let disk = before.disk;
+    let counters = before.log;
+    let turn = Turn {
+        at,
+        disk,
+        counts,
+        log: counters,
+    };
+    with_turn(pool, turn)
+}
+
+// The turn stands there.
+pub(crate) fn stood_at(pool: Pool, at: At) -> Pool
+    ensures { λ r. ⌜ r ≡ stoodAt pool at ⌝ }
+{
+    let before = pool.turn;
+    let counts = before.counts;
+    counted_at(pool, at, counts)
+}
+
+// The turn stands there, with so many messages in mailboxes.
+pub(crate) fn queued_at(pool: Pool, at: At, queued: u64) -> Pool
+    ensures { λ r. ⌜ r ≡ queuedAt pool at queued ⌝ }
+{
+    let before = pool.turn;
+    let old = before.counts;
+    let losses = old.losses;
+    let counts = Counts {
+        queued,
+        losses,
+        stepped: old.stepped,
+    };
+    counted_at(pool, at, counts)
+}
+
+// The turn stands there, with so many messages in mailboxes, and whether an actor was stepped.
+pub(crate) fn stepped_at(pool: Pool, at: At, queued: u64, stepped: bool) -> Pool
+    ensures { λ r. ⌜ r ≡ steppedAt pool at queued stepped ⌝ }
+{
+    let before = pool.turn;
+    let old = before.counts;
+    let losses = old.losses;
+    let counts = Counts {
+        queued,
+        losses,
+        stepped,
+    };
+    counted_at(pool, at, counts)
+}
+
+// The turn stands there, with so many messages in mailboxes, and these losses.
+pub(crate) fn lost_at(pool: Pool, at: At, queued: u64, losses: Losses) -> Pool
+    ensures { λ r. ⌜ r ≡ lostAt pool at queued losses ⌝ }
+{
+    let before = pool.turn;
+    let old = before.counts;
+    let counts = Counts {
+        queued,
+        losses,
+        stepped: old.stepped,
+    };
+    counted_at(pool, at, counts)
 }
 
 // Whether what is over gets its mark before the point runs.
-pub fn marks_at(at: At) -> bool
-    ensures { λ r. ⌜ r ≡ marksAt at ⌝ }
+pub(crate) fn marks_at(point: Point) -> bool
+    ensures { λ r. ⌜ r ≡ marksAt point ⌝ }
 {
-    match at {
-        At::Rest => false,
-        At::Seed(_) => false,
-        At::SeedBoot(_) => false,
-        At::Intake(_) => false,
-        At::Route(_) => true,
-        At::RouteBoot(_, _) => false,
-        At::TickClock => false,
-        At::Wake(_, _) => false,
-        At::WakeNext(_, _, _) => false,
-        At::WakePoll(_, _, _, _) => false,
-        At::Ready(_, _, _) => true,
-        At::Fixed(_, _) => false,
-        At::Eval(_, _) => false,
-        At::StepEnd(_, _) => true,
-        At::Sends(_, _) => false,
-        At::Settle(_, _) => false,
-        At::Crash(_) => true,
-        At::AskTrap(_) => true,
-        At::Trap(_) => false,
-        At::Trapped(_, _) => false,
-        At::Doomed(_, _) => true,
+    match point {
+        Point::Seed(_) => false,
+        Point::Intake(_) => false,
+        Point::Route(_) => true,
+        Point::Wake(_, _) => false,
+        Point::WakeNext(_, _, _) => false,
+        Point::Ready(_, _, _) => true,
+        Point::StepEnd(_, _) => true,
+        Point::Settle(_, _) => false,
+        Point::Crash(_) => true,
+        Point::AskTrap(_) => true,
+        Point::Doomed(_, _) => true,
     }
 }
 
-pub fn is_free(disk: Disk) -> bool
+fn is_free(disk: Disk) -> bool
     ensures { λ r. ⌜ r ≡ isFree disk ⌝ }
 {
     match disk {
@@ -115,10 +192,30 @@ pub fn is_free(disk: Disk) -> bool
     }
 }
 
-// Whether the turn runs on by itself: no order waits, and it is between questions.
-pub fn running(turn: Turn) -> bool
-    ensures { λ r. ⌜ r ≡ runningOf turn ⌝ }
+fn runs_at(at: At) -> bool
+    ensures { λ r. ⌜ r ≡ runsAt at ⌝ }
 {
+    match at {
+        At::Rest => false,
+        At::Asks(_) => false,
+        At::Runs(_) => true,
+    }
+}
+
+// Whether no order waits and none failed.
+pub(crate) fn disk_free(pool: Pool) -> bool
+    ensures { λ r. ⌜ r ≡ isFree (pool .turn .disk) ⌝ }
+{
+    let turn = pool.turn;
+    let disk = turn.disk;
+    is_free(disk)
+}
+
+// Whether the turn runs on by itself: no order waits, and it is between questions.
+pub fn running(pool: Pool) -> bool
+    ensures { λ r. ⌜ r ≡ runningOf pool ⌝ }
+{
+    let turn = pool.turn;
     let disk = turn.disk;
     let at = turn.at;
     let free = is_free(disk);

@@ -1,16 +1,20 @@
 // A step of a turn: at some points what is over gets its mark first, one order at a time; then the point runs. The
 // loop stops at a question, an order, or the turn's end.
 ghost use mathlib.Core.Path.{_≡_};
+ghost use mathlib.Core.List.{List};
+ghost use Prim.Native.Nat.{ℕ};
+ghost use Rattle.lists.specs.Links.{Table};
 ghost use Rattle.log.specs.Log.{state, markOf};
-ghost use Rattle.turn.specs.Step.{markedBy, markedLog, markLogged, markFirst, stepOf, advanceOf, weightOf};
+ghost use Rattle.turn.specs.Step.{markedBy, markedLog, markFirst, markAt, stepOf, advanced};
 use crate::go;
 use crate::state;
 use crate::state::Disk;
-use crate::state::Limits;
-use crate::state::Turn;
+use crate::state::Pool;
 use crate::state::What;
 use actor::message;
 use actor::message::Logged;
+use group::at::At;
+use group::at::Point;
 use lists::Found;
 use log::Counters;
 use log::Due;
@@ -39,7 +43,7 @@ fn marked_by(counters: Counters, due: Due, id: LogId) -> Marked
     }
 }
 
-// The mark of a message that was logged as `id`: the log changes the turn's counters, lent to it by `&mut`.
+// The mark of a message that was logged as `id`: the log changes the pool's counters, lent to it by `&mut`.
 fn mark_id(
     log: &mut [u8],
     records: &mut [[u64; 3]],
@@ -57,46 +61,39 @@ fn mark_id(
     marked_by(counters, due, id)
 }
 
-// A message's mark, where it was logged.
-fn mark_logged(
-    log: &mut [u8],
-    records: &mut [[u64; 3]],
-    counters: Counters,
-    limit: usize,
-    id: Logged,
-) -> Marked
-    ensures { λ r. ⌜
-        record { bytes = now (log .exit); records = now (records .exit); marked = r }
-        ≡ markLogged (now (log .entry)) (now (records .entry)) counters limit id
-        ⌝ }
-{
-    match id {
-        Logged::As(number) => mark_id(log, records, counters, limit, number),
-        Logged::Never => Marked {
-            counters,
-            disk: Disk::Free,
-        },
-    }
-}
-
 // The first message that is over: its entry is free, and its mark is ordered.
 fn mark_first(
+    pool: Pool,
     log: &mut [u8],
     records: &mut [[u64; 3]],
     links: &mut [[u64; 4]],
     rows: &[[u64; 7]],
-    counters: Counters,
-    limit: usize,
-) -> Marked
+) -> Pool
     ensures { λ r. ⌜
+        ((store : List ℕ) (groups keys actors : Table) →
         record {
+          pool = r;
           bytes = now (log .exit);
           records = now (records .exit);
+          store = store;
+          groups = groups;
           links = now (links .exit);
-          marked = r;
+          rows = now (rows .entry);
+          keys = keys;
+          actors = actors;
         }
         ≡ markFirst
-        (now (log .entry)) (now (records .entry)) (now (links .entry)) (now (rows .entry)) counters limit
+        (record {
+          pool = pool;
+          bytes = now (log .entry);
+          records = now (records .entry);
+          store = store;
+          groups = groups;
+          links = now (links .entry);
+          rows = now (rows .entry);
+          keys = keys;
+          actors = actors;
+        }))
         ⌝ }
 {
     match lists::first(links, lists::OVER) {
@@ -104,19 +101,68 @@ fn mark_first(
             let m = message::message_at(rows, e);
             let id = m.id;
             lists::move_first(links, lists::OVER, lists::FREE);
-            mark_logged(log, records, counters, limit, id)
+            match id {
+                Logged::As(number) => {
+                    let before = state::counters_of(pool);
+                    let m = mark_id(log, records, before, pool.limits.compact_at, number);
+                    let counters = m.counters;
+                    let disk = m.disk;
+                    state::with_disk(pool, counters, disk)
+                }
+                Logged::Never => pool,
+            }
         }
-        Found::Nothing => Marked {
-            counters,
-            disk: Disk::Free,
-        },
+        Found::Nothing => pool,
     }
 }
 
-// One point of the turn.
-pub(crate) fn step(
-    turn: Turn,
-    limits: Limits,
+// What is over gets its mark first, at the points that say so.
+fn mark_at(
+    pool: Pool,
+    log: &mut [u8],
+    records: &mut [[u64; 3]],
+    links: &mut [[u64; 4]],
+    rows: &[[u64; 7]],
+    point: Point,
+) -> Pool
+    ensures { λ r. ⌜
+        ((store : List ℕ) (groups keys actors : Table) →
+        record {
+          pool = r;
+          bytes = now (log .exit);
+          records = now (records .exit);
+          store = store;
+          groups = groups;
+          links = now (links .exit);
+          rows = now (rows .entry);
+          keys = keys;
+          actors = actors;
+        }
+        ≡ markAt
+        (record {
+          pool = pool;
+          bytes = now (log .entry);
+          records = now (records .entry);
+          store = store;
+          groups = groups;
+          links = now (links .entry);
+          rows = now (rows .entry);
+          keys = keys;
+          actors = actors;
+        })
+        point)
+        ⌝ }
+{
+    let marks = state::marks_at(point);
+    if marks {
+        return mark_first(pool, log, records, links, rows);
+    }
+    pool
+}
+
+// One step of the turn, where it runs: the marks first; then the point, unless an order waits.
+fn step(
+    pool: Pool,
     store: &[u8],
     groups: &[[u64; 37]],
     log: &mut [u8],
@@ -125,23 +171,26 @@ pub(crate) fn step(
     rows: &mut [[u64; 7]],
     lists: &mut [[u8; 65]],
     actors: &mut [[u64; 12]],
-) -> Turn
+) -> Pool
     ensures { λ r. ⌜
         record {
-          turn = r;
+          pool = r;
           bytes = now (log .exit);
           records = now (records .exit);
+          store = now (store .entry);
+          groups = now (groups .entry);
           links = now (links .exit);
           rows = now (rows .exit);
           keys = now (lists .exit);
           actors = now (actors .exit);
         }
         ≡ stepOf
-        (record { limits = limits; store = now (store .entry); groups = now (groups .entry) })
         (record {
-          turn = turn;
+          pool = pool;
           bytes = now (log .entry);
           records = now (records .entry);
+          store = now (store .entry);
+          groups = now (groups .entry);
           links = now (links .entry);
           rows = now (rows .entry);
           keys = now (lists .entry);
@@ -149,69 +198,25 @@ pub(crate) fn step(
         })
         ⌝ }
 {
+    let turn = pool.turn;
     let at = turn.at;
-    let counts = turn.counts;
-    let marks = state::marks_at(at);
-    if marks {
-        let m = mark_first(log, records, links, rows, turn.log, limits.compact_at);
-        let disk = m.disk;
-        let counters = m.counters;
-        let free = state::is_free(disk);
-        if free {
-            let w = go::go(
-                at,
-                counts,
-                limits,
-                store,
-                groups,
-                links,
-                rows,
-                lists,
-                actors,
-            );
-            let next = w.at;
-            let counted = w.counts;
-            return Turn {
-                at: next,
-                disk,
-                counts: counted,
-                log: counters,
-            };
+    match at {
+        At::Rest => pool,
+        At::Asks(_) => pool,
+        At::Runs(point) => {
+            let p = mark_at(pool, log, records, links, rows, point);
+            let free = state::disk_free(p);
+            if free {
+                return go::go(p, store, groups, links, rows, lists, actors, point);
+            }
+            p
         }
-        return Turn {
-            at,
-            disk,
-            counts,
-            log: counters,
-        };
-    }
-    let disk = turn.disk;
-    let counters = turn.log;
-    let w = go::go(
-        at,
-        counts,
-        limits,
-        store,
-        groups,
-        links,
-        rows,
-        lists,
-        actors,
-    );
-    let next = w.at;
-    let counted = w.counts;
-    Turn {
-        at: next,
-        disk,
-        counts: counted,
-        log: counters,
     }
 }
 
 // Runs until a question, an order or the end.
 pub fn advance(
-    turn: Turn,
-    limits: Limits,
+    pool: Pool,
     store: &[u8],
     groups: &[[u64; 37]],
     log: &mut [u8],
@@ -220,23 +225,26 @@ pub fn advance(
     rows: &mut [[u64; 7]],
     lists: &mut [[u8; 65]],
     actors: &mut [[u64; 12]],
-) -> Turn
+) -> Pool
     ensures { λ r. ⌜
         record {
-          turn = r;
+          pool = r;
           bytes = now (log .exit);
           records = now (records .exit);
+          store = now (store .entry);
+          groups = now (groups .entry);
           links = now (links .exit);
           rows = now (rows .exit);
           keys = now (lists .exit);
           actors = now (actors .exit);
         }
-        ≡ advanceOf (weightOf turn)
-        (record { limits = limits; store = now (store .entry); groups = now (groups .entry) })
+        ≡ advanced
         (record {
-          turn = turn;
+          pool = pool;
           bytes = now (log .entry);
           records = now (records .entry);
+          store = now (store .entry);
+          groups = now (groups .entry);
           links = now (links .entry);
           rows = now (rows .entry);
           keys = now (lists .entry);
@@ -244,21 +252,10 @@ pub fn advance(
         })
         ⌝ }
 {
-    let mut t = turn;
-    while state::running(t) {
-        let next = step(
-            t,
-            limits,
-            store,
-            groups,
-            log,
-            records,
-            links,
-            rows,
-            lists,
-            actors,
-        );
-        t = next;
+    let mut p = pool;
+    while state::running(p) {
+        let next = step(p, store, groups, log, records, links, rows, lists, actors);
+        p = next;
     }
-    t
+    p
 }

@@ -1,5 +1,4 @@
 -- The output: texts one behind the other, each whole, while the lent slice has room.
-use mathlib.Core.Bool.{Bool, true, false}
 use mathlib.Core.List.{List, [], _∷_}
 use Prim.Native.Nat.{ℕ, _+_}
 use lib.Dec.{eqb, leb}

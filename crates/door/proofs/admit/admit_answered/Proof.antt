@@ -1,12 +1,15 @@
--- `admit::admit_answered` meets its contract: by what the log answered: in the inbox with its record ordered, or turned away. Assumes nothing.
-use mathlib.Core.Path.{ap, sym, _∙_}
+-- `admit::admit_answered` meets its contract: by its calls and its tests. Assumes nothing.
+use Rattle.door.specs.Admit.{loggedBy}
+use Rattle.front.specs.Answers.{shown}
 use borrow.Author.Needs.{needs}
-use Rattle.door.specs.Admit.{Answered, answeredIn, answeredOf}
 use Rattle.door.proofs.admit.admit_answered.Statement.{statement}
 use Rattle.door.proofs.admit.admit_answered.Tie as tie
 
 enum-known-answer : tie.Need-enum-known-answer
 enum-known-answer c = search needs
+
+counters-of-requires : tie.Need-counters-of-requires
+counters-of-requires c κs = search needs
 
 keep-requires : tie.Need-keep-requires
 keep-requires c κs = search needs
@@ -36,20 +39,29 @@ same-length-3 : tie.Need-same-length-3
 same-length-3 c = search needs
 
 returns : tie.Need-returns
-returns c =
-    let a = c .before .before .before .before .before .before .before .before .before .before .before .before .before .before .before .before .before .before .before .before .args in
-    let disk = c .before .before .before .with-disk .ensures in
-    let told = c .shown-now .ensures in
-    simp (told, disk) (ap (answeredIn (a .pool) (a .counters) _) (c .before .before .before .before .before .before .before .before .keep .ensures) ∙ ap (λ x. answeredOf (c .before .before .before .before .before .before .before .before .before .before .before .before .before .before .before .before .before .before .before .before .args .pool) (c .before .before .before .before .before .before .before .before .before .before .before .before .before .before .before .before .before .before .before .before .args .counters) x (c .before .before .before .before .before .before .before .before .before .before .before .before .before .before .before .before .before .before .before .before .args .store .now) (c .before .before .before .before .before .before .before .before .before .before .before .before .before .before .before .before .before .before .before .before .args .links .now) (c .before .before .before .before .before .before .before .before .before .before .before .before .before .before .before .before .before .before .before .before .args .rows .now) (c .before .before .before .before .before .before .before .before .before .before .before .before .before .before .before .before .before .before .before .before .args .name .now) (c .before .before .before .before .before .before .before .before .before .before .before .before .before .before .before .before .before .before .before .before .args .body .now)) (sym (c .before .before .before .before .before .before .before .before .before .before .before .before .before .before .before .answer .given .1)))
+unfolding loggedBy shown
+returns c after before recordsAfter recordsBefore groups keys actors =
+    let h1 = c .before .before .before .before .before .before .before .before .before .before .before .before .before .before .answer .given .1 in
+    let e1 = c .before .before .before .before .before .before .before .before .before .before .before .before .counters-of .ensures in
+    let e2 = simp (e1) at (c .before .before .before .before .before .before .before .before .keep .ensures) in
+    let e3 = c .before .before .before .with-disk .ensures in
+    let e4 = c .shown-now .ensures in
+    simp (e1, ← e2, e3, e4, h1)
 
 returns-2 : tie.Need-returns-2
-returns-2 c = simp (c .refused .ensures, c .before .log-refusal .ensures) (ap (λ x. answeredOf (c .before .before .before .before .before .before .before .before .args .pool) (c .before .before .before .before .before .before .before .before .args .counters) x (c .before .before .before .before .before .before .before .before .args .store .now) (c .before .before .before .before .before .before .before .before .args .links .now) (c .before .before .before .before .before .before .before .before .args .rows .now) (c .before .before .before .before .before .before .before .before .args .name .now) (c .before .before .before .before .before .before .before .before .args .body .now)) (sym (c .before .before .before .answer2 .given .1)))
+unfolding loggedBy shown
+returns-2 c after before recordsAfter recordsBefore groups keys actors =
+    let h1 = c .before .before .before .answer2 .given .1 in
+    let e1 = c .before .log-refusal .ensures in
+    let e2 = c .refused .ensures in
+    simp (e1, e2, h1)
 
 pub admit-answered-spec : {M : Type 1} → statement M
 admit-answered-spec =
     tie.close
     (tie.spec
     enum-known-answer
+    counters-of-requires
     keep-requires
     with-disk-requires
     shown-now-requires

@@ -43,20 +43,22 @@ use denote.Triple.Entry.{onEntry}
 use denote.Triple.Spec.{Meets, tripleOf}
 use denote.Triple.Table.{entered, cited}
 use denote.Triple.Walked.{says, Stays, stay-none, stay-none-slice, gave-slice, walkOf, goes-none, goes-none-slice, goes-gave-slice, Walks, ends-at, walked, walk-meets}
-use Rattle.log.specs.Log.{Did, state, appendOf}
+use Rattle.log.specs.Log.{DidAppend, state, appendOf}
 use Rattle.log.specs.declared.Counters.{Counters}
 use Rattle.log.specs.declared.Answer.{Answer}
-use Rattle.front.specs.declared.state.Pool.{Pool}
-use Rattle.front.specs.declared.state.Told.{Told}
-use Rattle.door.specs.Admit.{Admitted, admitLogged, Answered, answeredOf}
+use Rattle.turn.specs.declared.state.Pool.{Pool}
+use Rattle.front.specs.declared.answer.Called.{Called}
+use Rattle.front.specs.Answers.{Did}
+use Rattle.lists.specs.Links.{Table}
+use Rattle.door.specs.Admit.{admitLogged, loggedBy}
 use Rattle.log.proofs.Counters as T
 use Rattle.log.proofs.Counters.Laws as T′
 use Rattle.log.proofs.Answer as E
 use Rattle.log.proofs.Answer.Laws as E′
-use Rattle.front.proofs.state.Pool as P
-use Rattle.front.proofs.state.Pool.Laws as P′
-use Rattle.front.proofs.state.Told as S
-use Rattle.front.proofs.state.Told.Laws as S′
+use Rattle.turn.proofs.state.Pool as P
+use Rattle.turn.proofs.state.Pool.Laws as P′
+use Rattle.front.proofs.answer.Called as S
+use Rattle.front.proofs.answer.Called.Laws as S′
 use Rattle.log.proofs.Local.{lends-local, local-back}
 use Rattle.door.proofs.AdmitLaws.{admitted}
 use Rattle.log.proofs.wal.append as into
@@ -67,10 +69,10 @@ use Rattle.door.proofs.admit.admit_answered as after
 use Rattle.door.proofs.admit.admit_answered.Symbol as after-def
 use Rattle.door.proofs.admit.admit_answered.Symbol.{name as #after}
 use Rattle.door.proofs.admit.admit_answered.Met as after-thm
-use Rattle.front.proofs.state.counters_of as got
-use Rattle.front.proofs.state.counters_of.Symbol as got-def
-use Rattle.front.proofs.state.counters_of.Symbol.{name as #got}
-use Rattle.front.proofs.state.counters_of.Met as got-thm
+use Rattle.turn.proofs.state.counters_of as got
+use Rattle.turn.proofs.state.counters_of.Symbol as got-def
+use Rattle.turn.proofs.state.counters_of.Symbol.{name as #got}
+use Rattle.turn.proofs.state.counters_of.Met as got-thm
 use Rattle.door.proofs.admit.admit_logged.Key.{name as #self}
 use Rattle.door.proofs.admit.admit_logged as self
 use Rattle.door.proofs.admit.admit_logged.Statement as stated
@@ -174,8 +176,8 @@ module _ {M : Type 1} (𝓤 : URA M) (H : Heap 𝓤) (A : Atoms 𝓤) (W : Given
       qed W (‵ (flft κ2 q2) ∷ ‵ (flft κ3 q3) ∷ ‵ (flft κ4 q4) ∷ ‵ (flft κ5 q5) ∷ ‵ (flft κ6 q6) ∷ ‵ (MutSlice (named 2) κ2 u8 .own x2 (s2 ∷ [])) ∷ ‵ (MutSlice (named 3) κ3 (Array u64 4) .own x3 (s3 ∷ [])) ∷ ‵ (MutSlice (named 4) κ4 (Array u64 7) .own x4 (s4 ∷ [])) ∷ ‵ (ShrSlice (named 5) κ5 u8 .own x5 (s5 ∷ [])) ∷ ‵ (ShrSlice (named 6) κ6 u8 .own x6 (s6 ∷ [])) ∷ []) ∵
       nothing ! $ move ! (10 ∷ 0 ∷ []) $ fjoin ! $ move ! (9 ∷ 0 ∷ []) $ fjoin ! $ move ! (8 ∷ 0 ∷ []) $ fjoin ! $ move ! (7 ∷ 0 ∷ []) $ fjoin ! $ move ! (6 ∷ 0 ∷ []) $ fjoin ! $ owned ! E.the-row (Is E.the-row) (EL.makes E.the-type E′.the-plain 𝓤 H A) a _ isa $ fjoin ! $ owned ! R (Is R) (LL.makes T.the-type T′.the-plain 𝓤 H A) n _ isn $ fjoin ! $ owned ! P.the-row (Is P.the-row) (LL.makes P.the-type P′.the-plain 𝓤 H A) h _ was $ fjoin ! $ nothing ! $ move ! (6 ∷ 0 ∷ []) $ join ! $ move ! (5 ∷ 0 ∷ []) $ join ! $ move ! (4 ∷ 0 ∷ []) $ join ! $ move ! (3 ∷ 0 ∷ []) $ join ! $ move ! (2 ∷ 0 ∷ []) $ join ! $ move ! (0 ∷ 1 ∷ []) $ join ! $ frame ! $ done !
 
-  exits : (z2 : List ℕ) (z3 z4 : List (List ℕ)) (z0 : List ℕ) (z1 : List (List ℕ)) (r : Told) (u : Val) → Is P.the-row h (mach-pool ∷ []) → Is S.the-row r (u ∷ []) → length z0 ≡ length (x0 .now) → length z1 ≡ length (x1 .now) → length z2 ≡ length (x2 .now) → length z3 ≡ length (x3 .now) → length z4 ≡ length (x4 .now)
-      → _≡_ {A = Admitted} (record { bytes = z0; records = z1; store = z2; links = z3; rows = z4; told = r }) (admitLogged h (x0 .now) (x1 .now) (x2 .now) (x3 .now) (x4 .now) (x5 .now) (x6 .now))
+  exits : (z2 : List ℕ) (z3 z4 : List (List ℕ)) (z0 : List ℕ) (z1 : List (List ℕ)) (r : Called) (u : Val) → Is P.the-row h (mach-pool ∷ []) → Is S.the-row r (u ∷ []) → length z0 ≡ length (x0 .now) → length z1 ≡ length (x1 .now) → length z2 ≡ length (x2 .now) → length z3 ≡ length (x3 .now) → length z4 ≡ length (x4 .now)
+      → ((groups keys actors : Table) → _≡_ {A = Did} (record { state = record { pool = r .pool; bytes = z0; records = z1; store = z2; groups = groups; links = z3; rows = z4; keys = keys; actors = actors }; answer = r .answer }) (admitLogged (record { pool = h; bytes = x0 .now; records = x1 .now; store = x2 .now; groups = groups; links = x3 .now; rows = x4 .now; keys = keys; actors = actors }) (x5 .now) (x6 .now)))
       → ent 𝓤 (⋆ 𝓤 H A (‵ (flft κ0 q0) ∷ ‵ (flft κ1 q1) ∷ ‵ (flft κ2 q2) ∷ ‵ (flft κ3 q3) ∷ ‵ (flft κ4 q4) ∷ ‵ (flft κ5 q5) ∷ ‵ (flft κ6 q6) ∷ ‵ (finally u8 (x0 .name) z0) ∷ ‵ (finally (Array u64 3) (x1 .name) z1) ∷ ‵ (finally u8 (x2 .name) z2) ∷ ‵ (finally (Array u64 4) (x3 .name) z3) ∷ ‵ (finally (Array u64 7) (x4 .name) z4) ∷ ‵ (ShrSlice (named 5) κ5 u8 .own x5 (s5 ∷ [])) ∷ ‵ (ShrSlice (named 6) κ6 u8 .own x6 (s6 ∷ [])) ∷ [])) (Post u)
   exits z2 z3 z4 z0 z1 r u was is len0 len1 len2 len3 len4 e =
       qed W (‵ (flft κ0 q0) ∷ ‵ (flft κ1 q1) ∷ ‵ (flft κ2 q2) ∷ ‵ (flft κ3 q3) ∷ ‵ (flft κ4 q4) ∷ ‵ (flft κ5 q5) ∷ ‵ (flft κ6 q6) ∷ ‵ (finally u8 (x0 .name) z0) ∷ ‵ (finally (Array u64 3) (x1 .name) z1) ∷ ‵ (finally u8 (x2 .name) z2) ∷ ‵ (finally (Array u64 4) (x3 .name) z3) ∷ ‵ (finally (Array u64 7) (x4 .name) z4) ∷ ‵ (ShrSlice (named 5) κ5 u8 .own x5 (s5 ∷ [])) ∷ ‵ (ShrSlice (named 6) κ6 u8 .own x6 (s6 ∷ [])) ∷ []) ∵
@@ -253,7 +255,7 @@ module _ {M : Type 1} (𝓤 : URA M) (H : Heap 𝓤) (A : Atoms 𝓤) (W : Given
         move ! (2 ∷ 20 ∷ 19 ∷ 15 ∷ 14 ∷ 0 ∷ 13 ∷ 12 ∷ 6 ∷ 3 ∷ []) $ group ! 10 $ use1 W (raw (The-into 𝓤 H A at-mem run .pre (to-into α l9 δ))) (goes-into α l9 δ) $
         calls-at ! fm (The-into 𝓤 H A at-mem run) known-into (to-into α l9 δ) (and-then ! (load ! (from ! (stop !)) (look ! 32 refl)) (and-then ! (load ! (from ! (stop !)) (look ! 28 refl)) (and-then ! (load ! (from ! (stop !)) (look ! 24 refl)) (and-then ! (load ! (from ! (stop !)) (look ! 41 refl)) (and-then ! (load ! (from ! (stop !)) (look ! 39 refl)) (no-more !)))))) (λ u.
         use1 W (later (some (λ (a : Answer). ((‵ (flft (α ∷ []) fullShare) ⊛ ‵ (flft κ0 q0) ⊛ ‵ (flft κ1 q1) ⊛ ‵ (flft κ5 q5) ⊛ ‵ (flft κ6 q6) ⊛ ‵ ftrue) ⊛ ‵ (E.the-row .own a (u ∷ []))) ⊛ raw (ensured 𝓤 H A into.ended (into.clauses 𝓤 H A at-mem run) (α ∷ [], (κ0, (κ1, (κ5, (κ6, tt))))) (into-args l9 δ) tt a)))) (id⊢ 𝓤 _) $ await ! tt $ pick ! (λ a. split ! $ move ! (1 ∷ []) $
-        use1 W (some (λ (z : Counters × (List ℕ × (List (List ℕ) × (Unit {0} × (Unit {0} × Unit {0}))))). ‵ (lasts into.ended (α ∷ [], (κ0, (κ1, (κ5, (κ6, tt))))) (into-args l9 δ) z) ⊛ raw (fact 𝓤 (_≡_ {A = Did} (record { wal = state (z .1 .0) (z .1 .1 .0) (z .0); answer = a }) (appendOf (state (x0 .now) (x1 .now) n) (x5 .now) (x6 .now)))))) (id⊢ 𝓤 _) $ pick ! (λ z. split ! $ move ! (1 ∷ []) $ heard ! (_≡_ {A = Did} (record { wal = state (z .1 .0) (z .1 .1 .0) (z .0); answer = a }) (appendOf (state (x0 .now) (x1 .now) n) (x5 .now) (x6 .now))) (λ e. fsplit ! $
+        use1 W (some (λ (z : Counters × (List ℕ × (List (List ℕ) × (Unit {0} × (Unit {0} × Unit {0}))))). ‵ (lasts into.ended (α ∷ [], (κ0, (κ1, (κ5, (κ6, tt))))) (into-args l9 δ) z) ⊛ raw (fact 𝓤 (_≡_ {A = DidAppend} (record { wal = state (z .1 .0) (z .1 .1 .0) (z .0); answer = a }) (appendOf (state (x0 .now) (x1 .now) n) (x5 .now) (x6 .now)))))) (id⊢ 𝓤 _) $ pick ! (λ z. split ! $ move ! (1 ∷ []) $ heard ! (_≡_ {A = DidAppend} (record { wal = state (z .1 .0) (z .1 .1 .0) (z .0); answer = a }) (appendOf (state (x0 .now) (x1 .now) n) (x5 .now) (x6 .now))) (λ e. fsplit ! $
         move ! (1 ∷ []) $ fsplit ! $ fsplit ! $ move ! (1 ∷ []) $ feqL ! (λ len0.
         move ! (1 ∷ []) $ fsplit ! $ fsplit ! $ move ! (1 ∷ []) $ feqL ! (λ len1.
         move ! (1 ∷ []) $ drop ! $
@@ -284,8 +286,8 @@ module _ {M : Type 1} (𝓤 : URA M) (H : Heap 𝓤) (A : Atoms 𝓤) (W : Given
         -- what is made of the answer
         move ! (16 ∷ 15 ∷ 14 ∷ 2 ∷ 1 ∷ 13 ∷ 12 ∷ 11 ∷ 10 ∷ 8 ∷ []) $ group ! 10 $ use1 W (raw (The-after 𝓤 H A at-mem run .pre (to-after (z .0) a))) (goes-after (z .0) a was isn isa′) $
         calls-at ! fm (The-after 𝓤 H A at-mem run) known-after (to-after (z .0) a) (and-then ! (load ! (from ! (stop !)) (look ! 49 {q = fullShare} {τ = P′.mir} {b = l1} {o = 0} {v = mach-pool} refl)) (and-then ! (load ! (from ! (stop !)) (look ! 30 {q = fullShare} {τ = T′.mir} {b = l11} {o = 0} {v = mach (z .0)} refl)) (and-then ! (load ! (from ! (stop !)) (look ! 32 {q = fullShare} {τ = E′.mir} {b = l10} {o = 0} {v = only (EL.vals E.the-type E′.the-laws a)} refl)) (and-then ! (load ! (from ! (stop !)) (look ! 16 refl)) (and-then ! (load ! (from ! (stop !)) (look ! 12 refl)) (and-then ! (load ! (from ! (stop !)) (look ! 8 refl)) (and-then ! (load ! (from ! (stop !)) (look ! 37 refl)) (and-then ! (load ! (from ! (stop !)) (look ! 35 refl)) (no-more !))))))))) (λ u′.
-        use1 W (later (some (λ (r : Told). ((‵ (flft κ2 q2) ⊛ ‵ (flft κ3 q3) ⊛ ‵ (flft κ4 q4) ⊛ ‵ (flft κ5 q5) ⊛ ‵ (flft κ6 q6) ⊛ ‵ ftrue) ⊛ ‵ (S.the-row .own r (u′ ∷ []))) ⊛ raw (ensured 𝓤 H A after.ended (after.clauses 𝓤 H A at-mem run) (κ2, (κ3, (κ4, (κ5, (κ6, tt))))) (after-args (z .0) a) tt r)))) (id⊢ 𝓤 _) $ await ! tt $ pick ! (λ r. split ! $ move ! (1 ∷ []) $
-        use1 W (some (λ (y : Unit {0} × (Unit {0} × (Unit {0} × (List ℕ × (List (List ℕ) × (List (List ℕ) × (Unit {0} × (Unit {0} × Unit {0})))))))). ‵ (lasts after.ended (κ2, (κ3, (κ4, (κ5, (κ6, tt))))) (after-args (z .0) a) y) ⊛ raw (fact 𝓤 (_≡_ {A = Answered} (record { store = y .1 .1 .1 .0; links = y .1 .1 .1 .1 .0; rows = y .1 .1 .1 .1 .1 .0; told = r }) (answeredOf h (z .0) a (x2 .now) (x3 .now) (x4 .now) (x5 .now) (x6 .now)))))) (id⊢ 𝓤 _) $ pick ! (λ y. split ! $ move ! (1 ∷ []) $ heard ! (_≡_ {A = Answered} (record { store = y .1 .1 .1 .0; links = y .1 .1 .1 .1 .0; rows = y .1 .1 .1 .1 .1 .0; told = r }) (answeredOf h (z .0) a (x2 .now) (x3 .now) (x4 .now) (x5 .now) (x6 .now))) (λ e′.
+        use1 W (later (some (λ (r : Called). ((‵ (flft κ2 q2) ⊛ ‵ (flft κ3 q3) ⊛ ‵ (flft κ4 q4) ⊛ ‵ (flft κ5 q5) ⊛ ‵ (flft κ6 q6) ⊛ ‵ ftrue) ⊛ ‵ (S.the-row .own r (u′ ∷ []))) ⊛ raw (ensured 𝓤 H A after.ended (after.clauses 𝓤 H A at-mem run) (κ2, (κ3, (κ4, (κ5, (κ6, tt))))) (after-args (z .0) a) tt r)))) (id⊢ 𝓤 _) $ await ! tt $ pick ! (λ r. split ! $ move ! (1 ∷ []) $
+        use1 W (some (λ (y : Unit {0} × (Unit {0} × (Unit {0} × (List ℕ × (List (List ℕ) × (List (List ℕ) × (Unit {0} × (Unit {0} × Unit {0})))))))). ‵ (lasts after.ended (κ2, (κ3, (κ4, (κ5, (κ6, tt))))) (after-args (z .0) a) y) ⊛ raw (fact 𝓤 (((after before : List ℕ) (recordsAfter recordsBefore groups keys actors : Table) → _≡_ {A = Did} (record { state = record { pool = r .pool; bytes = after; records = recordsAfter; store = y .1 .1 .1 .0; groups = groups; links = y .1 .1 .1 .1 .0; rows = y .1 .1 .1 .1 .1 .0; keys = keys; actors = actors }; answer = r .answer }) (loggedBy (record { pool = h; bytes = before; records = recordsBefore; store = x2 .now; groups = groups; links = x3 .now; rows = x4 .now; keys = keys; actors = actors }) (x5 .now) (x6 .now) (record { wal = state after recordsAfter (z .0); answer = a }))))))) (id⊢ 𝓤 _) $ pick ! (λ y. split ! $ move ! (1 ∷ []) $ heard ! (((after before : List ℕ) (recordsAfter recordsBefore groups keys actors : Table) → _≡_ {A = Did} (record { state = record { pool = r .pool; bytes = after; records = recordsAfter; store = y .1 .1 .1 .0; groups = groups; links = y .1 .1 .1 .1 .0; rows = y .1 .1 .1 .1 .1 .0; keys = keys; actors = actors }; answer = r .answer }) (loggedBy (record { pool = h; bytes = before; records = recordsBefore; store = x2 .now; groups = groups; links = x3 .now; rows = x4 .now; keys = keys; actors = actors }) (x5 .now) (x6 .now) (record { wal = state after recordsAfter (z .0); answer = a })))) (λ e′.
         fsplit ! $ drop ! $
         fsplit ! $ drop ! $
         fsplit ! $ drop ! $
@@ -325,4 +327,4 @@ admit-logged-spec 𝓤 H 𝓜 𝓖 𝓡 =
     (meets 𝓤 H (𝓖 .A) (givenOf 𝓤 H 𝓜 𝓖) (𝓜 .mem) (𝓡 .run) (tablesOf 𝓤 H 𝓜 (tables 𝓤 H 𝓜 𝓡 code.env))
     (cited 𝓤 H (The-into 𝓤 H (𝓖 .A) (𝓜 .mem) (𝓡 .run)) 𝓜 𝓡 code.env #into into-def.routine code.calls-log·wal·append (into-thm.met 𝓤 H 𝓜 𝓖 𝓡))
     (cited 𝓤 H (The-after 𝓤 H (𝓖 .A) (𝓜 .mem) (𝓡 .run)) 𝓜 𝓡 code.env #after after-def.routine code.calls-door·admit·admit-answered (after-thm.met 𝓤 H 𝓜 𝓖 𝓡))
-    (cited 𝓤 H (The-got 𝓤 H (𝓖 .A) (𝓜 .mem) (𝓡 .run)) 𝓜 𝓡 code.env #got got-def.routine code.calls-front·state·counters-of (got-thm.met 𝓤 H 𝓜 𝓖 𝓡)))
+    (cited 𝓤 H (The-got 𝓤 H (𝓖 .A) (𝓜 .mem) (𝓡 .run)) 𝓜 𝓡 code.env #got got-def.routine code.calls-turn·state·counters-of (got-thm.met 𝓤 H 𝓜 𝓖 𝓡)))

@@ -1,16 +1,18 @@
--- `open::open_pool` meets its contract: by what its six calls ensure. Assumes nothing.
-use mathlib.Core.Path.{ap, _∙_}
-use borrow.Author.Needs.{needs}
-use Rattle.setup.specs.Tables.{Placed}
-use Rattle.door.specs.Open.{Filled, filledBy, openPool}
+-- `open::open_pool` meets its contract: by its calls and its tests. Assumes nothing.
+use Rattle.door.specs.Open.{filledBy}
+use mathlib.Core.Path.{ap}
 use Rattle.lists.specs.Links.{Table}
-use Rattle.front.specs.declared.state.Told.{Told}
+use Rattle.setup.specs.Tables.{Placed}
+use Rattle.front.specs.declared.answer.Called.{Called}
+use Rattle.door.specs.Open.{Filled}
+use borrow.Author.Needs.{needs}
 use Rattle.door.proofs.open.open_pool.Statement.{statement}
 use Rattle.door.proofs.open.open_pool.Tie as tie
 
 -- the tables filled, by what the messages left made of links and rows
-abbrev filledIn : Table → Table → Told → Placed → Filled
-filledIn groups keys told p = filledBy groups p keys told
+abbrev filledIn : Table → Table → Called → Placed → Filled
+filledIn groups keys called p =
+    record { groups = groups; links = p .links; rows = p .rows; keys = keys; called = called }
 
 put-groups-requires : tie.Need-put-groups-requires
 put-groups-requires c κs = search needs
@@ -43,14 +45,15 @@ same-length-4 : tie.Need-same-length-4
 same-length-4 c = search needs
 
 returns : tie.Need-returns
-unfolding openPool
+unfolding filledBy
 returns c =
-    let groups = c .before .before .before .before .before .before .before .before .before .before .before .before .before .before .put-groups .ensures in
-    let placed = simp (c .before .before .before .before .before .before .before .before .before .before .before .start .ensures) at (c .before .before .before .before .before .before .before .put-left .ensures) in
-    let keys = c .before .before .before .blank-keys .ensures in
-    let limits = c .before .limits-from .ensures in
-    let pool = c .new-pool .ensures in
-    simp (groups, keys, pool, limits) (ap (filledIn _ _ _) placed)
+    let e1 = c .before .before .before .before .before .before .before .before .before .before .before .before .before .before .put-groups .ensures in
+    let e2 = c .before .before .before .before .before .before .before .before .before .before .before .start .ensures in
+    let e3 = simp (e2) at (c .before .before .before .before .before .before .before .put-left .ensures) in
+    let e4 = c .before .before .before .blank-keys .ensures in
+    let e5 = c .before .limits-from .ensures in
+    let e6 = c .new-pool .ensures in
+    simp (e1, e4, e6, e5) (ap (filledIn _ _ _) e3)
 
 pub open-pool-spec : {M : Type 1} → statement M
 open-pool-spec =

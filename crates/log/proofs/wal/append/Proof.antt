@@ -43,7 +43,7 @@ use denote.Triple.Entry.{onEntry}
 use denote.Triple.Spec.{Meets, tripleOf}
 use denote.Triple.Table.{entered, cited}
 use denote.Triple.Walked.{says, Stays, stay-ref, stay-none-slice, gave-slice, walkOf, goes-ref, goes-none-slice, goes-gave-slice, Walks, ends-at, walked, walk-meets}
-use Rattle.log.specs.Log.{Did, state, appendOf}
+use Rattle.log.specs.Log.{DidAppend, state, appendOf}
 use Rattle.log.specs.declared.Counters.{Counters}
 use Rattle.log.specs.declared.Stepped.{Stepped}
 use Rattle.log.proofs.Counters as T
@@ -126,7 +126,7 @@ module _ {M : Type 1} (𝓤 : URA M) (H : Heap 𝓤) (A : Atoms 𝓤) (W : Given
       qed W (‵ (owns (MutSlice (named 1) κ1 u8 ∷ MutSlice (named 2) κ2 (Array u64 3) ∷ ShrSlice (named 3) κ3 u8 ∷ ShrSlice (named 4) κ4 u8 ∷ []) rest rest-vals) ∷ (‵ (flft κ1 q1) ⊛ ‵ (flft κ2 q2) ⊛ ‵ (flft κ3 q3) ⊛ ‵ (flft κ4 q4) ⊛ ‵ ftrue) ∷ []) ∵
       fsplit ! $ move ! (1 ∷ []) $ fsplit ! $ move ! (1 ∷ []) $ fsplit ! $ use1 W (‵ Own3 ⊛ ‵ Own3) (shr-slice-copy 𝓤 H A W (named 3) κ3 u8 .twice x3 (s3 ∷ [])) $ split ! $ move ! (2 ∷ []) $ fsplit ! $ use1 W (‵ Own4 ⊛ ‵ Own4) (shr-slice-copy 𝓤 H A W (named 4) κ4 u8 .twice x4 (s4 ∷ [])) $ split ! $ move ! (0 ∷ 2 ∷ []) $ fjoin ! $ move ! (2 ∷ 0 ∷ []) $ fjoin ! $ move ! (3 ∷ 0 ∷ []) $ fjoin ! $ move ! (3 ∷ 0 ∷ []) $ fjoin ! $ owned ! R (Is R) (LL.makes T.the-type T′.the-plain 𝓤 H A) h _ is $ fjoin ! $ move ! (3 ∷ 0 ∷ []) $ use2 W (raw (Callee 𝓤 H A at-mem run .pre to)) asked $ move ! (0 ∷ 2 ∷ 1 ∷ []) $ frame ! $ frame ! $ done !
 
-  exits : (r : Stepped) (u : Val) (z1 : List ℕ) (z2 : List (List ℕ)) → Is E.the-row (r .answer) (u ∷ []) → length z1 ≡ length (x1 .now) → length z2 ≡ length (x2 .now) → _≡_ {A = Did} (record { wal = state z1 z2 (r .counters); answer = r .answer }) (appendOf (state (x1 .now) (x2 .now) h) (x3 .now) (x4 .now))
+  exits : (r : Stepped) (u : Val) (z1 : List ℕ) (z2 : List (List ℕ)) → Is E.the-row (r .answer) (u ∷ []) → length z1 ≡ length (x1 .now) → length z2 ≡ length (x2 .now) → _≡_ {A = DidAppend} (record { wal = state z1 z2 (r .counters); answer = r .answer }) (appendOf (state (x1 .now) (x2 .now) h) (x3 .now) (x4 .now))
       → ent 𝓤 (⋆ 𝓤 H A (‵ (fobs γ (R .coded .code (r .counters))) ∷ ‵ (fbor κ0 (Body (mem R) b o γ)) ∷ ‵ (flft κ0 q0) ∷ (‵ (flft κ1 q1) ⊛ ‵ (flft κ2 q2) ⊛ ‵ (flft κ3 q3) ⊛ ‵ (flft κ4 q4) ⊛ ‵ ftrue) ∷ ‵ (finally u8 (x1 .name) z1) ∷ ‵ (finally (Array u64 3) (x2 .name) z2) ∷ ‵ Own3 ∷ ‵ Own4 ∷ [])) (Post u)
   exits r u z1 z2 is l1 l2 e =
       qed W (‵ (fobs γ (R .coded .code (r .counters))) ∷ ‵ (fbor κ0 (Body (mem R) b o γ)) ∷ ‵ (flft κ0 q0) ∷ (‵ (flft κ1 q1) ⊛ ‵ (flft κ2 q2) ⊛ ‵ (flft κ3 q3) ⊛ ‵ (flft κ4 q4) ⊛ ‵ ftrue) ∷ ‵ (finally u8 (x1 .name) z1) ∷ ‵ (finally (Array u64 3) (x2 .name) z2) ∷ ‵ Own3 ∷ ‵ Own4 ∷ []) ∵
@@ -158,7 +158,7 @@ module _ {M : Type 1} (𝓤 : URA M) (H : Heap 𝓤) (A : Atoms 𝓤) (W : Given
         move ! (2 ∷ []) $
         calls-at ! fm (Callee 𝓤 H A at-mem run) known to (and-then ! (load ! (from ! (stop !)) (look ! 15 refl)) (and-then ! (load ! (from ! (stop !)) (look ! 11 refl)) (and-then ! (load ! (from ! (stop !)) (look ! 7 refl)) (and-then ! (load ! (from ! (stop !)) (look ! 21 refl)) (and-then ! (load ! (from ! (stop !)) (look ! 19 refl)) (no-more !)))))) (λ u.
         use1 W (later (some (λ (r : Stepped). ((‵ (flft κ1 q1) ⊛ ‵ (flft κ2 q2) ⊛ ‵ (flft κ3 q3) ⊛ ‵ (flft κ4 q4) ⊛ ‵ ftrue) ⊛ ‵ (S.the-row .own r (u ∷ []))) ⊛ raw (ensured 𝓤 H A callee.ended (callee.clauses 𝓤 H A at-mem run) (κ1, (κ2, (κ3, (κ4, tt)))) (h, rest) tt r)))) (id⊢ 𝓤 _) $ await ! tt $ pick ! (λ r. split ! $ move ! (1 ∷ []) $
-        use1 W (some (λ (z : Unit {0} × (List ℕ × (List (List ℕ) × (Unit {0} × (Unit {0} × Unit {0}))))). ‵ (lasts callee.ended (κ1, (κ2, (κ3, (κ4, tt)))) (h, rest) z) ⊛ raw (fact 𝓤 (_≡_ {A = Did} (record { wal = state (z .1 .0) (z .1 .1 .0) (r .counters); answer = r .answer }) (appendOf (state (x1 .now) (x2 .now) h) (x3 .now) (x4 .now)))))) (id⊢ 𝓤 _) $ pick ! (λ z. split ! $ move ! (1 ∷ []) $ heard ! (_≡_ {A = Did} (record { wal = state (z .1 .0) (z .1 .1 .0) (r .counters); answer = r .answer }) (appendOf (state (x1 .now) (x2 .now) h) (x3 .now) (x4 .now))) (λ e.
+        use1 W (some (λ (z : Unit {0} × (List ℕ × (List (List ℕ) × (Unit {0} × (Unit {0} × Unit {0}))))). ‵ (lasts callee.ended (κ1, (κ2, (κ3, (κ4, tt)))) (h, rest) z) ⊛ raw (fact 𝓤 (_≡_ {A = DidAppend} (record { wal = state (z .1 .0) (z .1 .1 .0) (r .counters); answer = r .answer }) (appendOf (state (x1 .now) (x2 .now) h) (x3 .now) (x4 .now)))))) (id⊢ 𝓤 _) $ pick ! (λ z. split ! $ move ! (1 ∷ []) $ heard ! (_≡_ {A = DidAppend} (record { wal = state (z .1 .0) (z .1 .1 .0) (r .counters); answer = r .answer }) (appendOf (state (x1 .now) (x2 .now) h) (x3 .now) (x4 .now))) (λ e.
         fsplit ! $
         move ! (1 ∷ []) $ fsplit ! $
         fsplit ! $ move ! (1 ∷ []) $ feqL ! (λ l1.

@@ -1,4 +1,4 @@
--- `calls::begun` meets its contract: the turn with its first point and nothing stepped. Assumes nothing.
+-- `calls::begun` meets its contract: by its calls and its tests. Assumes nothing.
 use borrow.Author.Needs.{needs}
 use Rattle.pool.proofs.calls.begun.Statement.{statement}
 use Rattle.pool.proofs.calls.begun.Tie as tie

@@ -1,8 +1,18 @@
--- `calls::close` meets its contract: by whether the disk is free, waits or failed. Assumes nothing.
+-- `calls::close` meets its contract: by its calls and its tests. Assumes nothing.
 use Rattle.pool.specs.Calls.{closeOf}
+use Rattle.front.specs.Answers.{shown}
 use borrow.Author.Needs.{needs}
 use Rattle.pool.proofs.calls.close.Statement.{statement}
 use Rattle.pool.proofs.calls.close.Tie as tie
+
+sync-check-requires : tie.Need-sync-check-requires
+sync-check-requires c κs = search needs
+
+enum-known-check : tie.Need-enum-known-check
+enum-known-check c = search needs
+
+refused-requires : tie.Need-refused-requires
+refused-requires c κs = search needs
 
 enum-told : tie.Need-enum-told
 enum-told c = search needs
@@ -13,51 +23,32 @@ closed-pool-requires c κs = search needs
 shown-now-requires : tie.Need-shown-now-requires
 shown-now-requires c κs = search needs
 
-enum-told-2 : tie.Need-enum-told-2
-enum-told-2 c = search needs
-
-refused-requires : tie.Need-refused-requires
-refused-requires c κs = search needs
-
-enum-told-3 : tie.Need-enum-told-3
-enum-told-3 c = search needs
-
-refused-requires-2 : tie.Need-refused-requires-2
-refused-requires-2 c κs = search needs
-
 returns : tie.Need-returns
-unfolding closeOf
-returns c =
-    let h1 = c .before .before .enum-told .given .1 in
-    let e1 = c .before .closed-pool .ensures in
-    let e2 = c .shown-now .ensures in
+unfolding closeOf shown
+returns c bytes records store groups keys actors =
+    let e1 = c .before .before .before .before .sync-check .ensures in
+    let h1 = simp (e1) at (c .before .before .check .given .1) in
+    let e2 = c .refused .ensures in
     simp (e1, e2, h1)
 
 returns-2 : tie.Need-returns-2
-unfolding closeOf
-returns-2 c =
-    let h1 = c .before .enum-told2 .given .1 in
-    let e1 = c .refused .ensures in
-    simp (e1, h1)
-
-returns-3 : tie.Need-returns-3
-unfolding closeOf
-returns-3 c =
-    let h1 = c .before .enum-told3 .given .1 in
-    let e1 = c .refused2 .ensures in
-    simp (e1, h1)
+unfolding closeOf shown
+returns-2 c bytes records store groups keys actors =
+    let e1 = c .before .before .before .before .sync-check .ensures in
+    let h1 = simp (e1) at (c .before .before .enum-told .given .1) in
+    let e2 = c .before .closed-pool .ensures in
+    let e3 = c .shown-now .ensures in
+    simp (e1, e2, e3, h1)
 
 pub close-spec : {M : Type 1} → statement M
 close-spec =
     tie.close
     (tie.spec
+    sync-check-requires
+    enum-known-check
+    refused-requires
     enum-told
     closed-pool-requires
     shown-now-requires
-    enum-told-2
-    refused-requires
-    enum-told-3
-    refused-requires-2
     returns
-    returns-2
-    returns-3)
+    returns-2)

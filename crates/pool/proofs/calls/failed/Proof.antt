@@ -1,5 +1,6 @@
--- `calls::failed` meets its contract: the disk is marked failed, then what is open is shown. Assumes nothing.
+-- `calls::failed` meets its contract: by its calls and its tests. Assumes nothing.
 use Rattle.pool.specs.Calls.{failedOf}
+use Rattle.front.specs.Answers.{shown}
 use borrow.Author.Needs.{needs}
 use Rattle.pool.proofs.calls.failed.Statement.{statement}
 use Rattle.pool.proofs.calls.failed.Tie as tie
@@ -11,8 +12,8 @@ shown-now-requires : tie.Need-shown-now-requires
 shown-now-requires c κs = search needs
 
 returns : tie.Need-returns
-unfolding failedOf
-returns c =
+unfolding failedOf shown
+returns c bytes records store groups keys actors =
     let e1 = c .before .with-disk .ensures in
     let e2 = c .shown-now .ensures in
     simp (e1, e2)

@@ -1,15 +1,13 @@
--- `calls::resumed` meets its contract: the reply is taken, then the turn runs on from there. Assumes nothing.
-use mathlib.Core.Path.{ap, _∙_}
-use Rattle.pool.specs.Calls.{resumedOf, resumedBy}
+-- `calls::resumed` meets its contract: by its calls and its tests. Assumes nothing.
+use Rattle.pool.specs.Calls.{resumedOf}
+use mathlib.Core.Path.{_∙_, ap}
+use Rattle.pool.specs.Run.{runOf}
 use borrow.Author.Needs.{needs}
 use Rattle.pool.proofs.calls.resumed.Statement.{statement}
 use Rattle.pool.proofs.calls.resumed.Tie as tie
 
-resume-requires : tie.Need-resume-requires
-resume-requires c κs = search needs
-
-with-turn-requires : tie.Need-with-turn-requires
-with-turn-requires c κs = search needs
+resume-at-requires : tie.Need-resume-at-requires
+resume-at-requires c κs = search needs
 
 run-requires : tie.Need-run-requires
 run-requires c κs = search needs
@@ -35,17 +33,15 @@ same-length-6 c = search needs
 returns : tie.Need-returns
 unfolding resumedOf
 returns c =
-    let e1 = c .before .before .before .before .before .before .before .before .before .before .before .before .before .before .before .before .before .before .before .resume .ensures in
-    let e2 = c .before .before .before .before .before .before .before .before .before .before .before .before .before .before .with-turn .ensures in
-    let e3 = simp (e2) at (c .before .before .before .before .before .before .before .run .ensures) in
-    e3 ∙ ap (resumedBy (c .before .before .before .before .before .before .before .before .before .before .before .before .before .before .before .before .before .before .before .before .before .before .before .before .before .before .before .before .before .before .args .pool) _ _ _ _ _) e1
+    let e1 = c .before .before .before .before .before .before .before .before .before .before .before .before .before .before .before .before .before .resume-at .ensures in
+    let e2 = c .before .before .before .before .before .before .before .run .ensures in
+    e2 ∙ ap runOf (e1 _ _ _)
 
 pub resumed-spec : {M : Type 1} → statement M
 resumed-spec =
     tie.close
     (tie.spec
-    resume-requires
-    with-turn-requires
+    resume-at-requires
     run-requires
     same-length
     same-length-2

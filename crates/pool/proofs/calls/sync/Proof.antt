@@ -1,58 +1,48 @@
--- `calls::sync` meets its contract: by whether the disk is free, waits or failed. Assumes nothing.
+-- `calls::sync` meets its contract: by its table, and by what the log had due. Assumes nothing.
 use Rattle.pool.specs.Calls.{syncOf}
 use borrow.Author.Needs.{needs}
 use Rattle.pool.proofs.calls.sync.Statement.{statement}
 use Rattle.pool.proofs.calls.sync.Tie as tie
 
-enum-told : tie.Need-enum-told
-enum-told c = search needs
+sync-check-requires : tie.Need-sync-check-requires
+sync-check-requires c κs = search needs
 
-sync-free-requires : tie.Need-sync-free-requires
-sync-free-requires c κs = search needs
-
-enum-told-2 : tie.Need-enum-told-2
-enum-told-2 c = search needs
+enum-known-check : tie.Need-enum-known-check
+enum-known-check c = search needs
 
 refused-requires : tie.Need-refused-requires
 refused-requires c κs = search needs
 
-enum-told-3 : tie.Need-enum-told-3
-enum-told-3 c = search needs
+enum-told : tie.Need-enum-told
+enum-told c = search needs
 
-refused-requires-2 : tie.Need-refused-requires-2
-refused-requires-2 c κs = search needs
+sync-log-requires : tie.Need-sync-log-requires
+sync-log-requires c κs = search needs
 
 returns : tie.Need-returns
 unfolding syncOf
-returns c =
-    let h1 = c .before .enum-told .given .1 in
-    let e1 = c .sync-free .ensures in
-    simp (e1, h1)
+returns c bytes records store groups keys actors =
+    let e1 = c .before .before .before .before .sync-check .ensures in
+    let h1 = simp (e1) at (c .before .before .check .given .1) in
+    let e2 = c .refused .ensures in
+    simp (e1, e2, h1)
 
 returns-2 : tie.Need-returns-2
 unfolding syncOf
-returns-2 c =
-    let h1 = c .before .enum-told2 .given .1 in
-    let e1 = c .refused .ensures in
-    simp (e1, h1)
-
-returns-3 : tie.Need-returns-3
-unfolding syncOf
-returns-3 c =
-    let h1 = c .before .enum-told3 .given .1 in
-    let e1 = c .refused2 .ensures in
-    simp (e1, h1)
+returns-2 c bytes records store groups keys actors =
+    let e1 = c .before .before .before .sync-check .ensures in
+    let h1 = simp (e1) at (c .before .enum-told .given .1) in
+    let e2 = c .sync-log .ensures in
+    simp (e1, h1) (e2 _ _ _ _ _ _)
 
 pub sync-spec : {M : Type 1} → statement M
 sync-spec =
     tie.close
     (tie.spec
-    enum-told
-    sync-free-requires
-    enum-told-2
+    sync-check-requires
+    enum-known-check
     refused-requires
-    enum-told-3
-    refused-requires-2
+    enum-told
+    sync-log-requires
     returns
-    returns-2
-    returns-3)
+    returns-2)

@@ -1,26 +1,34 @@
--- `calls::turn` meets its contract: by whether the disk is free, waits or failed. Assumes nothing.
+-- `calls::turn` meets its contract: by its calls and its tests. Assumes nothing.
 use Rattle.pool.specs.Calls.{turnOf}
 use borrow.Author.Needs.{needs}
 use Rattle.pool.proofs.calls.turn.Statement.{statement}
 use Rattle.pool.proofs.calls.turn.Tie as tie
 
-enum-told : tie.Need-enum-told
-enum-told c = search needs
+turn-check-requires : tie.Need-turn-check-requires
+turn-check-requires c κs = search needs
 
-turn-free-requires : tie.Need-turn-free-requires
-turn-free-requires c κs = search needs
-
-enum-told-2 : tie.Need-enum-told-2
-enum-told-2 c = search needs
+enum-known-check : tie.Need-enum-known-check
+enum-known-check c = search needs
 
 refused-requires : tie.Need-refused-requires
 refused-requires c κs = search needs
 
-enum-told-3 : tie.Need-enum-told-3
-enum-told-3 c = search needs
+enum-told : tie.Need-enum-told
+enum-told c = search needs
 
-refused-requires-2 : tie.Need-refused-requires-2
-refused-requires-2 c κs = search needs
+begun-requires : tie.Need-begun-requires
+begun-requires c κs = search needs
+
+run-requires : tie.Need-run-requires
+run-requires c κs = search needs
+
+returns : tie.Need-returns
+unfolding turnOf
+returns c =
+    let e1 = c .before .before .before .before .turn-check .ensures in
+    let h1 = simp (e1) at (c .before .before .check .given .1) in
+    let e2 = c .refused .ensures in
+    simp (e1, e2, h1)
 
 same-length : tie.Need-same-length
 same-length c = search needs
@@ -40,43 +48,30 @@ same-length-5 c = search needs
 same-length-6 : tie.Need-same-length-6
 same-length-6 c = search needs
 
-returns : tie.Need-returns
-unfolding turnOf
-returns c =
-    let h1 = c .before .before .before .before .before .before .before .before .before .before .before .before .before .before .enum-told .given .1 in
-    let e1 = c .before .before .before .before .before .before .before .turn-free .ensures in
-    simp (h1) e1
-
 returns-2 : tie.Need-returns-2
 unfolding turnOf
 returns-2 c =
-    let h1 = c .before .enum-told2 .given .1 in
-    let e1 = c .refused .ensures in
-    simp (e1, h1)
-
-returns-3 : tie.Need-returns-3
-unfolding turnOf
-returns-3 c =
-    let h1 = c .before .enum-told3 .given .1 in
-    let e1 = c .refused2 .ensures in
-    simp (e1, h1)
+    let e1 = c .before .before .before .before .before .before .before .before .before .before .before .before .before .before .before .before .before .turn-check .ensures in
+    let h1 = simp (e1) at (c .before .before .before .before .before .before .before .before .before .before .before .before .before .before .before .enum-told .given .1) in
+    let e2 = c .before .before .before .before .before .before .before .before .before .before .before .before .before .before .begun .ensures in
+    let e3 = simp (e2) at (c .before .before .before .before .before .before .before .run .ensures) in
+    simp (e1, e2, h1) e3
 
 pub turn-spec : {M : Type 1} → statement M
 turn-spec =
     tie.close
     (tie.spec
-    enum-told
-    turn-free-requires
-    enum-told-2
+    turn-check-requires
+    enum-known-check
     refused-requires
-    enum-told-3
-    refused-requires-2
+    enum-told
+    begun-requires
+    run-requires
+    returns
     same-length
     same-length-2
     same-length-3
     same-length-4
     same-length-5
     same-length-6
-    returns
-    returns-2
-    returns-3)
+    returns-2)

@@ -1,15 +1,13 @@
--- `run::run` meets its contract: the turn runs as far as it does by itself, then what that gives is answered. Assumes nothing.
-use mathlib.Core.Path.{ap}
-use Rattle.pool.specs.Run.{runOf, ranBy}
+-- `run::run` meets its contract: by its calls and its tests. Assumes nothing.
+use Rattle.pool.specs.Run.{runOf}
+use mathlib.Core.Path.{_∙_, ap}
+use Rattle.pool.specs.Run.{answeredOf}
 use borrow.Author.Needs.{needs}
 use Rattle.pool.proofs.run.run.Statement.{statement}
 use Rattle.pool.proofs.run.run.Tie as tie
 
 advance-requires : tie.Need-advance-requires
 advance-requires c κs = search needs
-
-with-turn-requires : tie.Need-with-turn-requires
-with-turn-requires c κs = search needs
 
 answered-requires : tie.Need-answered-requires
 answered-requires c κs = search needs
@@ -35,17 +33,15 @@ same-length-6 c = search needs
 returns : tie.Need-returns
 unfolding runOf
 returns c =
-    let e1 = c .before .before .before .before .before .before .before .before .before .before .before .before .advance .ensures in
-    let e2 = c .before .before .before .before .with-turn .ensures in
-    let e3 = c .answered .ensures in
-    simp (e3, e2) (ap (ranBy (c .before .before .before .before .before .before .before .before .before .before .before .before .before .before .before .before .before .before .before .before .before .before .before .args .pool)) e1)
+    let e1 = c .before .before .before .before .before .before .before .before .before .before .before .advance .ensures in
+    let e2 = c .answered .ensures in
+    e2 _ _ _ _ _ ∙ ap answeredOf e1
 
 pub run-spec : {M : Type 1} → statement M
 run-spec =
     tie.close
     (tie.spec
     advance-requires
-    with-turn-requires
     answered-requires
     same-length
     same-length-2

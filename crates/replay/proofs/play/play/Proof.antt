@@ -54,9 +54,7 @@ slice-aggregate-run-opened c =
     sym (length-take-le (read .given .0 .0 .groups) _ (given-room _ _ (pre .0) (read-groups .kept .1 .1 .0) (subst (HasFile (args .script .now)) (read .given .1) (read-header .ensures .1) .0)))
 
 run-opened-requires : tie.Need-run-opened-requires
-run-opened-requires c κs =
-    let pre = c .before .before .before .before .before .before .before .before .before .before .before .before .before .before .before .before .before .before .before .before .before .before .before .before .before .before .before .before .before .before .pre in
-    pre .6
+run-opened-requires c κs = search needs
 
 same-length : tie.Need-same-length
 same-length c = search needs

@@ -69,13 +69,12 @@ same-length-9 c =
 
 returns : tie.Need-returns
 returns c =
-    let pre = c .before .before .before .before .before .before .before .before .before .before .before .before .before .before .before .before .before .before .before .before .before .before .before .before .before .before .before .before .before .before .before .before .before .before .before .before .before .before .before .before .before .before .before .before .before .before .before .before .before .before .before .before .before .before .before .before .before .before .pre in
     let opened = c .before .before .before .before .before .before .before .before .before .before .before .before .before .before .before .before .before .before .before .before .before .before .before .before .before .before .before .before .before .before .before .before .before .before .before .before .before .before .before .before .before .before .before .before .before .«open» in
     let pour-entry = c .before .before .before .before .before .before .before .before .before .before .before .before .before .before .before .before .before .before .before .before .before .before .before .before .before .pour-entry in
     let is-accepted = c .before .before .before .before .before .before .before .before .before .before .before .before .before .before .before .before .before .before .before .before .before .before .is-accepted in
     let if1 = c .before .before .before .before .before .before .before .before .before .before .before .before .before .before .before .before .before .before .before .before .before .if1 in
     let run-calls = c .before .before .before .before .before .before .before .before .before .before .before .run-calls in
-    opened-on _ _ _ _ (opened .ensures) pre (pour-entry .ensures) (sym (is-accepted .ensures) ∙ if1 .taken) (run-calls .ensures)
+    opened-on _ _ _ _ (opened .ensures) (pour-entry .ensures) (sym (is-accepted .ensures) ∙ if1 .taken) (run-calls .ensures)
 
 same-length-10 : tie.Need-same-length-10
 same-length-10 c = search needs
@@ -106,12 +105,11 @@ same-length-18 c = search needs
 
 returns-2 : tie.Need-returns-2
 returns-2 c =
-    let pre = c .before .before .before .before .before .before .before .before .before .before .before .before .before .before .before .before .before .before .before .before .before .before .before .before .before .before .before .before .before .before .before .before .before .before .before .before .before .pre in
     let opened = c .before .before .before .before .before .before .before .before .before .before .before .before .before .before .before .before .before .before .before .before .before .before .before .before .«open» in
     let pour-entry = c .before .before .before .before .pour-entry in
     let is-accepted = c .before .is-accepted in
     let if1 = c .if1 in
-    opened-refused _ _ _ _ (opened .ensures) pre (pour-entry .ensures) (sym (is-accepted .ensures) ∙ if1 .left)
+    opened-refused _ _ _ _ (opened .ensures) (pour-entry .ensures) (sym (is-accepted .ensures) ∙ if1 .left)
 
 pub run-opened-spec : {M : Type 1} → statement M
 run-opened-spec =

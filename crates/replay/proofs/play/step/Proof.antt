@@ -91,7 +91,7 @@ unfolding callOf
 returns c =
     let kind = c .before .before .before .before .before .before .before .before .before .before .before .before .before .before .before .before .kind in
     let admit = c .before .before .before .before .before .before .before .admit in
-    simp (kind .given .1) (rw (← admit .ensures))
+    simp (kind .given .1) (admit .ensures _ _)
 
 same-length-6 : tie.Need-same-length-6
 same-length-6 c = c .before .before .before .before .before .before .before .turn .kept .1 .0
@@ -119,7 +119,7 @@ unfolding callOf
 returns-2 c =
     let enum-told = c .before .before .before .before .before .before .before .before .before .before .before .before .before .before .before .enum-told in
     let turn = c .before .before .before .before .before .before .before .turn in
-    simp (enum-told .given .1) (rw (← turn .ensures))
+    simp (enum-told .given .1) (turn .ensures)
 
 same-length-13 : tie.Need-same-length-13
 same-length-13 c = c .before .before .before .before .before .before .before .before .before .reply .kept .1 .0
@@ -147,7 +147,7 @@ unfolding callOf
 returns-3 c =
     let kind2 = c .before .before .before .before .before .before .before .before .before .before .before .before .before .before .before .before .before .before .before .before .kind2 in
     let reply = c .before .before .before .before .before .before .before .before .before .reply in
-    simp (kind2 .given .1) (rw (← reply .ensures))
+    simp (kind2 .given .1) (reply .ensures)
 
 same-length-20 : tie.Need-same-length-20
 same-length-20 c = refl
@@ -157,7 +157,7 @@ same-length-21 c = refl
 
 returns-4 : tie.Need-returns-4
 unfolding callOf
-returns-4 c = simp (c .before .before .before .enum-told2 .given .1, c .sync .ensures)
+returns-4 c = simp (c .before .before .before .enum-told2 .given .1) (c .sync .ensures _ _ _ _ _ _)
 
 same-length-22 : tie.Need-same-length-22
 same-length-22 c = refl
@@ -167,7 +167,7 @@ same-length-23 c = refl
 
 returns-5 : tie.Need-returns-5
 unfolding callOf
-returns-5 c = simp (c .before .before .before .enum-told3 .given .1, c .close .ensures)
+returns-5 c = simp (c .before .before .before .enum-told3 .given .1) (c .close .ensures _ _ _ _ _ _)
 
 pub step-spec : {M : Type 1} → statement M
 step-spec =

@@ -1,4 +1,3 @@
--- `state::marks_at` meets its contract: each point by itself. Assumes nothing.
 use Rattle.turn.specs.State.{marksAt}
 use borrow.Author.Needs.{needs}
 use Rattle.turn.proofs.state.marks_at.Statement.{statement}
@@ -37,119 +36,71 @@ enum-told-10 c = search needs
 enum-told-11 : tie.Need-enum-told-11
 enum-told-11 c = search needs
 
-enum-told-12 : tie.Need-enum-told-12
-enum-told-12 c = search needs
-
-enum-told-13 : tie.Need-enum-told-13
-enum-told-13 c = search needs
-
-enum-told-14 : tie.Need-enum-told-14
-enum-told-14 c = search needs
-
-enum-told-15 : tie.Need-enum-told-15
-enum-told-15 c = search needs
-
-enum-told-16 : tie.Need-enum-told-16
-enum-told-16 c = search needs
-
-enum-told-17 : tie.Need-enum-told-17
-enum-told-17 c = search needs
-
-enum-told-18 : tie.Need-enum-told-18
-enum-told-18 c = search needs
-
-enum-told-19 : tie.Need-enum-told-19
-enum-told-19 c = search needs
-
-enum-told-20 : tie.Need-enum-told-20
-enum-told-20 c = search needs
-
-enum-told-21 : tie.Need-enum-told-21
-enum-told-21 c = search needs
-
 returns : tie.Need-returns
 unfolding marksAt
-returns c = simp (c .enum-told .given .1)
+returns c =
+    let h1 = c .enum-told .given .1 in
+    simp (h1)
 
 returns-2 : tie.Need-returns-2
 unfolding marksAt
-returns-2 c = simp (c .enum-told2 .given .1)
+returns-2 c =
+    let h1 = c .enum-told2 .given .1 in
+    simp (h1)
 
 returns-3 : tie.Need-returns-3
 unfolding marksAt
-returns-3 c = simp (c .enum-told3 .given .1)
+returns-3 c =
+    let h1 = c .enum-told3 .given .1 in
+    simp (h1)
 
 returns-4 : tie.Need-returns-4
 unfolding marksAt
-returns-4 c = simp (c .enum-told4 .given .1)
+returns-4 c =
+    let h1 = c .enum-told4 .given .1 in
+    simp (h1)
 
 returns-5 : tie.Need-returns-5
 unfolding marksAt
-returns-5 c = simp (c .enum-told5 .given .1)
+returns-5 c =
+    let h1 = c .enum-told5 .given .1 in
+    simp (h1)
 
 returns-6 : tie.Need-returns-6
 unfolding marksAt
-returns-6 c = simp (c .enum-told6 .given .1)
+returns-6 c =
+    let h1 = c .enum-told6 .given .1 in
+    simp (h1)
 
 returns-7 : tie.Need-returns-7
 unfolding marksAt
-returns-7 c = simp (c .enum-told7 .given .1)
+returns-7 c =
+    let h1 = c .enum-told7 .given .1 in
+    simp (h1)
 
 returns-8 : tie.Need-returns-8
 unfolding marksAt
-returns-8 c = simp (c .enum-told8 .given .1)
+returns-8 c =
+    let h1 = c .enum-told8 .given .1 in
+    simp (h1)
 
 returns-9 : tie.Need-returns-9
 unfolding marksAt
-returns-9 c = simp (c .enum-told9 .given .1)
+returns-9 c =
+    let h1 = c .enum-told9 .given .1 in
+    simp (h1)
 
 returns-10 : tie.Need-returns-10
 unfolding marksAt
-returns-10 c = simp (c .enum-told10 .given .1)
+returns-10 c =
+    let h1 = c .enum-told10 .given .1 in
+    simp (h1)
 
 returns-11 : tie.Need-returns-11
 unfolding marksAt
-returns-11 c = simp (c .enum-told11 .given .1)
-
-returns-12 : tie.Need-returns-12
-unfolding marksAt
-returns-12 c = simp (c .enum-told12 .given .1)
-
-returns-13 : tie.Need-returns-13
-unfolding marksAt
-returns-13 c = simp (c .enum-told13 .given .1)
-
-returns-14 : tie.Need-returns-14
-unfolding marksAt
-returns-14 c = simp (c .enum-told14 .given .1)
-
-returns-15 : tie.Need-returns-15
-unfolding marksAt
-returns-15 c = simp (c .enum-told15 .given .1)
-
-returns-16 : tie.Need-returns-16
-unfolding marksAt
-returns-16 c = simp (c .enum-told16 .given .1)
-
-returns-17 : tie.Need-returns-17
-unfolding marksAt
-returns-17 c = simp (c .enum-told17 .given .1)
-
-returns-18 : tie.Need-returns-18
-unfolding marksAt
-returns-18 c = simp (c .enum-told18 .given .1)
-
-returns-19 : tie.Need-returns-19
-unfolding marksAt
-returns-19 c = simp (c .enum-told19 .given .1)
-
-returns-20 : tie.Need-returns-20
-unfolding marksAt
-returns-20 c = simp (c .enum-told20 .given .1)
-
-returns-21 : tie.Need-returns-21
-unfolding marksAt
-returns-21 c = simp (c .enum-told21 .given .1)
+returns-11 c =
+    let h1 = c .enum-told11 .given .1 in
+    simp (h1)
 
 pub marks-at-spec : {M : Type 1} → statement M
 marks-at-spec =
@@ -166,16 +117,6 @@ marks-at-spec =
     enum-told-9
     enum-told-10
     enum-told-11
-    enum-told-12
-    enum-told-13
-    enum-told-14
-    enum-told-15
-    enum-told-16
-    enum-told-17
-    enum-told-18
-    enum-told-19
-    enum-told-20
-    enum-told-21
     returns
     returns-2
     returns-3
@@ -186,14 +127,4 @@ marks-at-spec =
     returns-8
     returns-9
     returns-10
-    returns-11
-    returns-12
-    returns-13
-    returns-14
-    returns-15
-    returns-16
-    returns-17
-    returns-18
-    returns-19
-    returns-20
-    returns-21)
+    returns-11)

@@ -1,4 +1,3 @@
--- `state::running` meets its contract: by whether the disk is free. Assumes nothing.
 use Rattle.turn.specs.State.{runningOf}
 use borrow.Author.Needs.{needs}
 use Rattle.turn.proofs.state.running.Statement.{statement}

@@ -1,26 +1,27 @@
 -- `step::advance` meets its contract: each step keeps the turn's end, by the definition's fuel, and lowers the weight. Assumes nothing.
 use mathlib.Core.Path.{_≡_, refl, sym, _∙_}
 use lib.ListN.{length}
-use Rattle.turn.specs.Step.{weightOf}
-use Rattle.turn.proofs.Advance.{runs, fell, stepped, advance-stop}
+use Rattle.turn.specs.Step.{advanced}
+use Rattle.turn.specs.Weight.{weightOf}
+use Rattle.turn.proofs.Advance.{fell, stepped, advanced-stop}
 use borrow.Author.Needs.{needs}
 use Rattle.turn.proofs.step.advance.Statement.{statement}
 use Rattle.turn.proofs.step.advance.Tie as tie
 
 abbrev Inv-loop : tie.InvT-loop
-Inv-loop limits store groups log₀ records₀ links₀ rows₀ lists₀ actors₀ t₀ log records links rows lists actors t =
+Inv-loop store groups log₀ records₀ links₀ rows₀ lists₀ actors₀ p₀ log records links rows lists actors p =
     (length log ≡ length log₀) ×
     (length records ≡ length records₀) ×
     (length links ≡ length links₀) ×
     (length rows ≡ length rows₀) ×
     (length lists ≡ length lists₀) ×
     (length actors ≡ length actors₀) ×
-    (runs (record { limits = limits; store = store; groups = groups }) (record { turn = t; bytes = log; records = records; links = links; rows = rows; keys = lists; actors = actors })
-    ≡ runs (record { limits = limits; store = store; groups = groups }) (record { turn = t₀; bytes = log₀; records = records₀; links = links₀; rows = rows₀; keys = lists₀; actors = actors₀ }))
+    (advanced (record { pool = p; bytes = log; records = records; store = store; groups = groups; links = links; rows = rows; keys = lists; actors = actors })
+    ≡ advanced (record { pool = p₀; bytes = log₀; records = records₀; store = store; groups = groups; links = links₀; rows = rows₀; keys = lists₀; actors = actors₀ }))
 
 abbrev μ-loop : tie.MeasureT-loop
-μ-loop limits store groups log₀ records₀ links₀ rows₀ lists₀ actors₀ t₀ log records links rows lists actors t =
-    weightOf t
+μ-loop store groups log₀ records₀ links₀ rows₀ lists₀ actors₀ p₀ log records links rows lists actors p =
+    weightOf (p .turn)
 
 loop-holds : tie.Need-loop-holds Inv-loop μ-loop
 loop-holds c = (refl, refl, refl, refl, refl, refl, refl)
@@ -34,12 +35,12 @@ step-requires c κs = search needs
 loop-less : tie.Need-loop-less Inv-loop μ-loop
 loop-less c =
     let run = sym (c .before .before .before .before .before .before .before .before .before .before .before .before .before .before .before .running .ensures) ∙ c .before .before .before .before .before .before .before .before .before .before .before .before .before .before .if1 .taken in
-    fell _ _ _ (c .before .before .before .before .before .before .before .step .ensures) run
+    fell _ _ (c .before .before .before .before .before .before .before .step .ensures) run
 
 loop-again : tie.Need-loop-again Inv-loop μ-loop
 loop-again c =
     let l = c .before .before .before .before .before .before .before .before .before .before .before .before .before .before .before .before .loop .inv in
-    let kept = c .before .before .before .before .before .before .before .step .kept .1 .1 .1 .1 in
+    let kept = c .before .before .before .before .before .before .before .step .kept .1 .1 .1 in
     let run = sym (c .before .before .before .before .before .before .before .before .before .before .before .before .before .before .before .running .ensures) ∙ c .before .before .before .before .before .before .before .before .before .before .before .before .before .before .if1 .taken in (
       kept .0 ∙ l .0,
       kept .1 .0 ∙ l .1,
@@ -47,7 +48,7 @@ loop-again c =
       kept .1 .1 .1 .0 ∙ l .3,
       kept .1 .1 .1 .1 .0 ∙ l .4,
       kept .1 .1 .1 .1 .1 .0 ∙ l .5,
-      stepped _ _ _ (c .before .before .before .before .before .before .before .step .ensures) run ∙ l .6,
+      stepped _ _ (c .before .before .before .before .before .before .before .step .ensures) run ∙ l .6,
     )
 
 same-length : tie.Need-same-length Inv-loop μ-loop
@@ -71,7 +72,7 @@ same-length-6 c = c .before .before .loop .inv .5
 returns : tie.Need-returns Inv-loop μ-loop
 returns c =
     let stop = sym (c .before .running .ensures) ∙ c .if1 .left in
-    sym (advance-stop _ _ _ stop) ∙ c .before .before .loop .inv .6
+    sym (advanced-stop _ stop) ∙ c .before .before .loop .inv .6
 
 pub advance-spec : {M : Type 1} → statement M
 advance-spec =

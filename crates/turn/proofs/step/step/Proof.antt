@@ -1,19 +1,24 @@
--- `step::step` meets its contract: by whether the point marks first, and whether the mark needed an order. Assumes nothing.
-use Rattle.turn.proofs.Marks.{step-goes, step-stops, step-runs}
-use Rattle.turn.specs.Step.{workBy}
-use mathlib.Core.Path.{ap, sym, _∙_}
+-- `step::step` meets its contract: by where the turn stands, and by whether the marks put out an order. Assumes nothing.
+use Rattle.turn.specs.Step.{stepOf}
+use Rattle.turn.proofs.StepLaws.{step-goes, step-stops}
 use borrow.Author.Needs.{needs}
 use Rattle.turn.proofs.step.step.Statement.{statement}
 use Rattle.turn.proofs.step.step.Tie as tie
 
-marks-at-requires : tie.Need-marks-at-requires
-marks-at-requires c κs = search needs
+enum-told : tie.Need-enum-told
+enum-told c = search needs
 
-mark-first-requires : tie.Need-mark-first-requires
-mark-first-requires c κs = search needs
+enum-told-2 : tie.Need-enum-told-2
+enum-told-2 c = search needs
 
-is-free-requires : tie.Need-is-free-requires
-is-free-requires c κs = search needs
+enum-known-at : tie.Need-enum-known-at
+enum-known-at c = search needs
+
+mark-at-requires : tie.Need-mark-at-requires
+mark-at-requires c κs = search needs
+
+disk-free-requires : tie.Need-disk-free-requires
+disk-free-requires c κs = search needs
 
 go-requires : tie.Need-go-requires
 go-requires c κs = search needs
@@ -38,9 +43,24 @@ same-length-6 c = search needs
 
 returns : tie.Need-returns
 returns c =
-    let marks = sym (c .before .before .before .before .before .before .before .before .before .before .before .before .before .before .before .before .before .before .before .before .before .before .before .marks-at .ensures) ∙ c .before .before .before .before .before .before .before .before .before .before .before .before .before .before .before .before .before .before .before .before .before .before .if1 .taken in
-    let free = sym (c .before .before .before .before .before .before .before .before .before .before .before .is-free .ensures) ∙ c .before .before .before .before .before .before .before .before .before .before .if2 .taken in
-    ap (workBy _ _ _ _) (c .before .before .before .before .before .go .ensures) ∙ step-goes _ _ _ marks (c .before .before .before .before .before .before .before .before .before .before .before .before .before .before .before .before .before .mark-first .ensures) free
+    let h1 = c .before .before .before .before .before .before .before .before .before .before .before .before .before .before .before .before .before .before .before .before .before .at .given .1 in
+    let e1 = c .before .before .before .before .before .before .before .before .before .before .before .before .before .before .before .mark-at .ensures in
+    let e2 = c .before .before .before .before .before .before .before .before .before .before .disk-free .ensures in
+    let h2 = simp (e2) at (c .before .before .before .before .before .before .before .before .before .if1 .taken) in
+    let e3 = c .before .before .before .before .go .ensures in
+    step-goes _ _ h1 _ (e1 _ _ _ _) _ h2 (e3 _ _)
+
+returns-2 : tie.Need-returns-2
+unfolding stepOf
+returns-2 c =
+    let h1 = c .enum-told .given .1 in
+    simp (h1)
+
+returns-3 : tie.Need-returns-3
+unfolding stepOf
+returns-3 c =
+    let h1 = c .enum-told2 .given .1 in
+    simp (h1)
 
 same-length-7 : tie.Need-same-length-7
 same-length-7 c = search needs
@@ -54,39 +74,23 @@ same-length-9 c = search needs
 same-length-10 : tie.Need-same-length-10
 same-length-10 c = search needs
 
-returns-2 : tie.Need-returns-2
-returns-2 c =
-    let marks = sym (c .before .before .before .before .before .before .before .before .before .before .before .before .before .marks-at .ensures) ∙ c .before .before .before .before .before .before .before .before .before .before .before .before .if1 .taken in
-    let waits = sym (c .before .is-free .ensures) ∙ c .if2 .left in
-    step-stops _ _ _ marks (c .before .before .before .before .before .before .before .mark-first .ensures) waits
-
-go-requires-2 : tie.Need-go-requires-2
-go-requires-2 c κs = search needs
-
-same-length-11 : tie.Need-same-length-11
-same-length-11 c = search needs
-
-same-length-12 : tie.Need-same-length-12
-same-length-12 c = search needs
-
-same-length-13 : tie.Need-same-length-13
-same-length-13 c = search needs
-
-same-length-14 : tie.Need-same-length-14
-same-length-14 c = search needs
-
-returns-3 : tie.Need-returns-3
-returns-3 c =
-    let runs = sym (c .before .before .before .before .before .before .before .before .before .before .before .before .marks-at .ensures) ∙ c .before .before .before .before .before .before .before .before .before .before .before .if1 .left in
-    ap (workBy _ _ _ _) (c .before .before .before .before .before .go2 .ensures) ∙ step-runs _ _ runs
+returns-4 : tie.Need-returns-4
+returns-4 c =
+    let h1 = c .before .before .before .before .before .before .before .before .before .before .before .before .at .given .1 in
+    let e1 = c .before .before .before .before .before .before .mark-at .ensures in
+    let e2 = c .before .disk-free .ensures in
+    let h2 = simp (e2) at (c .if1 .left) in
+    step-stops _ _ h1 _ (e1 _ _ _ _) h2
 
 pub step-spec : {M : Type 1} → statement M
 step-spec =
     tie.close
     (tie.spec
-    marks-at-requires
-    mark-first-requires
-    is-free-requires
+    enum-told
+    enum-told-2
+    enum-known-at
+    mark-at-requires
+    disk-free-requires
     go-requires
     same-length
     same-length-2
@@ -95,14 +99,10 @@ step-spec =
     same-length-5
     same-length-6
     returns
+    returns-2
+    returns-3
     same-length-7
     same-length-8
     same-length-9
     same-length-10
-    returns-2
-    go-requires-2
-    same-length-11
-    same-length-12
-    same-length-13
-    same-length-14
-    returns-3)
+    returns-4)

@@ -1,0 +1,37 @@
+-- `refusals::sync_check` meets its contract: by its calls and its tests. Assumes nothing.
+use Rattle.front.specs.Refusals.{judged}
+use Rattle.front.specs.Refusals.{syncRefusals}
+use borrow.Author.Needs.{needs}
+use Rattle.front.proofs.refusals.sync_check.Statement.{statement}
+use Rattle.front.proofs.refusals.sync_check.Tie as tie
+
+enum-told : tie.Need-enum-told
+enum-told c = search needs
+
+enum-told-2 : tie.Need-enum-told-2
+enum-told-2 c = search needs
+
+enum-told-3 : tie.Need-enum-told-3
+enum-told-3 c = search needs
+
+returns : tie.Need-returns
+unfolding judged syncRefusals
+returns c =
+    let h1 = c .enum-told .given .1 in
+    simp (h1)
+
+returns-2 : tie.Need-returns-2
+unfolding judged syncRefusals
+returns-2 c =
+    let h1 = c .enum-told2 .given .1 in
+    simp (h1)
+
+returns-3 : tie.Need-returns-3
+unfolding judged syncRefusals
+returns-3 c =
+    let h1 = c .enum-told3 .given .1 in
+    simp (h1)
+
+pub sync-check-spec : {M : Type 1} → statement M
+sync-check-spec =
+    tie.close (tie.spec enum-told enum-told-2 enum-told-3 returns returns-2 returns-3)

@@ -1,0 +1,73 @@
+-- What a call answers, and what it leaves; the numbers of refusals.
+use Prim.Native.Nat.{ℕ}
+use Rattle.lists.specs.Links.{Table}
+use Rattle.log.specs.declared.Refusal as of-log
+use Rattle.log.specs.declared.Refusal.the-variants as logged
+use Rattle.setup.specs.Entry.{Messages, Arrival, keepOf}
+use Rattle.turn.specs.declared.state.Pool.{Pool}
+use Rattle.turn.specs.State.{State, withStore, withLinks, withRows}
+use Rattle.turn.specs.Asks.{askedIn, openIn}
+use Rattle.front.specs.declared.answer.Refusal.{Refusal}
+use Rattle.front.specs.declared.answer.Refusal.the-variants as refusal
+use Rattle.front.specs.declared.answer.Answer.{Answer}
+use Rattle.front.specs.declared.answer.Answer.the-variants as answer
+use Rattle.front.specs.declared.answer.Called.{Called}
+
+-- the number of each refusal (docs/RULES.md, 8)
+abbrev pub numberOf : Refusal → ℕ
+numberOf refusal.Setting = 1
+numberOf refusal.Sizes = 2
+numberOf refusal.LastId = 3
+numberOf refusal.TooMuch = 4
+numberOf refusal.TooLong = 5
+numberOf refusal.InboxFull = 6
+numberOf refusal.Closed = 7
+numberOf refusal.TooMany = 8
+numberOf refusal.NoId = 9
+numberOf refusal.NoRoom = 10
+numberOf refusal.OrderWaits = 11
+numberOf refusal.NoFit = 12
+numberOf refusal.InTurn = 13
+numberOf refusal.StoreFailed = 14
+numberOf refusal.NotLoaded = 17
+
+-- a refusal of the log, as the pool's own
+abbrev pub logRefusal : of-log.Refusal → Refusal
+logRefusal logged.Sizes = refusal.Sizes
+logRefusal logged.LastId = refusal.LastId
+logRefusal logged.TooMuch = refusal.TooMuch
+logRefusal logged.TooLong = refusal.TooLong
+logRefusal logged.Full = refusal.TooMany
+logRefusal logged.NoId = refusal.NoId
+logRefusal logged.NoRoom = refusal.NoRoom
+
+-- the state after a call, and its answer
+pub record Did : Type 0 where
+  pub state : State
+  pub answer : Answer
+
+-- refused: the state is as it was
+abbrev pub refused : State → Refusal → Did
+refused s r = record { state = s; answer = answer.Refused r }
+
+-- accepted: the order that waits, else the turn's question, is open now
+unfoldable pub shown : State → Did
+shown s = record { state = s; answer = answer.Open (openIn s) }
+
+-- a message that comes is kept in the first free entry, at the end of a list
+abbrev pub messagesOf : State → Messages
+messagesOf s = record { store = s .store; links = s .links; rows = s .rows }
+
+abbrev pub withMessages : State → Messages → State
+withMessages s m = withRows (withLinks (withStore s (m .store)) (m .links)) (m .rows)
+
+abbrev pub kept : State → Arrival → ℕ → State
+kept s a to = withMessages s (keepOf (messagesOf s) a to)
+
+-- ---- the same of what is by value: the pool and the answer
+
+abbrev pub refusedBy : Pool → Refusal → Called
+refusedBy p r = record { pool = p; answer = answer.Refused r }
+
+abbrev pub shownBy : Pool → Table → Table → Called
+shownBy p t rows = record { pool = p; answer = answer.Open (askedIn (p .turn .disk) (p .turn .at) t rows) }

@@ -1,0 +1,23 @@
+-- A step by what its marks gave: the point runs, or the order of a mark waits.
+use mathlib.Core.Path.{_≡_, sym, _∙_, ap}
+use mathlib.Core.Bool.{true, false}
+use Rattle.group.specs.declared.at.At.the-variants as at
+use Rattle.group.specs.declared.at.Point.{Point}
+use Rattle.turn.specs.State.{State, isFree}
+use Rattle.turn.specs.Go.{goOf}
+use Rattle.turn.specs.Step.{markAt, goFree, stepAt, stepOf}
+
+module _ (s : State) (p : Point) (at-is : s .pool .turn .at ≡ at.Runs p) (m : State) (marked : m ≡ markAt s p) where
+  steps : goFree m p ≡ stepOf s
+  unfolding stepOf
+  steps = ap (λ (x : State). goFree x p) marked ∙ ap (stepAt s) (sym at-is)
+
+  pub step-goes : (s' : State) → isFree (m .pool .turn .disk) ≡ true → s' ≡ goOf m p → s' ≡ stepOf s
+  step-goes s' free went =
+      let goes : goOf m p ≡ goFree m p = rw free in
+      went ∙ (goes ∙ steps)
+
+  pub step-stops : isFree (m .pool .turn .disk) ≡ false → m ≡ stepOf s
+  step-stops waits =
+      let stops : m ≡ goFree m p = rw waits in
+      stops ∙ steps
