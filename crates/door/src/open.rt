@@ -1,8 +1,5 @@
 // An opening: refused by its table; else the tables at the start, and the messages left in pending.
 ghost use mathlib.Core.Path.{_≡_};
-ghost use mathlib.Core.List.{List};
-ghost use Prim.Native.Nat.{ℕ};
-ghost use Rattle.lists.specs.Links.{Table};
 ghost use Rattle.door.specs.Open.{limitsFrom, newPool, noPool, filledBy, openOf};
 use actor::question::Asked;
 use actor::question::Question;

@@ -94,7 +94,7 @@ abbrev pub isLogged : Caller → Bool
 isLogged (caller.From who) = false
 isLogged caller.Nobody = true
 
--- every row of the table of open records is taken; no more than 256 messages live, so a free entry means a free row
+-- every row of the table of open records is taken; in a pool that an opening made, a free entry means a free row
 abbrev pub noRowFree : State → Bool
 noRowFree s = not (ltb (s .pool .turn .log .count) (length (s .records)))
 

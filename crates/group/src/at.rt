@@ -1,5 +1,5 @@
-// Where a turn stands: at a question, or between two. What is kept there is in the lists, the actors and the key
-// lists; the rest is here.
+// Where a turn stands: at rest, at a question, or at a point between two, with what it remembers there. All else is in
+// the lists, the actors and the key lists.
 ghost use mathlib.Core.Path.{_≡_};
 ghost use Rattle.group.specs.At.{whoOf, readyAfter, fixedAfter, evalAfter, nextGroup};
 use actor::question::Who;
@@ -60,7 +60,7 @@ pub enum Point {
     Settle(Cursor, Step),
     // its mail, where it never took a message, gets its marks; then the crashed message is tried again, or dead
     Crash(Cursor),
-    // a dead message gets its mark
+    // a dead message gets its mark; then Trap is asked
     AskTrap(Cursor),
     // those that were trapped are retired, at most so many more
     Doomed(Cursor, u64),

@@ -79,14 +79,19 @@ logged-is log log' rows rows' c m len e p q = rw (p, q, e) refl
 
 module _ (w after : Wal) (m : Message) (len : ℕ) (e : len ≡ length (recordLine m)) where
   pub appended-behind : leb (w .counters .size + len) (length (w .bytes)) ≡ true → after ≡ logged w m
-      → _≡_ {A = DidAppend} (record { wal = after; answer = Ordered (Append (w .counters .size) (w .counters .size + len)) })
+      → _≡_ {A = DidAppend} (record {
+        wal = after;
+        answer = Ordered (Append (w .counters .size)
+            (w .counters .size + len));
+      })
       (appended w m)
   unfolding appended
   appended-behind t a = let yes : leb (w .counters .size + length (recordLine m)) (length (w .bytes))
       ≡ true = rw e at t in cc
 
   pub appended-anew : leb (w .counters .size + len) (length (w .bytes)) ≡ false → after ≡ logged (compacted w) m
-      → _≡_ {A = DidAppend} (record { wal = after; answer = Ordered (Replace (w .counters .live + len)) }) (appended w m)
+      → _≡_ {A = DidAppend} (record { wal = after; answer = Ordered (Replace (w .counters .live + len)) })
+      (appended w m)
   unfolding appended
   appended-anew t a = let no : leb (w .counters .size + length (recordLine m)) (length (w .bytes)) ≡ false =
       rw e at t in cc

@@ -2,7 +2,6 @@
 ghost use mathlib.Core.Path.{_≡_};
 ghost use mathlib.Core.List.{List};
 ghost use Prim.Native.Nat.{ℕ};
-ghost use lib.ListN.{length};
 ghost use Rattle.lists.specs.Links.{Table};
 ghost use Rattle.pool.specs.Run.{waitersFrom, busyOf, answeredOf, runOf};
 use front::answer;

@@ -17,3 +17,4 @@ pub mod Opening
 pub mod Instance
 pub mod WrongPools
 pub mod Rail
+pub mod Stopping

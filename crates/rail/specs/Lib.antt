@@ -1,3 +1,4 @@
 -- Definitions and statements.
 pub mod Rail
 pub mod Refusals
+pub mod Stopping

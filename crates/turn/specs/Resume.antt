@@ -1,4 +1,4 @@
--- A reply to the turn's question leads to the next point; one that does not fit leaves the question open.
+-- A reply to the turn's question leads to the next point or question; one that does not fit leaves it open.
 use Rattle.actor.specs.declared.question.Reply.{Reply}
 use Rattle.actor.specs.declared.question.Reply.the-variants as reply
 use Rattle.actor.specs.declared.question.ClockIn.{ClockIn}

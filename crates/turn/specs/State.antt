@@ -172,7 +172,8 @@ unfoldable pub runningOf : Pool → Bool
 runningOf p = pick (isFree (p .turn .disk)) (runsAt (p .turn .at)) false
 
 -- Before these points run, what is over gets its mark, one order at a time. So what a step finished is marked, in its
--- order, before Sends is asked; what a crash or a retired neighbour left, before the next question.
+-- order, before Sends is asked, or before an eval actor is settled; and what routing, a crash or a retired neighbour
+-- left, before the turn goes on.
 unfoldable pub marksAt : Point → Bool
 marksAt (point.Seed g) = false
 marksAt (point.Intake left) = false

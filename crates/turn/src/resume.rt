@@ -1,5 +1,5 @@
-// A reply to the turn's question leads to the next point. A message that was sent is kept by the caller: here Sends
-// only ends.
+// A reply to the turn's question leads to the next point or question. A message that was sent is kept by the caller:
+// here Sends only ends.
 ghost use mathlib.Core.Path.{_≡_};
 ghost use mathlib.Core.List.{List};
 ghost use Prim.Native.Nat.{ℕ};

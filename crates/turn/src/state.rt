@@ -58,7 +58,7 @@ pub struct Pool {
     pub seeded: bool,
 }
 
-pub fn with_turn(pool: Pool, turn: Turn) -> Pool
+fn with_turn(pool: Pool, turn: Turn) -> Pool
     ensures { λ r. ⌜ r ≡ withTurn pool turn ⌝ }
 {
     let limits = pool.limits;
@@ -212,7 +212,7 @@ pub(crate) fn disk_free(pool: Pool) -> bool
 }
 
 // Whether the turn runs on by itself: no order waits, and it is between questions.
-pub fn running(pool: Pool) -> bool
+pub(crate) fn running(pool: Pool) -> bool
     ensures { λ r. ⌜ r ≡ runningOf pool ⌝ }
 {
     let turn = pool.turn;
