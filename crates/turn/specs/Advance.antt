@@ -1,6 +1,7 @@
--- Where the loop of a turn stops, without fuel and weights. A turn goes on from point to point while it runs; it stops exactly
--- where nothing runs: at a question, at an order, after a failed one, or with the turn over. `advanced` is the one
--- state that a state goes on to and where it stops. The proofs are `advances` and `advances-only`, in proofs/Advance.
+-- Where the loop of a turn stops, without fuel and weights. A turn goes on from point to point while it runs; it
+-- stops exactly where nothing runs: at a question, at an order, after a failed one, or with the turn over. `advanced`
+-- is the one state that a state goes on to and where it stops. The proofs are `advances` and `advances-only`, in
+-- proofs/Advance.
 use mathlib.Core.Path.{_≡_}
 use mathlib.Core.Bool.{true, false}
 use Rattle.turn.specs.State.{State, runningOf}
