@@ -1,11 +1,10 @@
 -- What the log did and what was made of its answer are together what an admission does. And an admission that its
 -- table lets through, as far as it needs nothing of the log, goes by what the log answers.
-use mathlib.Core.Path.{_≡_, refl, ap, _∙_}
-use mathlib.Core.Bool.{Bool, true, false, _||_}
+use mathlib.Core.Path.{_≡_, refl, sym, ap, _∙_}
+use mathlib.Core.Bool.{Bool, true, false, false≢true, _||_}
 use mathlib.Core.Option.{Option, some}
 use mathlib.Core.List.{List}
-use Prim.Native.Nat.{ℕ, _+_, _-_, _^_}
-use native.Mathlib.Omega.{arith}
+use Prim.Native.Nat.{ℕ, _+_, _-_, _^_, _≤_}
 use lib.Dec.{ltb, leb}
 use lib.ListN.{length}
 use borrow.Author.Tests.{ltb-false, le-leb}
@@ -26,7 +25,7 @@ use Rattle.front.specs.declared.answer.Called.{Called}
 use Rattle.front.specs.declared.answer.Refusal.{Refusal}
 use Rattle.front.specs.declared.refusals.Check.the-variants as check
 use Rattle.front.specs.Answers.{Did, logRefusal, refused}
-use Rattle.front.specs.Refusals.{judged, byTable, admitRefusalsFirst}
+use Rattle.front.specs.Refusals.{judged, byTable, tooLong, admitRefusalsFirst}
 use Rattle.front.specs.Refusals.{admitRefusalsLogged}
 use Rattle.front.proofs.RefusalLaws.{first-refuses, first-fine, fine-clear}
 use Rattle.door.specs.Admit.{loggedBy, admitLogged, admitCalled, admitOf}
@@ -175,20 +174,22 @@ module _ (s : State) (name body : List ℕ) (short : fits (newMessage (walOf s) 
       by-row true e = by-id e hasId refl
       by-row false e = full e
 
-or-false-both : (a b : Bool) → (a || b) ≡ false → (a ≡ false) × (b ≡ false)
-or-false-both true b e = let z : _≡_ {A = ℕ} 0 1 = cc in absurd (omega arith)
-or-false-both false b e = (refl, e)
+-- a name and a body that are not too long
+pub short-both : (name body : List ℕ) → tooLong name body ≡ false → (length name ≤ 32) × (length body ≤ 128)
+short-both name body e = go (ltb 32 (length name)) refl e
+  where
+    go : (a : Bool) → ltb 32 (length name) ≡ a → (a || ltb 128 (length body)) ≡ false
+        → (length name ≤ 32) × (length body ≤ 128)
+    go true is e = absurd (false≢true (sym e))
+    go false is e = (ltb-false 32 (length name) is, ltb-false 128 (length body) e)
 
 -- where no line of the first part holds, name and body are short enough for the log
 short-enough : (s : State) (name body : List ℕ) → judged (admitRefusalsFirst s name body) ≡ check.Fine
     → fits (newMessage (walOf s) name body) ≡ true
 unfolding fits admitRefusalsFirst
 short-enough s name body says =
-    let long = or-false-both (ltb 32 (length name)) (ltb 128 (length body))
-    (fine-clear (admitRefusalsFirst s name body) says .1 .1 .0) in
-    let n = le-leb (length name) 32 (ltb-false 32 (length name) (long .0)) in
-    let b = le-leb (length body) 128 (ltb-false 128 (length body) (long .1)) in
-    simp (n, b)
+    let short = short-both name body (fine-clear (admitRefusalsFirst s name body) says .1 .1 .0) in
+    simp (le-leb (length name) 32 (short .0), le-leb (length body) 128 (short .1))
 
 module _ (s : State) (name body : List ℕ) (did : Did) where
   pub admit-refused : (who : Caller) (r : Refusal) → judged (admitRefusalsFirst s name body) ≡ check.Refuse r

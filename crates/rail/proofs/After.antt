@@ -31,7 +31,7 @@ use Rattle.front.specs.declared.refusals.Check.{Check}
 use Rattle.front.specs.declared.refusals.Check.the-variants as check
 use Rattle.front.specs.Answers.{Did, refused, shown}
 use Rattle.front.specs.Refusals.{judged, byTable, inTurn, isMessage, fitsIn, noEntryFree}
-use Rattle.front.specs.Refusals.{turnRefusals, replyRefusals, syncRefusals, closeRefusals}
+use Rattle.front.specs.Refusals.{turnRefusals, replyRefusals, syncRefusals}
 use Rattle.pool.specs.Run.{answeredOf}
 use Rattle.rail.specs.Rail.{Call, World, moved, unordered, Shown, nothing, shows, ordersIn, orderIn}
 use Rattle.rail.specs.Rail.{ofMark, purposeOf, outOfPlaces, OrderFits, orderedFor, ordered, answered, accepted}
@@ -250,11 +250,6 @@ pub sync-fine : (p : Pool) → judged (syncRefusals p) ≡ check.Fine → p .tur
 unfolding syncRefusals
 sync-fine p fine =
     let clear = fine-clear (syncRefusals p) fine in is-free (p .turn .disk) (clear .0) (clear .1 .0)
-
-pub close-fine : (p : Pool) → judged (closeRefusals p) ≡ check.Fine → p .turn .disk ≡ order.Free
-unfolding syncRefusals
-close-fine p fine =
-    let clear = fine-clear (closeRefusals p) fine in is-free (p .turn .disk) (clear .0) (clear .1 .0)
 
 pub reply-fine : (s : State) (r : Reply) (name body : List ℕ) → judged (replyRefusals s r name body) ≡ check.Fine
     → (fitsIn (openIn s) r ≡ true) × ((isMessage r && noEntryFree (s .links)) ≡ false)

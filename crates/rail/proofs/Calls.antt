@@ -1,7 +1,7 @@
 -- Every call keeps the invariant, keeps the log's bytes behind its size, and orders what fits it; and the size is the
 -- file's length. Assumes nothing.
 use mathlib.Core.Path.{_≡_, sym, ap, _∙_, subst}
-use mathlib.Core.Bool.{true}
+use mathlib.Core.Bool.{true, false≢true}
 use mathlib.Core.List.{List, [], _∷_}
 use Prim.Native.Nat.{ℕ}
 use native.Mathlib.Omega.{arith}
@@ -15,7 +15,7 @@ use Rattle.rail.specs.Rail.{Call, admit, turn, reply, sync, close, callO
 use Rattle.rail.specs.Rail.{accepted, orderIn, SizeIs, KeepsTail, CallKeepsTail, OrderFits, CallOrderFits}
 use Rattle.rail.proofs.Invariant.{Steady}
 use Rattle.rail.proofs.After.{orderOf, Ends, turned, took, ends-steady}
-use Rattle.rail.proofs.Shown.{never, order-shown}
+use Rattle.rail.proofs.Shown.{order-shown}
 use Rattle.rail.proofs.Admit.{admit-ends}
 use Rattle.rail.proofs.Replies.{turn-ends, reply-ends, sync-ends, close-ends}
 
@@ -75,7 +75,7 @@ module _ (long : ℕ) (limits : Limits) (w : World) (c : Call) where
   -- the order shown is the one that waits
   ends-fits : (d : Did) → Ends long limits w c d → accepted (d .answer) ≡ true
       → orderIn (d .answer) ≡ orderOf (d .state .pool .turn .disk) → OrderFits w c (d .state) (orderIn (d .answer))
-  ends-fits d (turned r is) ok shown = absurd (never (sym (ap (λ (e : Did). accepted (e .answer)) is) ∙ ok))
+  ends-fits d (turned r is) ok shown = absurd (false≢true (sym (ap (λ (e : Did). accepted (e .answer)) is) ∙ ok))
   ends-fits d (took was tail fits after) ok shown = subst (OrderFits w c (d .state)) (sym shown) fits
 
   pub order-fits : Steady long limits w → CallOrderFits w c

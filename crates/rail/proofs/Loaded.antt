@@ -40,6 +40,7 @@ use Rattle.front.specs.Refusals.{judged, noEntryFree, inTurn, isMessage, admitR
 use Rattle.front.specs.Refusals.{admitRefusals, turnRefusals, replyRefusals, syncRefusals, closeRefusals}
 use Rattle.door.specs.Admit as door
 use Rattle.door.specs.Loaded.{LoadedAt}
+use Rattle.door.proofs.AdmitLaws.{short-both}
 use Rattle.door.proofs.Names.{kept-loaded, unloaded-lost}
 use Rattle.pool.specs.declared.calls.StoredIn.{StoredIn}
 use Rattle.pool.specs.declared.calls.StoredIn.the-variants as stored
@@ -51,7 +52,7 @@ use Rattle.rail.specs.Rail.{ComesLoaded, AcceptsLoaded, RefusesUnloaded}
 use Rattle.rail.proofs.After.{answered-rule, table-rule}
 use Rattle.rail.proofs.Running.{Lasting, lastingOf, Aside, run-lasting}
 use Rattle.rail.proofs.Shown.{resumed-aside}
-use Rattle.rail.proofs.Refusals.{Says, refuse-says, Fine, fine-check, short-both, fine-appends, by-the-table}
+use Rattle.rail.proofs.Refusals.{Says, refuse-says, Fine, fine-check, fine-appends, by-the-table}
 
 -- ---- what an admission leaves
 

@@ -1,13 +1,13 @@
 -- Every call goes by its table of refusals (statement: specs/Refusals.antt): what a table says, that a table which
 -- refuses nothing has the log refuse nothing, and that no other effect refuses. Assumes nothing.
 use mathlib.Core.Path.{_≡_, refl, sym, ap, _∙_, subst}
-use mathlib.Core.Bool.{Bool, true, false, false≢true, _||_}
+use mathlib.Core.Bool.{Bool, true, false, false≢true}
 use mathlib.Core.Logic.{_⊎_, inl, inr}
 use mathlib.Core.List.{List, [], _∷_}
 use Prim.Native.Nat.{ℕ, _+_, _-_, _^_, _≤_}
 use native.Mathlib.Omega.{arith}
-use borrow.Author.Tests.{ltb-true, ltb-false, leb-true, lt-ltb, eqb-false, not-false}
-use lib.Dec.{eqb, ltb, leb}
+use borrow.Author.Tests.{ltb-true, leb-true, lt-ltb, eqb-false, not-false}
+use lib.Dec.{eqb, leb}
 use lib.ListN.{length}
 use Rattle.text.specs.Format.{Message, recordLine}
 use Rattle.lists.specs.Links.{pick}
@@ -37,11 +37,12 @@ use Rattle.front.specs.declared.refusals.Check.{Check}
 use Rattle.front.specs.declared.refusals.Check.the-variants as check
 use Rattle.front.specs.Answers as front
 use Rattle.front.specs.Answers.{numberOf, shown}
-use Rattle.front.specs.Refusals.{Line, judged, byTable, JudgedBy, Lent, fileIn, tooLong, tablesFit, logSized}
+use Rattle.front.specs.Refusals.{Line, judged, byTable, JudgedBy, Lent, fileIn, tablesFit, logSized}
 use Rattle.front.specs.Refusals.{openRefusalsFirst, openRefusalsLogged, openRefusals, admitRefusalsFirst}
 use Rattle.front.specs.Refusals.{admitRefusalsLogged, admitRefusals, inTurn, isMessage, noEntryFree, isFailed}
 use Rattle.front.specs.Refusals.{isWaiting}
 use Rattle.front.proofs.RefusalLaws.{fine-clear}
+use Rattle.door.proofs.AdmitLaws.{short-both}
 use Rattle.door.specs.Open.{noLeft, filledBy, openedBy, openEffect, openOf}
 use Rattle.door.specs.Admit.{loggedIn, loggedBy, admitLogged, admitCalled, admitEffect, admitOf}
 use Rattle.pool.specs.declared.calls.StoredIn.{StoredIn}
@@ -134,15 +135,6 @@ pub is-free : (d : Disk) → isFailed d ≡ false → isWaiting d ≡ false → 
 is-free disk.Free failed waits = refl
 is-free (disk.Waits o for) failed waits = absurd (false≢true (sym waits))
 is-free disk.Failed failed waits = absurd (false≢true (sym failed))
-
--- neither name nor body is too long
-pub short-both : (name body : List ℕ) → tooLong name body ≡ false → (length name ≤ 32) × (length body ≤ 128)
-short-both name body e = go (ltb 32 (length name)) refl e
-  where
-    go : (a : Bool) → ltb 32 (length name) ≡ a → (a || ltb 128 (length body)) ≡ false
-        → (length name ≤ 32) × (length body ≤ 128)
-    go true is e = absurd (false≢true (sym e))
-    go false is e = (ltb-false 32 (length name) is, ltb-false 128 (length body) e)
 
 -- the log has an order for it, with the next id one further
 pub record Appends (w : Wal) (d : wal.DidAppend) : Type 0 where

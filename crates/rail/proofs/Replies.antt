@@ -50,7 +50,7 @@ use Rattle.rail.proofs.Invariant.{Agrees, Ledger, Working, Steady}
 use Rattle.rail.proofs.Running.{Lasting, lastingOf, Aside, moved-works, run-lasting, run-runs}
 use Rattle.rail.proofs.After.{orderOf, orderedIn, Marking, Ends, turned, took, still-steady, rest-steady}
 use Rattle.rail.proofs.After.{runs-steady, none-fits, runs-fits, runs-tail, call-sound, shown-rule}
-use Rattle.rail.proofs.After.{answered-rule, table-rule, turn-fine, sync-fine, close-fine, reply-fine}
+use Rattle.rail.proofs.After.{answered-rule, table-rule, turn-fine, sync-fine, reply-fine}
 use Rattle.rail.proofs.Shown.{Waiting, FitsOn, reply-fits, resume-aside, resumed-aside}
 use Rattle.rail.proofs.Admit.{kept-arrives, unlogged-works}
 
@@ -244,7 +244,7 @@ module _ (long : ℕ) (limits : Limits) (w : World) (steady : Steady long limits
   unfolding callOf pool.closeOf
   close-ends =
       table-rule (Ends long limits w close) s (judged (closeRefusals p)) _ (λ r. turned r refl)
-      (λ fine. rest-ends long limits w close (withPool s (closedPool p)) j refl refl refl (close-fine p fine)
+      (λ fine. rest-ends long limits w close (withPool s (closedPool p)) j refl refl refl (sync-fine p fine)
       closed-works (steady .ledger) (steady .limits-are))
 
   synced-ends : p .turn .disk ≡ order.Free → Syncs (p .turn .log) (log.syncOf (p .turn .log))

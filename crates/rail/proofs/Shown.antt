@@ -60,12 +60,9 @@ use Rattle.rail.proofs.After.{orderOf, table-rule, turn-fine, reply-fin
 unfoldable pub Shows : Did → Type 0
 Shows d = accepted (d .answer) ≡ true → orderIn (d .answer) ≡ orderOf (d .state .pool .turn .disk)
 
-pub never : false ≡ true → ⊥
-never = false≢true
-
 refused-shows : (s : State) (r : Refusal) → Shows (refused s r)
 unfolding Shows
-refused-shows s r ok = absurd (never ok)
+refused-shows s r ok = absurd (false≢true ok)
 
 -- ---- what is open
 
@@ -130,7 +127,7 @@ shown-shows s ok = disk-shows (s .pool .turn .disk) (s .pool .turn .at) (s .link
 turn-fits : (a : Asked) (r : Reply) → OfTurn a → fitsIn a r ≡ true → kindOf r < 7
 unfolding fitsOf
 turn-fits (asked.Open q) r is fits = omega (arith, is .1, eqb-true (kindWanted q) (kindOf r) fits)
-turn-fits asked.Nothing r is fits = absurd (never fits)
+turn-fits asked.Nothing r is fits = absurd (false≢true fits)
 
 -- a reply to an order is of the order's kind, and no other is
 abbrev OfKind : StoredIn → ℕ → Type 0
@@ -181,7 +178,7 @@ reply-fits s r fits = go (s .pool .turn .disk) (storedIn r) (reply-kind r) fits
     go (order.Waits o for) stored.Stored kind e = record { out = o; for = for; is = refl }
     go (order.Waits o for) stored.Failed kind e = record { out = o; for = for; is = refl }
     go (order.Waits o for) stored.Other kind e = absurd (omega (arith, eqb-true 7 (kindOf r) e))
-    go order.Failed x kind e = absurd (never e)
+    go order.Failed x kind e = absurd (false≢true e)
 
 -- ---- a run
 
@@ -198,7 +195,7 @@ step-moving s run moves =
 
 free-none : (d : Disk) → isFree d ≡ true → orderOf d ≡ nothing
 free-none order.Free e = refl
-free-none (order.Waits o for) e = absurd (never e)
+free-none (order.Waits o for) e = absurd (false≢true e)
 free-none order.Failed e = refl
 
 answered-shows : (s : State) → Moving s → Shows (answeredOf s)
@@ -207,7 +204,7 @@ answered-shows s moves = pick-rule Shows (inTurn (s .pool .turn .at)) (λ e. sho
   where
     rest : Moving s → inTurn (s .pool .turn .at) ≡ false → nothing ≡ orderOf (s .pool .turn .disk)
     rest (inl free) e = sym (free-none (s .pool .turn .disk) free)
-    rest (inr moves) e = absurd (never (sym e ∙ moves))
+    rest (inr moves) e = absurd (false≢true (sym e ∙ moves))
 
 run-shows : (s : State) → s .pool .turn .disk ≡ order.Free → Shows (runOf s)
 unfolding runOf
