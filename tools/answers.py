@@ -26,7 +26,8 @@ A line of tools/answers.txt says otherwise for one function, where that reading 
 
 `unfold=` (nothing behind it: none) in place of the contract's definitions, those of a crate below as
 crate.Module.name; for a test or `match` (every match of the function) `raw` takes what it says as it stands, and
-`all` rewrites it by every call before it.
+`all` rewrites it by every call before it. `ends=all`: the result is rewritten by every call on the way, and not only
+by those that it is made of (as where a call reads the state that the contract speaks of).
 
 A contract may hold for all values of something, `⌜ ((x : A) (y z : B) → ..) ⌝`: the answer takes them behind `c`.
 
@@ -99,7 +100,8 @@ class Function:
 
     def flow(self):
         """For each local, the calls whose results it may hold or be made of."""
-        self.of, self.taken, self.changing, count, edges = {}, {}, set(), {}, []
+        self.of, self.taken, self.path, self.changing, count, edges = {}, {}, {}, set(), {}, []
+        self.stored = set()
         for text in self.blocks:
             places = [int(n) for n in re.findall(r'Syntax\.place (\d+)', text)]
             if m := re.search(r'Syntax\.call "([^"]*)"', text):
@@ -107,10 +109,12 @@ class Function:
                 count[base] = count.get(base, 0) + 1
                 name = base if count[base] == 1 else f'{base}{count[base]}'
                 self.of.setdefault(places[-1], set()).add(name)
-                self.taken[name] = places[:-1]
+                self.taken[name], self.path[name] = places[:-1], m.group(1)
                 edges.append((places[-1], places[:-1]))
             elif 'Syntax.assign' in text and places:
                 edges.append((places[0], places[1:]))
+                if re.search(r'Syntax\.assign \(Syntax\.place \d+ \(List\._∷_ \(?Syntax\.deref', text):
+                    self.stored.add(places[0])
         changed = True
         while changed:
             changed = False
@@ -140,7 +144,7 @@ class Function:
 
     def in_the_end(self, calls):
         """Of the calls on the way, as (name, place), those that the result and the changed slices are made of."""
-        out = set(self.of.get(0, set()))
+        out = set(self.of.get(0, set())).union(*(self.of.get(local, set()) for local in self.stored))
         for name, place in calls:
             if place in self.changing:
                 out |= {name}.union(*(self.of.get(local, set()) for local in self.taken.get(name, [])))
@@ -187,13 +191,13 @@ def lines(function, calls, facts, options):
         takes = {'raw': lambda call: False, 'all': lambda call: True}.get(option, lambda call: call[0] in made_of)
         through.append([at for at in range(before) if takes(calls[at])])
     wanted = function.in_the_end([call[:2] for call in calls])
-    ends = [at for at, call in enumerate(calls) if call[0] in wanted]
+    ends = [at for at, call in enumerate(calls) if call[0] in wanted or options.get('ends') == 'all']
     used = sorted(set(ends).union(*through))
     e = {at: f'e{number + 1}' for number, at in enumerate(used)}
     out, shown = [], 0
 
     changing = [at for at in ends if calls[at][1] in function.changing]
-    parts = {at for at in changing if records(calls[at][0])}
+    parts = {at for at in changing if records(function.path[calls[at][0]])}
 
     def shows(at):
         # a record's equation is used from right to left, so what goes into the call is first said as the goal says it
@@ -212,7 +216,7 @@ def lines(function, calls, facts, options):
     # the one call that changes something, if it is the last and gives the result too
     whole = function.packed and changing == [len(calls) - 1] and calls[-1][0] in function.of.get(0, set())
     last = e[changing[0]] if whole else None
-    for_all = ' _' * len(bound(source_of(calls[-1][0])).split()) if whole else ''
+    for_all = ' _' * len(bound(source_of(function.path[calls[-1][0]])).split()) if whole else ''
     names = [('← ' if at in parts else '') + e[at] for at in ends if e[at] != last]
     names += [f'h{number + 1}' for number in range(len(facts))]
     by = [f'simp ({", ".join(names)})'] if names else []
@@ -220,21 +224,15 @@ def lines(function, calls, facts, options):
     return out + show(len(calls)) + [' '.join(by + ends_in) or 'refl']
 
 
-def source_of(call):
-    """The text of what a function ensures, by the name of a call of it."""
-    name = re.sub(r'\d+$', '', call).replace('-', '_')
-    for top, _, files in os.walk('crates'):
-        for file in sorted(files):
-            if file.endswith('.rt') and top.split('/')[2:3] == ['src']:
-                ensures = ensured(os.path.join(top, file), name)
-                if ensures:
-                    return ensures
-    return ''
+def source_of(path):
+    """The text of what a function ensures, by its path: CRATE::MODULE::FUNCTION, or CRATE::FUNCTION."""
+    crate, *module, name = path.split('::')
+    return ensured(f'crates/{crate}/src/{"/".join(module) or "lib"}.rt', name)
 
 
-def records(call):
+def records(path):
     """Whether a function ensures an equation of a record of the slices that it changes."""
-    return 'record {' in source_of(call).split('≡')[0]
+    return 'record {' in source_of(path).split('≡')[0]
 
 
 def ensured(source, name):
@@ -326,6 +324,7 @@ def write(crate, fn, folder):
     lemmas = sorted({lemma for pair in TESTS.values() for lemma in pair if f'{lemma} _ _ (' in text})
     uses = [f'use {specs(crate, module)}.{{{name}}}' for module, name in names]
     uses += [f'use borrow.Author.Tests.{{{", ".join(lemmas)}}}'] if lemmas else []
+    uses += ['use mathlib.Core.Path.{refl}'] if re.search(r'^ +refl$', text, re.M) else []
     lines = [line for line in text.split('\n') if not line.startswith('use borrow.Author.Tests.')]
     if 'search needs' not in text:
         lines = [line for line in lines if line != 'use borrow.Author.Needs.{needs}']

@@ -19,7 +19,7 @@ takes and gives it so."""
 import os, re, sys
 sys.path.insert(0, os.path.dirname(__file__))
 from ctx import Ctx, locals_of, leave, tidy
-from source import Source, element, codomain, outside
+from source import Source, element, codomain, declared_below, outside
 
 def nest(xs): return '(' + ', ('.join(xs) + ', tt' + ')' * len(xs) if xs else 'tt'
 def nestT(xs): return ' × ('.join(xs) + ' × Unit {0}' + ')' * (len(xs) - 1)
@@ -151,9 +151,15 @@ def promise(fn, values, exits, entries, result):
         return re.sub(r'(?<![\w.])(\w+)\b(?! =)', lambda m: means.get(m.group(1), m.group(1)), t)
     own = fn.source.crate
     head = re.match(r'\w+', fn.right).group(0)
-    type_, where = codomain(own, head)
+    below = re.match(r'Rattle·(\w+)\.specs', fn.source.ghost.get(head, ''))
+    home_of = below.group(1) if below else own
+    type_, where = codomain(home_of, head)
     if where:
-        bring(outside(where, own, crate), type_)
+        bring(outside(where, home_of, crate), type_)
+    elif declared_below(home_of, type_):
+        bring(declared_below(home_of, type_), type_)
+    elif below:
+        bring(f'Rattle.{home_of}.specs.declared.{type_}', type_)
     elif type_ not in (RESULT.name, COUNTERS.name, ANSWER.name):
         d = Source(own, fn.source.module).declared(type_)
         bring(d.module(crate, 'specs.declared'), d.name)
@@ -544,7 +550,7 @@ for p in order:
         zs += f' (z{p.i} : {p.list})'
     last = p.list
 arrows = lambda xs: ''.join(f'{x} → ' for x in xs)
-lfts = f" ({' '.join(f'κ{p.i}' for p in slices)} : Lft) ({' '.join(f'q{p.i}' for p in slices)} : Share)"
+lfts = f" ({' '.join(f'κ{p.i}' for p in slices)} : Lft) ({' '.join(f'q{p.i}' for p in slices)} : Share)" if slices else ''
 text = f'''
 abbrev R : RattleType
 R = T.the-row

@@ -94,3 +94,10 @@ def codomain(crate, head):
                     return name, f"Rattle.{crate}.specs.{other.split('/')[-1][:-5]}"
             below = re.search(rf'^use (Rattle·[^·\s]+\.specs\.[^·\s]+)\.\{{[^}}]*\b{re.escape(name)}\b[^}}]*\}}', open(file).read(), re.M)
             return name, below.group(1) if below and 'declared' not in below.group(1) else None
+
+def declared_below(crate, name):
+    """the module of a struct or an enum of a crate below, as the definitions of `crate` bring it in, or None"""
+    for file in sorted(glob.glob(f'crates/{crate}/specs/*.antt')):
+        m = re.search(rf'^use (Rattle·\w+\.specs\.declared\.[\w.]+)\.\{{{name}\}}$', open(file).read(), re.M)
+        if m:
+            return m.group(1)

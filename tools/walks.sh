@@ -14,6 +14,6 @@ wal mark SteppedDue Due due Log:DidMark,state,markOf \
     'log:mut:u8 records:mut:rows limit:usize id:struct:LogId'
 wal sync SteppedDue Due due Log:syncOf '_≡_ {A = SteppedDue} (record { counters = P; due = R }) (syncOf X)' ''
 python3 tools/looped.py
-python3 tools/site.py door admit admit_logged AdmitLaws.admitted
-python3 tools/site.py turn step mark_id MarkLaws.marked-id
-python3 tools/site.py pool calls sync_log SyncLaws.synced
+python3 tools/site.py turn logged append LoggedLaws.appended-log
+python3 tools/site.py turn logged mark LoggedLaws.marked-log
+python3 tools/site.py turn logged sync LoggedLaws.synced-log

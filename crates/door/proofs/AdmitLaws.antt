@@ -1,5 +1,5 @@
--- What the log did and what was made of its answer are together what an admission does. And an admission that its
--- table lets through, as far as it needs nothing of the log, goes by what the log answers.
+-- An admission that is logged, by what the log's words say. And an admission that its table lets through, as far as it
+-- needs nothing of the log, goes by what the log answers.
 use mathlib.Core.Path.{_≡_, refl, sym, ap, _∙_}
 use mathlib.Core.Bool.{Bool, true, false, false≢true, _||_}
 use mathlib.Core.Option.{Option, some}
@@ -9,98 +9,75 @@ use lib.Dec.{ltb, leb}
 use lib.ListN.{length}
 use borrow.Author.Tests.{ltb-false, le-leb}
 use Rattle.text.specs.Format.{recordLine}
-use Rattle.lists.specs.Links.{Table}
-use Rattle.log.specs.declared.Counters.{Counters}
-use Rattle.log.specs.declared.Answer.{Answer}
+use Rattle.log.specs.declared.Due.{Due}
+use Rattle.log.specs.declared.Due.the-variants as due
 use Rattle.log.specs.declared.Refusal as of-log
 use Rattle.log.specs.declared.Refusal.the-variants as logged
 use Rattle.log.specs.Opening.{fits}
-use Rattle.log.specs.Log.{state, DidAppend, newMessage, appendRefusal, appendJudged, appendOf}
+use Rattle.log.specs.Log.{DidAppend, newMessage, appendRefusal, appendJudged, appendOf}
 use Rattle.actor.specs.declared.message.Caller.{Caller}
 use Rattle.actor.specs.declared.message.Caller.the-variants as caller
 use Rattle.actor.specs.declared.message.CallerId.{CallerId}
-use Rattle.turn.specs.declared.state.Pool.{Pool}
-use Rattle.turn.specs.State.{State, walOf}
-use Rattle.front.specs.declared.answer.Called.{Called}
+use Rattle.actor.specs.declared.message.Logged.the-variants as id
+use Rattle.routing.specs.Intake.{INBOX}
+use Rattle.turn.specs.declared.state.What.the-variants as what
+use Rattle.turn.specs.State.{State, walOf, withPool, withLog, withDisk, diskFor}
+use Rattle.turn.specs.Words.{isDue}
+use Rattle.turn.specs.Logged.{answerBy}
 use Rattle.front.specs.declared.answer.Refusal.{Refusal}
 use Rattle.front.specs.declared.refusals.Check.the-variants as check
-use Rattle.front.specs.Answers.{Did, logRefusal, refused}
+use Rattle.setup.specs.Entry.{Messages, keepOf}
+use Rattle.front.specs.Answers.{Did, logRefusal, refused, shown, messagesOf, withMessages, kept}
 use Rattle.front.specs.Refusals.{judged, byTable, tooLong, admitRefusalsFirst}
 use Rattle.front.specs.Refusals.{admitRefusalsLogged}
 use Rattle.front.proofs.RefusalLaws.{first-refuses, first-fine, fine-clear}
-use Rattle.door.specs.Admit.{loggedBy, admitLogged, admitCalled, admitOf}
+use Rattle.door.specs.Admit.{nextId, loggedIn, loggedBy, admitLogged, admitCalled, admitOf}
 
-pub admitted : (p : Pool) (bytes bytes' : List ℕ) (records records' : Table) (store store' : List ℕ)
-    (t t' rows rows' : Table) (name body : List ℕ) (n : Counters) (a : Answer) (r : Called)
-    → _≡_ {A = DidAppend} (record { wal = state bytes' records' n; answer = a })
-    (appendOf (state bytes records (p .turn .log)) name body)
-    → ((after before : List ℕ) (recordsAfter recordsBefore groups keys actors : Table)
-    → _≡_ {A = Did} (record {
-      state = record {
-        pool = r .pool;
-        bytes = after;
-        records = recordsAfter;
-        store = store';
-        groups = groups;
-        links = t';
-        rows = rows';
-        keys = keys;
-        actors = actors;
-      };
-      answer = r .answer;
-    })
-    (loggedBy (record {
-      pool = p;
-      bytes = before;
-      records = recordsBefore;
-      store = store;
-      groups = groups;
-      links = t;
-      rows = rows;
-      keys = keys;
-      actors = actors;
-    }) name body
-    (record { wal = state after recordsAfter n; answer = a })))
-    → (groups keys actors : Table)
-    → _≡_ {A = Did} (record {
-      state = record {
-        pool = r .pool;
-        bytes = bytes';
-        records = records';
-        store = store';
-        groups = groups;
-        links = t';
-        rows = rows';
-        keys = keys;
-        actors = actors;
-      };
-      answer = r .answer;
-    })
-    (admitLogged (record {
-      pool = p;
-      bytes = bytes;
-      records = records;
-      store = store;
-      groups = groups;
-      links = t;
-      rows = rows;
-      keys = keys;
-      actors = actors;
-    }) name body)
-unfolding admitLogged
-admitted p bytes bytes' records records' store store' t t' rows rows' name body n a r did answered groups keys actors =
-    let s : State = record {
-      pool = p;
-      bytes = bytes;
-      records = records;
-      store = store;
-      groups = groups;
-      links = t;
-      rows = rows;
-      keys = keys;
-      actors = actors;
-    } in
-    answered bytes' bytes records' records groups keys actors ∙ ap (loggedBy s name body) did
+-- ---- by what the log answered
+
+-- an order is due: the message is in the inbox, with its record ordered
+logged-ordered : (s : State) (name body : List ℕ) (d : DidAppend) (o : Due) (r : of-log.Refusal)
+    → d .answer ≡ answerBy o r → isDue o ≡ true
+    → shown
+    (kept
+    (withLog (withPool s (withDisk (s .pool) (d .wal .counters) (diskFor o what.Record))) (d .wal .bytes)
+    (d .wal .table))
+    (record { name = name; body = body; caller = caller.Nobody; id = id.As (nextId s) })
+    INBOX)
+    ≡ loggedBy s name body d
+unfolding loggedBy isDue answerBy
+logged-ordered s name body d (due.Ordered o) r is ordered = ap (loggedIn s name body d) (sym is)
+logged-ordered s name body d due.Nothing r is ordered = absurd (false≢true ordered)
+
+pub logged-kept : (s : State) (name body : List ℕ) (d : DidAppend) (o : Due) (r : of-log.Refusal) (m : Messages)
+    → d .answer ≡ answerBy o r → isDue o ≡ true
+    → m
+    ≡ keepOf (messagesOf s)
+    (record { name = name; body = body; caller = caller.Nobody; id = id.As (nextId s) })
+    INBOX
+    → shown
+    (withMessages
+    (withLog (withPool s (withDisk (s .pool) (d .wal .counters) (diskFor o what.Record))) (d .wal .bytes)
+    (d .wal .table))
+    m)
+    ≡ loggedBy s name body d
+logged-kept s name body d o r m is ordered keeps =
+    ap
+    (λ (x : Messages). shown
+    (withMessages
+    (withLog (withPool s (withDisk (s .pool) (d .wal .counters) (diskFor o what.Record))) (d .wal .bytes)
+    (d .wal .table))
+    x))
+    keeps
+    ∙ logged-ordered s name body d o r is ordered
+
+-- none is due: it is refused
+pub logged-refused : (s : State) (name body : List ℕ) (d : DidAppend) (o : Due) (r : of-log.Refusal)
+    → d .answer ≡ answerBy o r → isDue o ≡ false
+    → refused (withLog s (d .wal .bytes) (d .wal .table)) (logRefusal r) ≡ loggedBy s name body d
+unfolding loggedBy isDue answerBy
+logged-refused s name body d (due.Ordered o) r is none = absurd (false≢true (sym none))
+logged-refused s name body d due.Nothing r is none = ap (loggedIn s name body d) (sym is)
 
 -- ---- by the table
 

@@ -4,19 +4,55 @@ use mathlib.Core.Bool.{Bool, true, false, _&&_}
 use mathlib.Core.List.{List}
 use Prim.Native.Nat.{ℕ, _^_}
 use lib.Dec.{ltb, leb}
-use lib.ListN.{length}
-use Rattle.lists.specs.Links.{Table}
+use lib.ListN.{length, replicate}
+use Rattle.lists.specs.Links.{Table, startFrom}
+use Rattle.lists.specs.KeyLists.{blankRow}
+use Rattle.log.specs.declared.Order.{Order}
 use Rattle.log.specs.declared.Refusal as of-log
 use Rattle.log.specs.declared.Refusal.the-variants as logged
 use Rattle.log.specs.Opening as of-file
 use Rattle.log.specs.Opening.{readFile, allFit, judge, opening}
 use Rattle.log.specs.Opened as log
+use Rattle.actor.specs.declared.question.Question.the-variants as question
+use Rattle.actor.specs.declared.question.Asked.the-variants as asked
+use Rattle.group.specs.declared.at.At.{At}
+use Rattle.setup.specs.Settings.{groupsFrom}
+use Rattle.setup.specs.Tables.{Placed, putLeft}
+use Rattle.turn.specs.declared.state.What.{What}
+use Rattle.turn.specs.declared.state.What.the-variants as what
+use Rattle.turn.specs.declared.state.Disk.{Disk}
+use Rattle.turn.specs.declared.state.Disk.the-variants as disk
+use Rattle.turn.specs.State.{Pool, newPool}
+use Rattle.turn.specs.Asks.{askedIn}
+use Rattle.front.specs.declared.answer.Answer.{Answer}
+use Rattle.front.specs.declared.answer.Answer.the-variants as answer
 use Rattle.front.specs.declared.answer.Refusal.{Refusal}
 use Rattle.front.specs.declared.refusals.Check.the-variants as check
 use Rattle.front.specs.Answers.{Did, logRefusal, refused}
 use Rattle.front.specs.Refusals.{Lent, fileIn, logSized, judged, byTable, openRefusalsFirst, openRefusalsLogged}
 use Rattle.front.proofs.RefusalLaws.{first-refuses, first-fine}
-use Rattle.door.specs.Open.{noLeft, unopened, openedBy, openEffect, openOf}
+use Rattle.door.specs.Open.{limitsFrom, Tables, Found, Filled, filledBy, noLeft, unopened, openedBy, openEffect, openOf}
+
+-- the tables filled one by one, with the pool and the answer
+pub filled : (f : Found) (o : Order) (t : Tables) (groups links rows keys : Table) (p : Pool) (a : Answer)
+    → groups ≡ groupsFrom (f .settings .«max_actors») (t .groups) (f .given)
+    → _≡_ {A = Placed} (record { links = links; rows = rows })
+    (putLeft (startFrom 0 (length (t .links))) (t .rows) (f .left) 0 (f .counters .count))
+    → keys ≡ replicate (length (t .keys)) blankRow
+    → p ≡ newPool (limitsFrom (f .settings) (length (f .given))) (f .counters) (disk.Waits o what.Nothing)
+    → a ≡ answer.Open (asked.Open (question.Store o))
+    → _≡_ {A = Filled}
+    (record { groups = groups; links = links; rows = rows; keys = keys; pool = p; answer = a })
+    (filledBy f o t)
+unfolding filledBy
+filled f o t groups links rows keys p a by-groups by-left by-keys by-pool by-answer =
+    simp (by-groups, ← by-left, by-keys, by-pool, by-answer)
+
+-- the order that waits is what is open
+pub store-open : (d : Disk) (a : At) (links rows : Table) (o : Order) (w : What) → d ≡ disk.Waits o w
+    → askedIn d a links rows ≡ asked.Open (question.Store o)
+unfolding askedIn
+store-open d a links rows o w is = rw is
 
 sizes-refuse : (bytes : List ℕ) (n : ℕ) (store : List ℕ) (records left : Table)
     → log.sized (length bytes) n (length store) (length records) (length left) ≡ false

@@ -1,6 +1,5 @@
 -- An opening: refused by its table (crates/front/specs/Refusals); else the tables at the start, the messages left in
 -- pending in rising id order, and the order of a replace.
-use mathlib.Core.Bool.{false}
 use mathlib.Core.List.{[], _∷_}
 use Prim.Native.Nat.{ℕ}
 use lib.ListN.{length, replicate}
@@ -13,18 +12,15 @@ use Rattle.log.specs.declared.Answer.the-variants as logged
 use Rattle.log.specs.Opened as log
 use Rattle.actor.specs.declared.question.Question.the-variants as question
 use Rattle.actor.specs.declared.question.Asked.the-variants as asked
-use Rattle.group.specs.declared.at.At.the-variants as at
 use Rattle.setup.specs.declared.settings.Settings.{Settings}
 use Rattle.setup.specs.Settings.{groupsFrom}
 use Rattle.setup.specs.Tables.{Placed, putLeft}
 use Rattle.turn.specs.declared.state.What.the-variants as what
-use Rattle.turn.specs.declared.state.Disk.{Disk}
 use Rattle.turn.specs.declared.state.Disk.the-variants as disk
 use Rattle.turn.specs.declared.state.Limits.{Limits}
-use Rattle.turn.specs.declared.state.Pool.{Pool}
-use Rattle.turn.specs.State.{State}
+use Rattle.turn.specs.State.{Pool, State, newPool}
+use Rattle.front.specs.declared.answer.Answer.{Answer}
 use Rattle.front.specs.declared.answer.Answer.the-variants as answer
-use Rattle.front.specs.declared.answer.Called.{Called}
 use Rattle.front.specs.Answers.{Did, logRefusal, refused}
 use Rattle.front.specs.Refusals.{Lent, judged, byTable, openRefusals}
 
@@ -36,25 +32,6 @@ limitsFrom s groups = record {
   «compact_at» = s .«compact_at»;
   tick = s .tick;
 }
-
--- a pool at rest: nothing queued, nobody dead
-abbrev pub newPool : Limits → Counters → Disk → Pool
-newPool limits n d =
-    record {
-      turn = record {
-        at = at.Rest;
-        disk = d;
-        counts = record {
-          queued = 0;
-          losses = record { dead = 0; crashes = 0 };
-          stepped = false;
-        };
-        log = n;
-      };
-      limits = limits;
-      closed = false;
-      seeded = false;
-    }
 
 -- the pool of an opening that is turned away: it takes no call
 abbrev pub noPool : Pool
@@ -82,22 +59,18 @@ pub record Filled : Type 0 where
   pub links : Table
   pub rows : Table
   pub keys : Table
-  pub called : Called
+  pub pool : Pool
+  pub answer : Answer
 
 -- the order of the replace waits, and is shown
-abbrev pub openCalled : Found → Order → Called
-openCalled f o = record {
-  pool = newPool (limitsFrom (f .settings) (length (f .given))) (f .counters) (disk.Waits o what.Nothing);
-  answer = answer.Open (asked.Open (question.Store o));
-}
-
 abbrev pub filledWith : Found → Order → Tables → Placed → Filled
 filledWith f o t p = record {
   groups = groupsFrom (f .settings .«max_actors») (t .groups) (f .given);
   links = p .links;
   rows = p .rows;
   keys = replicate (length (t .keys)) blankRow;
-  called = openCalled f o;
+  pool = newPool (limitsFrom (f .settings) (length (f .given))) (f .counters) (disk.Waits o what.Nothing);
+  answer = answer.Open (asked.Open (question.Store o));
 }
 
 unfoldable pub filledBy : Found → Order → Tables → Filled
@@ -138,7 +111,7 @@ unopened l = record {
 abbrev pub openedWith : Lent → log.Opened → Filled → Did
 openedWith l o f = record {
   state = record {
-    pool = f .called .pool;
+    pool = f .pool;
     bytes = o .log;
     records = o .table;
     store = o .store;
@@ -148,7 +121,7 @@ openedWith l o f = record {
     keys = f .keys;
     actors = l .actors;
   };
-  answer = f .called .answer;
+  answer = f .answer;
 }
 
 -- what the log left, where it was not opened

@@ -4,8 +4,9 @@ ghost use mathlib.Core.Path.{_≡_};
 ghost use mathlib.Core.List.{List};
 ghost use Prim.Native.Nat.{ℕ};
 ghost use Rattle.lists.specs.Links.{Table};
-ghost use Rattle.log.specs.Log.{state};
-ghost use Rattle.door.specs.Admit.{loggedBy, admitLogged, admitCalled, admitOf};
+ghost use Rattle.turn.specs.Words.{poolOf};
+ghost use Rattle.front.specs.Answers.{answerOf};
+ghost use Rattle.door.specs.Admit.{admitLogged, admitCalled, admitOf};
 use actor::message::Caller;
 use actor::message::CallerId;
 use actor::message::Logged;
@@ -13,84 +14,14 @@ use front::answer;
 use front::answer::Called;
 use front::refusals;
 use front::refusals::Check;
-use log::Counters;
 use log::LogId;
-use log::wal;
 use setup::entry;
+use turn::logged;
 use turn::state;
-use turn::state::Disk;
-use turn::state::Pool;
-use turn::state::What;
 
-// What the log answered, acted on, with the counters as they are now: in the inbox under the id that was the next; or
-// refused.
-fn admit_answered(
-    pool: Pool,
-    counters: Counters,
-    answer: log::Answer,
-    store: &mut [u8],
-    links: &mut [[u64; 4]],
-    rows: &mut [[u64; 7]],
-    name: &[u8],
-    body: &[u8],
-) -> Called
-    ensures { λ r. ⌜
-        ((after before : List ℕ) (recordsAfter recordsBefore groups keys actors : Table) →
-        record {
-          state = record {
-            pool = r .pool;
-            bytes = after;
-            records = recordsAfter;
-            store = now (store .exit);
-            groups = groups;
-            links = now (links .exit);
-            rows = now (rows .exit);
-            keys = keys;
-            actors = actors;
-          };
-          answer = r .answer;
-        }
-        ≡ loggedBy
-        (record {
-          pool = pool;
-          bytes = before;
-          records = recordsBefore;
-          store = now (store .entry);
-          groups = groups;
-          links = now (links .entry);
-          rows = now (rows .entry);
-          keys = keys;
-          actors = actors;
-        })
-        (now (name .entry)) (now (body .entry))
-        (record { wal = state after recordsAfter counters; answer = answer }))
-        ⌝ }
-{
-    match answer {
-        log::Answer::Ordered(order) => {
-            let before = state::counters_of(pool);
-            let id = LogId(before.next);
-            entry::keep(
-                store,
-                links,
-                rows,
-                name,
-                body,
-                Caller::Nobody,
-                Logged::As(id),
-                lists::INBOX,
-            );
-            let disk = Disk::Waits(order, What::Record);
-            let p = state::with_disk(pool, counters, disk);
-            answer::shown_now(p, links, rows)
-        }
-        log::Answer::Refused(r) => answer::refused(pool, answer::log_refusal(r)),
-    }
-}
-
-// Logged under the next id, then in the inbox: the log changes the pool's counters, lent to it by `&mut`.
+// Logged under the next id, then in the inbox; or refused by the log.
 fn admit_logged(
-    pool: Pool,
+    pool: &mut [u64; 28],
     log: &mut [u8],
     records: &mut [[u64; 3]],
     store: &mut [u8],
@@ -103,7 +34,7 @@ fn admit_logged(
         ((groups keys actors : Table) →
         record {
           state = record {
-            pool = r .pool;
+            pool = poolOf (now (pool .exit));
             bytes = now (log .exit);
             records = now (records .exit);
             store = now (store .exit);
@@ -113,11 +44,11 @@ fn admit_logged(
             keys = keys;
             actors = actors;
           };
-          answer = r .answer;
+          answer = answerOf r (poolOf (now (pool .exit))) (now (links .exit)) (now (rows .exit));
         }
         ≡ admitLogged
         (record {
-          pool = pool;
+          pool = poolOf (now (pool .entry));
           bytes = now (log .entry);
           records = now (records .entry);
           store = now (store .entry);
@@ -130,14 +61,35 @@ fn admit_logged(
         (now (name .entry)) (now (body .entry)))
         ⌝ }
 {
-    let mut counters = state::counters_of(pool);
-    let answer = wal::append(&mut counters, log, records, name, body);
-    admit_answered(pool, counters, answer, store, links, rows, name, body)
+    let before = state::counters(pool);
+    let id = LogId(before.next);
+    let a = logged::append(log, records, before, name, body);
+    let due = a.due;
+    let some = state::is_due(due);
+    if some {
+        entry::keep(
+            store,
+            links,
+            rows,
+            name,
+            body,
+            Caller::Nobody,
+            Logged::As(id),
+            lists::INBOX,
+        );
+        let counters = a.counters;
+        let disk = state::waiting(due, state::RECORD, 0);
+        state::set_log(pool, counters, disk);
+        return answer::shown_now();
+    }
+    let refusal = a.refusal;
+    let r = answer::log_refusal(refusal);
+    answer::refused(r)
 }
 
 // A caller's message is not logged.
 fn admit_called(
-    pool: Pool,
+    pool: &mut [u64; 28],
     store: &mut [u8],
     links: &mut [[u64; 4]],
     rows: &mut [[u64; 7]],
@@ -149,7 +101,7 @@ fn admit_called(
         ((bytes : List ℕ) (records groups keys actors : Table) →
         record {
           state = record {
-            pool = r .pool;
+            pool = poolOf (now (pool .exit));
             bytes = bytes;
             records = records;
             store = now (store .exit);
@@ -159,11 +111,11 @@ fn admit_called(
             keys = keys;
             actors = actors;
           };
-          answer = r .answer;
+          answer = answerOf r (poolOf (now (pool .exit))) (now (links .exit)) (now (rows .exit));
         }
         ≡ admitCalled
         (record {
-          pool = pool;
+          pool = poolOf (now (pool .entry));
           bytes = bytes;
           records = records;
           store = now (store .entry);
@@ -186,12 +138,12 @@ fn admit_called(
         Logged::Never,
         lists::INBOX,
     );
-    answer::shown_now(pool, links, rows)
+    answer::shown_now()
 }
 
 // A message for the program of a group.
 pub fn admit(
-    pool: Pool,
+    pool: &mut [u64; 28],
     log: &mut [u8],
     records: &mut [[u64; 3]],
     store: &mut [u8],
@@ -206,7 +158,7 @@ pub fn admit(
         ((keys actors : Table) →
         record {
           state = record {
-            pool = r .pool;
+            pool = poolOf (now (pool .exit));
             bytes = now (log .exit);
             records = now (records .exit);
             store = now (store .exit);
@@ -216,11 +168,11 @@ pub fn admit(
             keys = keys;
             actors = actors;
           };
-          answer = r .answer;
+          answer = answerOf r (poolOf (now (pool .exit))) (now (links .exit)) (now (rows .exit));
         }
         ≡ admitOf
         (record {
-          pool = pool;
+          pool = poolOf (now (pool .entry));
           bytes = now (log .entry);
           records = now (records .entry);
           store = now (store .entry);
@@ -235,7 +187,7 @@ pub fn admit(
 {
     let check = refusals::admit_check(pool, groups, links, name, body);
     match check {
-        Check::Refuse(r) => answer::refused(pool, r),
+        Check::Refuse(r) => answer::refused(r),
         Check::Fine => {
             match caller {
                 Caller::From(who) => admit_called(pool, store, links, rows, name, body, who),

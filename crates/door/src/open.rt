@@ -1,27 +1,20 @@
 // An opening: refused by its table; else the tables at the start, and the messages left in pending.
 ghost use mathlib.Core.Path.{_≡_};
-ghost use Rattle.door.specs.Open.{limitsFrom, newPool, noPool, filledBy, openOf};
-use actor::question::Asked;
-use actor::question::Question;
+ghost use Rattle.turn.specs.Words.{poolOf};
+ghost use Rattle.front.specs.Answers.{answerOf};
+ghost use Rattle.door.specs.Open.{limitsFrom, noPool, filledBy, openOf};
 use front::answer;
-use front::answer::Answer;
 use front::answer::Called;
 use front::refusals;
 use front::refusals::Check;
-use group::at::At;
 use log::Counters;
 use log::Order;
 use log::opening;
 use setup::settings;
 use setup::settings::Settings;
 use setup::tables;
-use ticking::crash::Losses;
-use turn::state::Counts;
-use turn::state::Disk;
+use turn::state;
 use turn::state::Limits;
-use turn::state::Pool;
-use turn::state::Turn;
-use turn::state::What;
 
 fn limits_from(s: Settings, groups: usize) -> Limits
     ensures { λ r. ⌜ r ≡ limitsFrom s groups ⌝ }
@@ -35,36 +28,9 @@ fn limits_from(s: Settings, groups: usize) -> Limits
     }
 }
 
-// A pool at rest.
-fn new_pool(limits: Limits, counters: Counters, disk: Disk) -> Pool
-    ensures { λ r. ⌜ r ≡ newPool limits counters disk ⌝ }
-{
-    let losses = Losses {
-        dead: 0,
-        crashes: 0,
-    };
-    let counts = Counts {
-        queued: 0,
-        losses,
-        stepped: false,
-    };
-    let turn = Turn {
-        at: At::Rest,
-        disk,
-        counts,
-        log: counters,
-    };
-    Pool {
-        turn,
-        limits,
-        closed: false,
-        seeded: false,
-    }
-}
-
-// The pool of an opening that is turned away.
-fn no_pool() -> Pool
-    ensures { λ r. ⌜ r ≡ noPool ⌝ }
+// An opening that is turned away: the pool takes no call.
+fn no_pool(pool: &mut [u64; 28])
+    ensures { λ r. ⌜ poolOf (now (pool .exit)) ≡ noPool ⌝ }
 {
     let limits = Limits {
         groups: 0,
@@ -80,11 +46,13 @@ fn no_pool() -> Pool
         dirty: false,
         count: 0,
     };
-    new_pool(limits, counters, Disk::Failed)
+    let disk = state::failed();
+    state::start(pool, limits, counters, disk);
 }
 
 // The log is opened: the tables at the start, and the messages left in pending.
 fn open_pool(
+    pool: &mut [u64; 28],
     settings: Settings,
     given: &[[u64; 37]],
     left: &[[u64; 3]],
@@ -101,7 +69,8 @@ fn open_pool(
           links = now (links .exit);
           rows = now (rows .exit);
           keys = now (lists .exit);
-          called = r;
+          pool = poolOf (now (pool .exit));
+          answer = answerOf r (poolOf (now (pool .exit))) (now (links .exit)) (now (rows .exit));
         }
         ≡ filledBy
         (record { settings = settings; given = now (given .entry); left = now (left .entry); counters = counters })
@@ -119,17 +88,14 @@ fn open_pool(
     tables::put_left(links, rows, left, counters.count);
     tables::blank_keys(lists);
     let limits = limits_from(settings, given.len());
-    let disk = Disk::Waits(order, What::Nothing);
-    let pool = new_pool(limits, counters, disk);
-    let q = Question::Store(order);
-    Called {
-        pool,
-        answer: Answer::Open(Asked::Open(q)),
-    }
+    let disk = state::waits(order, state::NOTHING, 0);
+    state::start(pool, limits, counters, disk);
+    answer::shown_now()
 }
 
 // Opens a pool on the first n bytes of the log.
 pub fn open(
+    pool: &mut [u64; 28],
     settings: Settings,
     given: &[[u64; 37]],
     log: &mut [u8],
@@ -145,7 +111,7 @@ pub fn open(
     ensures { λ r. ⌜
         record {
           state = record {
-            pool = r .pool;
+            pool = poolOf (now (pool .exit));
             bytes = now (log .exit);
             records = now (records .exit);
             store = now (store .exit);
@@ -155,7 +121,7 @@ pub fn open(
             keys = now (lists .exit);
             actors = now (actors .entry);
           };
-          answer = r .answer;
+          answer = answerOf r (poolOf (now (pool .exit))) (now (links .exit)) (now (rows .exit));
         }
         ≡ openOf
         (record {
@@ -175,7 +141,10 @@ pub fn open(
 {
     let check = refusals::open_check(settings, given, groups, links, rows, lists, actors);
     match check {
-        Check::Refuse(r) => answer::refused(no_pool(), r),
+        Check::Refuse(r) => {
+            no_pool(pool);
+            answer::refused(r)
+        }
         Check::Fine => {
             let mut left = [[0u64; 3]; 256];
             let s = opening::open_log(log, n, store, records, &mut left);
@@ -183,6 +152,7 @@ pub fn open(
             let answer = s.answer;
             match answer {
                 log::Answer::Ordered(order) => open_pool(
+                    pool,
                     settings,
                     given,
                     &left,
@@ -193,7 +163,10 @@ pub fn open(
                     rows,
                     lists,
                 ),
-                log::Answer::Refused(r) => answer::refused(no_pool(), answer::log_refusal(r)),
+                log::Answer::Refused(r) => {
+                    no_pool(pool);
+                    answer::refused(answer::log_refusal(r))
+                }
             }
         }
     }

@@ -19,9 +19,8 @@ use Rattle.front.specs.declared.answer.Refusal.{Refusal}
 use Rattle.front.specs.declared.answer.Refusal.the-variants as refusal
 use Rattle.front.specs.declared.answer.Answer.{Answer}
 use Rattle.front.specs.declared.answer.Answer.the-variants as answer
-use Rattle.turn.specs.declared.state.Pool.{Pool}
 use Rattle.front.specs.declared.numbers.AnswerNumbers.{AnswerNumbers}
-use Rattle.front.specs.Answers.{numberOf, logRefusal, refusedBy}
+use Rattle.front.specs.Answers.{numberOf, logRefusal}
 use Rattle.front.specs.Numbers.{flagNumber, plainNumbers, outcomeNumber, numbersOf, AnswerSays}
 
 -- ---- refusals
@@ -37,8 +36,8 @@ log-number logged.NoId = refl
 log-number logged.NoRoom = refl
 
 -- a call that is turned away answers 1, and the refusal's number
-pub refused-numbers : (p : Pool) (r : Refusal) → numbersOf (refusedBy p r .answer) ≡ plainNumbers 1 (numberOf r) 0
-refused-numbers p r = refl
+pub refused-numbers : (r : Refusal) → numbersOf (answer.Refused r) ≡ plainNumbers 1 (numberOf r) 0
+refused-numbers r = refl
 
 -- ---- the answer that numbers say
 

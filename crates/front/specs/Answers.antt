@@ -3,14 +3,16 @@ use Prim.Native.Nat.{ℕ}
 use Rattle.lists.specs.Links.{Table}
 use Rattle.log.specs.declared.Refusal as of-log
 use Rattle.log.specs.declared.Refusal.the-variants as logged
+use Rattle.actor.specs.declared.question.Asked.{Asked}
 use Rattle.setup.specs.Entry.{Messages, Arrival, keepOf}
-use Rattle.turn.specs.declared.state.Pool.{Pool}
-use Rattle.turn.specs.State.{State, withStore, withLinks, withRows}
+use Rattle.turn.specs.State.{Pool, State, withStore, withLinks, withRows}
 use Rattle.turn.specs.Asks.{askedIn, openIn}
 use Rattle.front.specs.declared.answer.Refusal.{Refusal}
 use Rattle.front.specs.declared.answer.Refusal.the-variants as refusal
 use Rattle.front.specs.declared.answer.Answer.{Answer}
 use Rattle.front.specs.declared.answer.Answer.the-variants as answer
+use Rattle.front.specs.declared.answer.AnswerKind.{AnswerKind}
+use Rattle.front.specs.declared.answer.AnswerKind.the-variants as kind
 use Rattle.front.specs.declared.answer.Called.{Called}
 
 -- the number of each refusal (docs/RULES.md, 8)
@@ -64,10 +66,15 @@ withMessages s m = withRows (withLinks (withStore s (m .store)) (m .links)) (m .
 abbrev pub kept : State → Arrival → ℕ → State
 kept s a to = withMessages s (keepOf (messagesOf s) a to)
 
--- ---- the same of what is by value: the pool and the answer
+-- ---- what the words of an answer mean: what is open is told by the pool, the lists and the rows
 
-abbrev pub refusedBy : Pool → Refusal → Called
-refusedBy p r = record { pool = p; answer = answer.Refused r }
+abbrev pub openBy : Pool → Table → Table → Asked
+openBy p t rows = askedIn (p .turn .disk) (p .turn .at) t rows
 
-abbrev pub shownBy : Pool → Table → Table → Called
-shownBy p t rows = record { pool = p; answer = answer.Open (askedIn (p .turn .disk) (p .turn .at) t rows) }
+abbrev pub answerBy : AnswerKind → Called → Pool → Table → Table → Answer
+answerBy kind.Refused w p t rows = answer.Refused (w .refusal)
+answerBy kind.Open w p t rows = answer.Open (openBy p t rows)
+answerBy kind.Ended w p t rows = answer.Ended (w .busy) (w .waiters)
+
+abbrev pub answerOf : Called → Pool → Table → Table → Answer
+answerOf w p t rows = answerBy (w .kind) w p t rows

@@ -27,8 +27,7 @@ use Rattle.setup.specs.declared.settings.Settings.{Settings}
 use Rattle.setup.specs.Settings.{settingsFit}
 use Rattle.turn.specs.declared.state.Disk.{Disk}
 use Rattle.turn.specs.declared.state.Disk.the-variants as disk
-use Rattle.turn.specs.declared.state.Pool.{Pool}
-use Rattle.turn.specs.State.{State, walOf}
+use Rattle.turn.specs.State.{Pool, State, walOf}
 use Rattle.turn.specs.Asks.{openIn}
 use Rattle.front.specs.declared.answer.Refusal.{Refusal}
 use Rattle.front.specs.declared.answer.Refusal.the-variants as refusal

@@ -1,9 +1,12 @@
 // What a call answers; why one is refused.
 ghost use mathlib.Core.Path.{_≡_};
-ghost use Rattle.front.specs.Answers.{numberOf, logRefusal, refusedBy, shownBy};
+ghost use Rattle.lists.specs.Links.{Table};
+ghost use Rattle.turn.specs.State.{Pool};
+ghost use Rattle.turn.specs.Words.{poolOf};
+ghost use Rattle.front.specs.Answers.{numberOf, logRefusal, openBy, answerOf};
 use actor::question::Asked;
 use turn::asks;
-use turn::state::Pool;
+use turn::state;
 
 // Why a call is refused.
 pub enum Refusal {
@@ -24,6 +27,7 @@ pub enum Refusal {
     NotLoaded,
 }
 
+// What a call answers: what `Called` means.
 pub enum Answer {
     Refused(Refusal),
     // accepted, and this is open now
@@ -32,10 +36,19 @@ pub enum Answer {
     Ended(bool, bool),
 }
 
-// The pool after a call, and its answer.
+// The kind of an `Answer`.
+pub enum AnswerKind {
+    Refused,
+    Open,
+    Ended,
+}
+
+// How a call went: the words of an `Answer`. What is open is not among them: the pool and its tables tell it.
 pub struct Called {
-    pub pool: Pool,
-    pub answer: Answer,
+    pub kind: AnswerKind,
+    pub refusal: Refusal,
+    pub busy: bool,
+    pub waiters: bool,
 }
 
 // The number of a refusal.
@@ -76,26 +89,66 @@ pub fn log_refusal(r: log::Refusal) -> Refusal
     }
 }
 
-// Refused: the pool is as it was.
-pub fn refused(pool: Pool, r: Refusal) -> Called
-    ensures { λ x. ⌜ x ≡ refusedBy pool r ⌝ }
+// Refused.
+pub fn refused(r: Refusal) -> Called
+    ensures { λ x. ⌜ ((p : Pool) (links rows : Table) → answerOf x p links rows ≡ Answer.Refused r) ⌝ }
 {
     Called {
-        pool,
-        answer: Answer::Refused(r),
+        kind: AnswerKind::Refused,
+        refusal: r,
+        busy: false,
+        waiters: false,
     }
 }
 
 // Accepted, with what is open now.
-pub fn shown_now(pool: Pool, links: &[[u64; 4]], rows: &[[u64; 7]]) -> Called
-    ensures { λ x. ⌜ x ≡ shownBy pool (now (links .entry)) (now (rows .entry)) ⌝ }
+pub fn shown_now() -> Called
+    ensures { λ x. ⌜ ((p : Pool) (links rows : Table) → answerOf x p links rows ≡ Answer.Open (openBy p links rows)) ⌝ }
 {
-    let turn = pool.turn;
-    let disk = turn.disk;
-    let at = turn.at;
-    let asked = asks::asked_in(disk, at, links, rows);
     Called {
-        pool,
-        answer: Answer::Open(asked),
+        kind: AnswerKind::Open,
+        refusal: Refusal::Setting,
+        busy: false,
+        waiters: false,
+    }
+}
+
+// Accepted, and the turn ended with it.
+pub fn turn_ended(busy: bool, waiters: bool) -> Called
+    ensures { λ x. ⌜ ((p : Pool) (links rows : Table) → answerOf x p links rows ≡ Answer.Ended busy waiters) ⌝ }
+{
+    Called {
+        kind: AnswerKind::Ended,
+        refusal: Refusal::Setting,
+        busy,
+        waiters,
+    }
+}
+
+// The order that waits, else the turn's question; after a failed order nothing.
+pub fn open_now(pool: &[u64; 28], links: &[[u64; 4]], rows: &[[u64; 7]]) -> Asked
+    ensures { λ r. ⌜ r ≡ openBy (poolOf (now (pool .entry))) (now (links .entry)) (now (rows .entry)) ⌝ }
+{
+    let disk = state::disk_in(pool);
+    let at = state::where_in(pool);
+    asks::asked_in(disk, at, links, rows)
+}
+
+// The answer.
+pub fn answer_of(called: Called, pool: &[u64; 28], links: &[[u64; 4]], rows: &[[u64; 7]]) -> Answer
+    ensures { λ r.
+        ⌜ r ≡ answerOf called (poolOf (now (pool .entry))) (now (links .entry)) (now (rows .entry)) ⌝ }
+{
+    let kind = called.kind;
+    match kind {
+        AnswerKind::Refused => {
+            let r = called.refusal;
+            Answer::Refused(r)
+        }
+        AnswerKind::Open => {
+            let asked = open_now(pool, links, rows);
+            Answer::Open(asked)
+        }
+        AnswerKind::Ended => Answer::Ended(called.busy, called.waiters),
     }
 }

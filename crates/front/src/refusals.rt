@@ -4,20 +4,25 @@ ghost use mathlib.Core.Bool.{true};
 ghost use mathlib.Core.List.{List};
 ghost use Prim.Native.Nat.{ℕ};
 ghost use Rattle.lists.specs.Links.{Table};
+ghost use Rattle.group.specs.Words.{atOf};
+ghost use Rattle.turn.specs.Words.{diskOf, poolOf};
 ghost use Rattle.front.specs.Refusals.{judged, isFailed, inTurn, tooLong, fitsIn, isMessage, tablesSized};
 ghost use Rattle.front.specs.Refusals.{openRefusalsFirst, admitRefusalsFirst, turnRefusals, replyRefusals};
 ghost use Rattle.front.specs.Refusals.{syncRefusals, sentRefusals};
+use crate::answer;
 use crate::answer::Refusal;
 use actor::question;
 use actor::question::Asked;
 use actor::question::Reply;
-use group::at::At;
 use group::settings;
+use group::words;
+use group::words::AtKind;
+use group::words::Where;
 use setup::settings as limits;
 use setup::settings::Settings;
-use turn::asks;
-use turn::state::Disk;
-use turn::state::Pool;
+use turn::state;
+use turn::state::DiskKind;
+use turn::state::DiskWords;
 
 // Whether a call is refused.
 pub enum Check {
@@ -85,24 +90,26 @@ pub fn open_check(
     Check::Refuse(Refusal::Setting)
 }
 
-fn is_failed(disk: Disk) -> bool
-    ensures { λ r. ⌜ r ≡ isFailed disk ⌝ }
+fn is_failed(disk: DiskWords) -> bool
+    ensures { λ r. ⌜ r ≡ isFailed (diskOf disk) ⌝ }
 {
-    match disk {
-        Disk::Free => false,
-        Disk::Waits(_, _) => false,
-        Disk::Failed => true,
+    let kind = state::disk_kind(disk.disk);
+    match kind {
+        DiskKind::Free => false,
+        DiskKind::Waits => false,
+        DiskKind::Failed => true,
     }
 }
 
 // Whether a turn is under way.
-pub fn in_turn(at: At) -> bool
-    ensures { λ r. ⌜ r ≡ inTurn at ⌝ }
+pub fn in_turn(at: Where) -> bool
+    ensures { λ r. ⌜ r ≡ inTurn (atOf at) ⌝ }
 {
-    match at {
-        At::Rest => false,
-        At::Asks(_) => true,
-        At::Runs(_) => true,
+    let kind = words::at_kind(at.place);
+    match kind {
+        AtKind::Rest => false,
+        AtKind::Asks => true,
+        AtKind::Runs => true,
     }
 }
 
@@ -117,41 +124,41 @@ fn too_long(name: &[u8], body: &[u8]) -> bool
 }
 
 // Sync and close: 14, then 11.
-pub fn sync_check(pool: Pool) -> Check
-    ensures { λ r. ⌜ r ≡ judged (syncRefusals pool) ⌝ }
+pub fn sync_check(pool: &[u64; 28]) -> Check
+    ensures { λ r. ⌜ r ≡ judged (syncRefusals (poolOf (now (pool .entry)))) ⌝ }
 {
-    let turn = pool.turn;
-    let disk = turn.disk;
-    match disk {
-        Disk::Free => Check::Fine,
-        Disk::Waits(_, _) => Check::Refuse(Refusal::OrderWaits),
-        Disk::Failed => Check::Refuse(Refusal::StoreFailed),
+    let disk = state::disk_in(pool);
+    let kind = state::disk_kind(disk.disk);
+    match kind {
+        DiskKind::Free => Check::Fine,
+        DiskKind::Waits => Check::Refuse(Refusal::OrderWaits),
+        DiskKind::Failed => Check::Refuse(Refusal::StoreFailed),
     }
 }
 
 // Turn: 14, 11, then 13.
-pub fn turn_check(pool: Pool) -> Check
-    ensures { λ r. ⌜ r ≡ judged (turnRefusals pool) ⌝ }
+pub fn turn_check(pool: &[u64; 28]) -> Check
+    ensures { λ r. ⌜ r ≡ judged (turnRefusals (poolOf (now (pool .entry)))) ⌝ }
 {
-    let turn = pool.turn;
-    let disk = turn.disk;
-    match disk {
-        Disk::Free => {
-            let at = turn.at;
+    let disk = state::disk_in(pool);
+    let kind = state::disk_kind(disk.disk);
+    match kind {
+        DiskKind::Free => {
+            let at = state::where_in(pool);
             let during = in_turn(at);
             if during {
                 return Check::Refuse(Refusal::InTurn);
             }
             Check::Fine
         }
-        Disk::Waits(_, _) => Check::Refuse(Refusal::OrderWaits),
-        Disk::Failed => Check::Refuse(Refusal::StoreFailed),
+        DiskKind::Waits => Check::Refuse(Refusal::OrderWaits),
+        DiskKind::Failed => Check::Refuse(Refusal::StoreFailed),
     }
 }
 
 // Admit, as far as it needs nothing of the log: 14, 11, 5, 17, 6, 7, then 8.
 pub fn admit_check(
-    pool: Pool,
+    pool: &[u64; 28],
     groups: &[[u64; 37]],
     links: &[[u64; 4]],
     name: &[u8],
@@ -161,7 +168,7 @@ pub fn admit_check(
         ((bytes : List ℕ) (records : Table) (store : List ℕ) (rows keys actors : Table) →
         r ≡ judged (admitRefusalsFirst
         (record {
-          pool = pool;
+          pool = poolOf (now (pool .entry));
           bytes = bytes;
           records = records;
           store = store;
@@ -174,23 +181,26 @@ pub fn admit_check(
         (now (name .entry)) (now (body .entry))))
         ⌝ }
 {
-    let turn = pool.turn;
-    let disk = turn.disk;
-    match disk {
-        Disk::Free => {
+    let disk = state::disk_in(pool);
+    let kind = state::disk_kind(disk.disk);
+    match kind {
+        DiskKind::Free => {
             let long = too_long(name, body);
             if long {
                 return Check::Refuse(Refusal::TooLong);
             }
-            let loaded = settings::loaded(groups, pool.limits.groups, name);
+            let count = state::groups(pool);
+            let loaded = settings::loaded(groups, count, name);
             if !loaded {
                 return Check::Refuse(Refusal::NotLoaded);
             }
             let waiting = lists::length_of(links, lists::INBOX);
-            if pool.limits.inbox <= waiting {
+            let inbox = state::inbox(pool);
+            if inbox <= waiting {
                 return Check::Refuse(Refusal::InboxFull);
             }
-            if pool.closed {
+            let closed = state::closed(pool);
+            if closed {
                 return Check::Refuse(Refusal::Closed);
             }
             let free = lists::length_of(links, lists::FREE);
@@ -199,8 +209,8 @@ pub fn admit_check(
             }
             Check::Fine
         }
-        Disk::Waits(_, _) => Check::Refuse(Refusal::OrderWaits),
-        Disk::Failed => Check::Refuse(Refusal::StoreFailed),
+        DiskKind::Waits => Check::Refuse(Refusal::OrderWaits),
+        DiskKind::Failed => Check::Refuse(Refusal::StoreFailed),
     }
 }
 
@@ -249,7 +259,7 @@ fn sent_check(links: &[[u64; 4]], name: &[u8], body: &[u8]) -> Check
 
 // Reply: 14, 12, then, of a message that was sent, 5 and 8.
 pub fn reply_check(
-    pool: Pool,
+    pool: &[u64; 28],
     links: &[[u64; 4]],
     rows: &[[u64; 7]],
     reply: Reply,
@@ -260,7 +270,7 @@ pub fn reply_check(
         ((bytes : List ℕ) (records : Table) (store : List ℕ) (groups keys actors : Table) →
         r ≡ judged (replyRefusals
         (record {
-          pool = pool;
+          pool = poolOf (now (pool .entry));
           bytes = bytes;
           records = records;
           store = store;
@@ -273,14 +283,12 @@ pub fn reply_check(
         reply (now (name .entry)) (now (body .entry))))
         ⌝ }
 {
-    let turn = pool.turn;
-    let disk = turn.disk;
-    let at = turn.at;
+    let disk = state::disk_in(pool);
     let failed = is_failed(disk);
     if failed {
         return Check::Refuse(Refusal::StoreFailed);
     }
-    let asked = asks::asked_in(disk, at, links, rows);
+    let asked = answer::open_now(pool, links, rows);
     let fits = fits_in(asked, reply);
     if !fits {
         return Check::Refuse(Refusal::NoFit);

@@ -1,4 +1,5 @@
 -- Definitions and statements.
 pub mod At
+pub mod Words
 pub mod Settings
 pub mod Roster

@@ -1,12 +1,19 @@
 // Where a turn stands: at rest, at a question, or at a point between two, with what it remembers there. All else is in
-// the lists, the actors and the key lists.
+// the lists, the actors and the key lists. Code hands this on as words (`words::Where`): the enums here are what the
+// words mean, and every definition speaks of them.
 ghost use mathlib.Core.Path.{_≡_};
 ghost use Rattle.group.specs.At.{whoOf, readyAfter, fixedAfter, evalAfter, nextGroup};
+ghost use Rattle.group.specs.Words.{atOf};
+ghost use Rattle.steps.specs.Words.{fixedNextOf, evalNextOf};
+use crate::words;
+use crate::words::Where;
 use actor::question::Who;
+use steps::eval;
 use steps::eval::EvalAsk;
-use steps::eval::EvalNext;
+use steps::eval::EvalWords;
+use steps::fixed;
 use steps::fixed::FixedAsk;
-use steps::fixed::FixedNext;
+use steps::fixed::FixedWords;
 use steps::step::End;
 use steps::step::Step;
 
@@ -93,34 +100,32 @@ pub fn next_group(g: usize) -> usize
 }
 
 // A step is settled: the group's ready list goes on.
-pub fn ready_after(c: Cursor) -> At
-    ensures { λ r. ⌜ r ≡ readyAfter c ⌝ }
+pub fn ready_after(c: Cursor) -> Where
+    ensures { λ r. ⌜ atOf r ≡ readyAfter c ⌝ }
 {
-    At::Runs(Point::Ready(c.group, c.now, c.pops))
+    words::ready(c.group, c.now, c.pops)
 }
 
 // A step of a fixed actor is at its next question, or ended.
-pub fn fixed_after(c: Cursor, next: FixedNext) -> At
-    ensures { λ r. ⌜ r ≡ fixedAfter c next ⌝ }
+pub fn fixed_after(c: Cursor, next: FixedWords) -> Where
+    ensures { λ r. ⌜ atOf r ≡ fixedAfter c (fixedNextOf next) ⌝ }
 {
-    match next {
-        FixedNext::Asks(ask) => At::Asks(Ask::Fixed(c, ask)),
-        FixedNext::Ended(step) => {
-            let end = End::Fixed(step);
-            At::Runs(Point::StepEnd(c, end))
-        }
+    let ended = fixed::has_ended(next);
+    if ended {
+        let step = next.step;
+        return words::fixed_end(c, step);
     }
+    words::fixed(c, next.ask)
 }
 
 // A step of an eval actor is at its next question, or ended.
-pub fn eval_after(c: Cursor, next: EvalNext) -> At
-    ensures { λ r. ⌜ r ≡ evalAfter c next ⌝ }
+pub fn eval_after(c: Cursor, next: EvalWords) -> Where
+    ensures { λ r. ⌜ atOf r ≡ evalAfter c (evalNextOf next) ⌝ }
 {
-    match next {
-        EvalNext::Asks(ask) => At::Asks(Ask::Eval(c, ask)),
-        EvalNext::Ended(parked) => {
-            let end = End::Eval(parked);
-            At::Runs(Point::StepEnd(c, end))
-        }
+    let ended = eval::has_ended(next);
+    if ended {
+        let step = next.step;
+        return words::eval_end(c, step);
     }
+    words::eval(c, next.ask, next.outcome)
 }

@@ -51,7 +51,7 @@ use Rattle.routing.specs.Intake.{INBOX, PENDING, BATCH, Linked, batchOf, intake
 use Rattle.routing.specs.Route as to
 use Rattle.routing.specs.Route.{Sent}
 use Rattle.ticking.specs.declared.crash.Losses.{Losses}
-use Rattle.ticking.specs.declared.ready.Begun.{Begun}
+use Rattle.ticking.specs.Ready.{Begun}
 use Rattle.ticking.specs.Ready as readying
 use Rattle.ticking.specs.Ready.{readyOf}
 use Rattle.ticking.specs.Settle as settling

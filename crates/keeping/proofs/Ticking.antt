@@ -45,7 +45,7 @@ use Rattle.group.specs.At.{readyAfter, evalAfter}
 use Rattle.group.specs.Settings.{groupAt}
 use Rattle.group.specs.Roster.{REST, DOOMED, slabRow, readyRow, slotAt, pushKey, liveOf}
 use Rattle.ticking.specs.declared.crash.Losses.{Losses}
-use Rattle.ticking.specs.declared.ready.Begun.{Begun}
+use Rattle.ticking.specs.Ready.{Begun}
 use Rattle.ticking.specs.Waking as waking
 use Rattle.ticking.specs.Waking.{Listed, Waked, wakeOf, wakeNext, pollReply}
 use Rattle.ticking.specs.Ready as readying

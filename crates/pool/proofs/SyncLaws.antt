@@ -1,83 +1,40 @@
--- What the log did to a sync, and what was made of what it had due, are together what the pool's sync does.
-use mathlib.Core.Path.{_≡_, ap, _∙_}
-use mathlib.Core.List.{List}
-use Prim.Native.Nat.{ℕ}
-use Rattle.lists.specs.Links.{Table}
+-- A sync by what the log had due: its order waits, or the pool is as it was.
+use mathlib.Core.Path.{_≡_, refl, sym, ap, _∙_}
+use mathlib.Core.Bool.{true, false, false≢true}
 use Rattle.log.specs.declared.Counters.{Counters}
 use Rattle.log.specs.declared.Due.{Due}
+use Rattle.log.specs.declared.Due.the-variants as due
 use Rattle.log.specs.declared.SteppedDue.{SteppedDue}
 use Rattle.log.specs.Log as log
-use Rattle.turn.specs.declared.state.Pool.{Pool}
-use Rattle.turn.specs.State.{State}
-use Rattle.front.specs.declared.answer.Called.{Called}
-use Rattle.front.specs.Answers.{Did}
-use Rattle.pool.specs.Calls.{syncEffect, syncShown, syncDid}
+use Rattle.turn.specs.declared.state.What.the-variants as what
+use Rattle.turn.specs.State.{Pool, State, withPool, withDisk, diskFor}
+use Rattle.turn.specs.Words.{isDue}
+use Rattle.front.specs.Answers.{Did, shown}
+use Rattle.pool.specs.Calls.{syncedBy, syncEffect, syncDid}
 
-pub synced : (p : Pool) (t rows : Table) (n : Counters) (d : Due) (r : Called)
-    → _≡_ {A = SteppedDue} (record { counters = n; due = d }) (log.syncOf (p .turn .log))
-    → ((bytes : List ℕ) (records : Table) (store : List ℕ) (groups keys actors : Table)
-    → _≡_ {A = Did} (record {
-      state = record {
-        pool = r .pool;
-        bytes = bytes;
-        records = records;
-        store = store;
-        groups = groups;
-        links = t;
-        rows = rows;
-        keys = keys;
-        actors = actors;
-      };
-      answer = r .answer;
-    })
-    (syncShown (record {
-      pool = p;
-      bytes = bytes;
-      records = records;
-      store = store;
-      groups = groups;
-      links = t;
-      rows = rows;
-      keys = keys;
-      actors = actors;
-    }) (record { counters = n; due = d })))
-    → (bytes : List ℕ) (records : Table) (store : List ℕ) (groups keys actors : Table)
-    → _≡_ {A = Did} (record {
-      state = record {
-        pool = r .pool;
-        bytes = bytes;
-        records = records;
-        store = store;
-        groups = groups;
-        links = t;
-        rows = rows;
-        keys = keys;
-        actors = actors;
-      };
-      answer = r .answer;
-    })
-    (syncDid (record {
-      pool = p;
-      bytes = bytes;
-      records = records;
-      store = store;
-      groups = groups;
-      links = t;
-      rows = rows;
-      keys = keys;
-      actors = actors;
-    }))
-unfolding syncEffect
-synced p t rows n d r did answered bytes records store groups keys actors =
-    let s : State = record {
-      pool = p;
-      bytes = bytes;
-      records = records;
-      store = store;
-      groups = groups;
-      links = t;
-      rows = rows;
-      keys = keys;
-      actors = actors;
-    } in
-    answered bytes records store groups keys actors ∙ ap (syncShown s) did
+module _ (s : State) (n : Counters) (o : Due) where
+  abbrev stepped : SteppedDue
+  stepped = record { counters = n; due = o }
+
+  abbrev showing : SteppedDue → Did
+  showing d = shown (withPool s (syncedBy (s .pool) d))
+
+  waits : (d : Due) → isDue d ≡ true
+      → withDisk (s .pool) n (diskFor d what.Nothing) ≡ syncedBy (s .pool) (record { counters = n; due = d })
+  unfolding syncedBy isDue
+  waits (due.Ordered x) ordered = refl
+  waits due.Nothing ordered = absurd (false≢true ordered)
+
+  stays : (d : Due) → isDue d ≡ false → s .pool ≡ syncedBy (s .pool) (record { counters = n; due = d })
+  unfolding syncedBy isDue
+  stays (due.Ordered x) none = absurd (false≢true (sym none))
+  stays due.Nothing none = refl
+
+  pub sync-due : isDue o ≡ true → stepped ≡ log.syncOf (s .pool .turn .log)
+      → shown (withPool s (withDisk (s .pool) n (diskFor o what.Nothing))) ≡ syncDid s
+  unfolding syncEffect
+  sync-due ordered did = ap (λ (p : Pool). shown (withPool s p)) (waits o ordered) ∙ ap showing did
+
+  pub sync-none : isDue o ≡ false → stepped ≡ log.syncOf (s .pool .turn .log) → shown s ≡ syncDid s
+  unfolding syncEffect
+  sync-none none did = ap (λ (p : Pool). shown (withPool s p)) (stays o none) ∙ ap showing did

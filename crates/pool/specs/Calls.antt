@@ -17,8 +17,7 @@ use Rattle.group.specs.declared.at.Point.the-variants as point
 use Rattle.routing.specs.Intake.{PENDING}
 use Rattle.turn.specs.declared.state.What.the-variants as what
 use Rattle.turn.specs.declared.state.Disk.the-variants as disk
-use Rattle.turn.specs.declared.state.Pool.{Pool}
-use Rattle.turn.specs.State.{State, withPool, withDisk}
+use Rattle.turn.specs.State.{Pool, State, withPool, withDisk, begunAt, closedPool}
 use Rattle.turn.specs.Resume.{resumeOf}
 use Rattle.front.specs.Answers.{Did, shown, kept}
 use Rattle.front.specs.Refusals.{judged, byTable, inTurn, isMessage, turnRefusals, replyRefusals, syncRefusals}
@@ -35,18 +34,7 @@ firstPoint true = at.Runs (point.Intake 256)
 firstPoint false = at.Runs (point.Seed 0)
 
 abbrev pub begunOf : Pool → Pool
-begunOf p =
-    record {
-      turn = record {
-        at = firstPoint (p .seeded);
-        disk = p .turn .disk;
-        counts = record { queued = p .turn .counts .queued; losses = p .turn .counts .losses; stepped = false };
-        log = p .turn .log;
-      };
-      limits = p .limits;
-      closed = p .closed;
-      seeded = true;
-    }
+begunOf p = begunAt p (firstPoint (p .seeded))
 
 unfoldable pub turnOf : State → Did
 turnOf s = byTable s (judged (turnRefusals (s .pool))) (runOf (withPool s (begunOf (s .pool))))
@@ -120,9 +108,6 @@ syncedBy p d = syncedIn p d (d .due)
 unfoldable pub syncEffect : Pool → Pool
 syncEffect p = syncedBy p (log.syncOf (p .turn .log))
 
-abbrev pub syncShown : State → SteppedDue → Did
-syncShown s d = shown (withPool s (syncedBy (s .pool) d))
-
 abbrev pub syncDid : State → Did
 syncDid s = shown (withPool s (syncEffect (s .pool)))
 
@@ -130,8 +115,5 @@ unfoldable pub syncOf : State → Did
 syncOf s = byTable s (judged (syncRefusals (s .pool))) (syncDid s)
 
 -- no more is admitted
-abbrev pub closedPool : Pool → Pool
-closedPool p = record { turn = p .turn; limits = p .limits; closed = true; seeded = p .seeded }
-
 unfoldable pub closeOf : State → Did
 closeOf s = byTable s (judged (closeRefusals (s .pool))) (shown (withPool s (closedPool (s .pool))))

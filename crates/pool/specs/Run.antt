@@ -7,8 +7,7 @@ use Rattle.lists.specs.Links.{pick, Table, lenOf}
 use Rattle.lists.specs.KeyLists.{keysAt, countOf}
 use Rattle.group.specs.Roster.{waitingRow}
 use Rattle.routing.specs.Intake.{PENDING}
-use Rattle.turn.specs.declared.state.Counts.{Counts}
-use Rattle.turn.specs.State.{State}
+use Rattle.turn.specs.State.{Counts, State}
 use Rattle.turn.specs.Step.{advanced}
 use Rattle.front.specs.declared.answer.Answer.the-variants as answer
 use Rattle.front.specs.Answers.{Did, shown}

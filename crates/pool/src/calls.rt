@@ -3,9 +3,12 @@ ghost use mathlib.Core.Path.{_≡_};
 ghost use mathlib.Core.List.{List};
 ghost use Prim.Native.Nat.{ℕ};
 ghost use Rattle.lists.specs.Links.{Table};
+ghost use Rattle.group.specs.Words.{atOf};
+ghost use Rattle.turn.specs.Words.{poolOf};
+ghost use Rattle.front.specs.Answers.{answerOf};
 ghost use Rattle.pool.specs.Calls.{firstPoint, begunOf, turnOf, storedIn, storedOf, failedOf, sentOf, resumeAt};
-ghost use Rattle.pool.specs.Calls.{resumedOf, replyOf, syncShown, syncDid, syncOf};
-ghost use Rattle.pool.specs.Calls.{closedPool, closeOf};
+ghost use Rattle.pool.specs.Calls.{resumedOf, replyOf, syncDid, syncOf};
+ghost use Rattle.pool.specs.Calls.{closeOf};
 use crate::run;
 use actor::message::Caller;
 use actor::message::Logged;
@@ -14,18 +17,13 @@ use front::answer;
 use front::answer::Called;
 use front::refusals;
 use front::refusals::Check;
-use group::at::At;
-use group::at::Point;
-use log::Counters;
-use log::wal;
+use group::words;
+use group::words::AtKind;
+use group::words::Where;
 use setup::entry;
+use turn::logged;
 use turn::resume;
 use turn::state;
-use turn::state::Counts;
-use turn::state::Disk;
-use turn::state::Pool;
-use turn::state::Turn;
-use turn::state::What;
 
 // A reply read as the answer to an order.
 pub enum StoredIn {
@@ -35,50 +33,28 @@ pub enum StoredIn {
 }
 
 // Where a turn begins: the first one with the spawns.
-fn first_point(seeded: bool) -> At
-    ensures { λ r. ⌜ r ≡ firstPoint seeded ⌝ }
+fn first_point(seeded: bool) -> Where
+    ensures { λ r. ⌜ atOf r ≡ firstPoint seeded ⌝ }
 {
     if seeded {
-        At::Runs(Point::Intake(256))
+        words::intake(256)
     } else {
-        At::Runs(Point::Seed(0))
+        words::seed(0)
     }
 }
 
-// The pool as a turn begins.
-fn begun(pool: Pool) -> Pool
-    ensures { λ r. ⌜ r ≡ begunOf pool ⌝ }
+// A turn begins.
+fn begin(pool: &mut [u64; 28])
+    ensures { λ r. ⌜ poolOf (now (pool .exit)) ≡ begunOf (poolOf (now (pool .entry))) ⌝ }
 {
-    let seeded = pool.seeded;
-    let limits = pool.limits;
-    let before = pool.turn;
-    let disk = before.disk;
-    let counters = before.log;
-    let old = before.counts;
-    let losses = old.losses;
-    let counts = Counts {
-        queued: old.queued,
-        losses,
-        stepped: false,
-    };
+    let seeded = state::seeded(pool);
     let at = first_point(seeded);
-    let turn = Turn {
-        at,
-        disk,
-        counts,
-        log: counters,
-    };
-    Pool {
-        turn,
-        limits,
-        closed: pool.closed,
-        seeded: true,
-    }
+    state::begin_at(pool, at);
 }
 
 // A turn: it runs until a question or an order is open, or it ended.
 pub fn turn(
-    pool: Pool,
+    pool: &mut [u64; 28],
     log: &mut [u8],
     records: &mut [[u64; 3]],
     store: &[u8],
@@ -91,7 +67,7 @@ pub fn turn(
     ensures { λ r. ⌜
         record {
           state = record {
-            pool = r .pool;
+            pool = poolOf (now (pool .exit));
             bytes = now (log .exit);
             records = now (records .exit);
             store = now (store .entry);
@@ -101,11 +77,11 @@ pub fn turn(
             keys = now (lists .exit);
             actors = now (actors .exit);
           };
-          answer = r .answer;
+          answer = answerOf r (poolOf (now (pool .exit))) (now (links .exit)) (now (rows .exit));
         }
         ≡ turnOf
         (record {
-          pool = pool;
+          pool = poolOf (now (pool .entry));
           bytes = now (log .entry);
           records = now (records .entry);
           store = now (store .entry);
@@ -119,10 +95,20 @@ pub fn turn(
 {
     let check = refusals::turn_check(pool);
     match check {
-        Check::Refuse(r) => answer::refused(pool, r),
+        Check::Refuse(r) => answer::refused(r),
         Check::Fine => {
-            let p = begun(pool);
-            run::run(p, log, records, store, groups, links, rows, lists, actors)
+            begin(pool);
+            run::run(
+                pool,
+                log,
+                records,
+                store,
+                groups,
+                links,
+                rows,
+                lists,
+                actors,
+            )
         }
     }
 }
@@ -147,7 +133,7 @@ fn stored_in(r: Reply) -> StoredIn
 // The order is stored: a turn that waited for it runs on, or its question is shown again; with no turn under way
 // nothing is open.
 fn stored(
-    pool: Pool,
+    pool: &mut [u64; 28],
     log: &mut [u8],
     records: &mut [[u64; 3]],
     store: &[u8],
@@ -160,7 +146,7 @@ fn stored(
     ensures { λ r. ⌜
         record {
           state = record {
-            pool = r .pool;
+            pool = poolOf (now (pool .exit));
             bytes = now (log .exit);
             records = now (records .exit);
             store = now (store .entry);
@@ -170,11 +156,11 @@ fn stored(
             keys = now (lists .exit);
             actors = now (actors .exit);
           };
-          answer = r .answer;
+          answer = answerOf r (poolOf (now (pool .exit))) (now (links .exit)) (now (rows .exit));
         }
         ≡ storedOf
         (record {
-          pool = pool;
+          pool = poolOf (now (pool .entry));
           bytes = now (log .entry);
           records = now (records .entry);
           store = now (store .entry);
@@ -186,58 +172,66 @@ fn stored(
         })
         ⌝ }
 {
-    let turn = pool.turn;
-    let at = turn.at;
-    let counters = turn.log;
+    let at = state::where_in(pool);
     let during = refusals::in_turn(at);
-    let p = state::with_disk(pool, counters, Disk::Free);
+    let disk = state::free();
+    state::set_disk(pool, disk);
     if during {
-        return run::run(p, log, records, store, groups, links, rows, lists, actors);
+        return run::run(
+            pool,
+            log,
+            records,
+            store,
+            groups,
+            links,
+            rows,
+            lists,
+            actors,
+        );
     }
-    answer::shown_now(p, links, rows)
+    answer::shown_now()
 }
 
 // The order failed: nothing is open, and nothing is taken any more.
-fn failed(pool: Pool, links: &[[u64; 4]], rows: &[[u64; 7]]) -> Called
+fn failed(pool: &mut [u64; 28]) -> Called
     ensures { λ r. ⌜
-        ((bytes : List ℕ) (records : Table) (store : List ℕ) (groups keys actors : Table) →
+        ((bytes : List ℕ) (records : Table) (store : List ℕ) (groups links rows keys actors : Table) →
         record {
           state = record {
-            pool = r .pool;
+            pool = poolOf (now (pool .exit));
             bytes = bytes;
             records = records;
             store = store;
             groups = groups;
-            links = now (links .entry);
-            rows = now (rows .entry);
+            links = links;
+            rows = rows;
             keys = keys;
             actors = actors;
           };
-          answer = r .answer;
+          answer = answerOf r (poolOf (now (pool .exit))) links rows;
         }
         ≡ failedOf
         (record {
-          pool = pool;
+          pool = poolOf (now (pool .entry));
           bytes = bytes;
           records = records;
           store = store;
           groups = groups;
-          links = now (links .entry);
-          rows = now (rows .entry);
+          links = links;
+          rows = rows;
           keys = keys;
           actors = actors;
         }))
         ⌝ }
 {
-    let turn = pool.turn;
-    let counters = turn.log;
-    let p = state::with_disk(pool, counters, Disk::Failed);
-    answer::shown_now(p, links, rows)
+    let disk = state::failed();
+    state::set_disk(pool, disk);
+    answer::shown_now()
 }
 
 // A message that was sent goes to pending's end, not logged, and Sends is asked again.
 fn sent(
-    pool: Pool,
+    pool: &mut [u64; 28],
     store: &mut [u8],
     links: &mut [[u64; 4]],
     rows: &mut [[u64; 7]],
@@ -248,7 +242,7 @@ fn sent(
         ((bytes : List ℕ) (records groups keys actors : Table) →
         record {
           state = record {
-            pool = r .pool;
+            pool = poolOf (now (pool .exit));
             bytes = bytes;
             records = records;
             store = now (store .exit);
@@ -258,11 +252,11 @@ fn sent(
             keys = keys;
             actors = actors;
           };
-          answer = r .answer;
+          answer = answerOf r (poolOf (now (pool .exit))) (now (links .exit)) (now (rows .exit));
         }
         ≡ sentOf
         (record {
-          pool = pool;
+          pool = poolOf (now (pool .entry));
           bytes = bytes;
           records = records;
           store = now (store .entry);
@@ -285,23 +279,23 @@ fn sent(
         Logged::Never,
         lists::PENDING,
     );
-    answer::shown_now(pool, links, rows)
+    answer::shown_now()
 }
 
 // The turn's question is answered, where one is open.
 fn resume_at(
-    pool: Pool,
+    pool: &mut [u64; 28],
     groups: &[[u64; 37]],
     links: &mut [[u64; 4]],
     rows: &[[u64; 7]],
     lists: &mut [[u8; 65]],
     actors: &mut [[u64; 12]],
     reply: Reply,
-) -> Pool
+)
     ensures { λ r. ⌜
         ((bytes : List ℕ) (records : Table) (store : List ℕ) →
         record {
-          pool = r;
+          pool = poolOf (now (pool .exit));
           bytes = bytes;
           records = records;
           store = store;
@@ -313,7 +307,7 @@ fn resume_at(
         }
         ≡ resumeAt
         (record {
-          pool = pool;
+          pool = poolOf (now (pool .entry));
           bytes = bytes;
           records = records;
           store = store;
@@ -326,18 +320,18 @@ fn resume_at(
         reply)
         ⌝ }
 {
-    let turn = pool.turn;
-    let at = turn.at;
-    match at {
-        At::Rest => pool,
-        At::Asks(ask) => resume::resume(pool, groups, links, rows, lists, actors, ask, reply),
-        At::Runs(_) => pool,
+    let w = state::where_in(pool);
+    let kind = words::at_kind(w.place);
+    match kind {
+        AtKind::Rest => {}
+        AtKind::Asks => resume::resume(pool, groups, links, rows, lists, actors, w, reply),
+        AtKind::Runs => {}
     }
 }
 
 // The turn goes on from the reply to its question.
 fn resumed(
-    pool: Pool,
+    pool: &mut [u64; 28],
     log: &mut [u8],
     records: &mut [[u64; 3]],
     store: &[u8],
@@ -351,7 +345,7 @@ fn resumed(
     ensures { λ r. ⌜
         record {
           state = record {
-            pool = r .pool;
+            pool = poolOf (now (pool .exit));
             bytes = now (log .exit);
             records = now (records .exit);
             store = now (store .entry);
@@ -361,11 +355,11 @@ fn resumed(
             keys = now (lists .exit);
             actors = now (actors .exit);
           };
-          answer = r .answer;
+          answer = answerOf r (poolOf (now (pool .exit))) (now (links .exit)) (now (rows .exit));
         }
         ≡ resumedOf
         (record {
-          pool = pool;
+          pool = poolOf (now (pool .entry));
           bytes = now (log .entry);
           records = now (records .entry);
           store = now (store .entry);
@@ -378,14 +372,24 @@ fn resumed(
         reply
         ⌝ }
 {
-    let p = resume_at(pool, groups, links, rows, lists, actors, reply);
-    run::run(p, log, records, store, groups, links, rows, lists, actors)
+    resume_at(pool, groups, links, rows, lists, actors, reply);
+    run::run(
+        pool,
+        log,
+        records,
+        store,
+        groups,
+        links,
+        rows,
+        lists,
+        actors,
+    )
 }
 
 // A reply, with the bytes of a message that was sent: the order's, such a message, or the answer to the turn's
 // question.
 pub fn reply(
-    pool: Pool,
+    pool: &mut [u64; 28],
     log: &mut [u8],
     records: &mut [[u64; 3]],
     store: &mut [u8],
@@ -401,7 +405,7 @@ pub fn reply(
     ensures { λ r. ⌜
         record {
           state = record {
-            pool = r .pool;
+            pool = poolOf (now (pool .exit));
             bytes = now (log .exit);
             records = now (records .exit);
             store = now (store .exit);
@@ -411,11 +415,11 @@ pub fn reply(
             keys = now (lists .exit);
             actors = now (actors .exit);
           };
-          answer = r .answer;
+          answer = answerOf r (poolOf (now (pool .exit))) (now (links .exit)) (now (rows .exit));
         }
         ≡ replyOf
         (record {
-          pool = pool;
+          pool = poolOf (now (pool .entry));
           bytes = now (log .entry);
           records = now (records .entry);
           store = now (store .entry);
@@ -430,7 +434,7 @@ pub fn reply(
 {
     let check = refusals::reply_check(pool, links, rows, reply, name, body);
     match check {
-        Check::Refuse(r) => answer::refused(pool, r),
+        Check::Refuse(r) => answer::refused(r),
         Check::Fine => {
             let kind = stored_in(reply);
             match kind {
@@ -445,7 +449,7 @@ pub fn reply(
                     lists,
                     actors,
                 ),
-                StoredIn::Failed => failed(pool, links, rows),
+                StoredIn::Failed => failed(pool),
                 StoredIn::Other => {
                     let message = refusals::is_message(reply);
                     if message {
@@ -469,120 +473,78 @@ pub fn reply(
     }
 }
 
-// What the log had due for a sync, acted on: its order waits, with the counters as they are now; or the pool is as it
-// was.
-fn sync_answered(
-    pool: Pool,
-    counters: Counters,
-    due: log::Due,
-    links: &[[u64; 4]],
-    rows: &[[u64; 7]],
-) -> Called
+// A sync that is accepted: a flush waits, if one was due.
+fn sync_log(pool: &mut [u64; 28]) -> Called
     ensures { λ r. ⌜
-        ((bytes : List ℕ) (records : Table) (store : List ℕ) (groups keys actors : Table) →
+        ((bytes : List ℕ) (records : Table) (store : List ℕ) (groups links rows keys actors : Table) →
         record {
           state = record {
-            pool = r .pool;
+            pool = poolOf (now (pool .exit));
             bytes = bytes;
             records = records;
             store = store;
             groups = groups;
-            links = now (links .entry);
-            rows = now (rows .entry);
+            links = links;
+            rows = rows;
             keys = keys;
             actors = actors;
           };
-          answer = r .answer;
-        }
-        ≡ syncShown
-        (record {
-          pool = pool;
-          bytes = bytes;
-          records = records;
-          store = store;
-          groups = groups;
-          links = now (links .entry);
-          rows = now (rows .entry);
-          keys = keys;
-          actors = actors;
-        })
-        (record { counters = counters; due = due }))
-        ⌝ }
-{
-    match due {
-        log::Due::Ordered(order) => {
-            let disk = Disk::Waits(order, What::Nothing);
-            let p = state::with_disk(pool, counters, disk);
-            answer::shown_now(p, links, rows)
-        }
-        log::Due::Nothing => answer::shown_now(pool, links, rows),
-    }
-}
-
-// A sync that is accepted: the log changes the pool's counters, lent to it by `&mut`.
-fn sync_log(pool: Pool, links: &[[u64; 4]], rows: &[[u64; 7]]) -> Called
-    ensures { λ r. ⌜
-        ((bytes : List ℕ) (records : Table) (store : List ℕ) (groups keys actors : Table) →
-        record {
-          state = record {
-            pool = r .pool;
-            bytes = bytes;
-            records = records;
-            store = store;
-            groups = groups;
-            links = now (links .entry);
-            rows = now (rows .entry);
-            keys = keys;
-            actors = actors;
-          };
-          answer = r .answer;
+          answer = answerOf r (poolOf (now (pool .exit))) links rows;
         }
         ≡ syncDid
         (record {
-          pool = pool;
+          pool = poolOf (now (pool .entry));
           bytes = bytes;
           records = records;
           store = store;
           groups = groups;
-          links = now (links .entry);
-          rows = now (rows .entry);
+          links = links;
+          rows = rows;
           keys = keys;
           actors = actors;
         }))
         ⌝ }
 {
-    let mut counters = state::counters_of(pool);
-    let due = wal::sync(&mut counters);
-    sync_answered(pool, counters, due, links, rows)
+    let before = state::counters(pool);
+    let s = logged::sync(before);
+    let due = s.due;
+    let some = state::is_due(due);
+    if some {
+        let counters = s.counters;
+        let disk = state::waiting(due, state::NOTHING, 0);
+        state::set_log(pool, counters, disk);
+        return answer::shown_now();
+    }
+    answer::shown_now()
 }
 
 // A flush is ordered, if a record was appended since the last one.
-pub fn sync(pool: Pool, links: &[[u64; 4]], rows: &[[u64; 7]]) -> Called
+pub fn sync(pool: &mut [u64; 28]) -> Called
     ensures { λ r. ⌜
-        ((bytes : List ℕ) (records : Table) (store : List ℕ) (groups keys actors : Table) →
+        ((bytes : List ℕ) (records : Table) (store : List ℕ) (groups links rows keys actors : Table) →
         record {
           state = record {
-            pool = r .pool;
+            pool = poolOf (now (pool .exit));
             bytes = bytes;
             records = records;
             store = store;
             groups = groups;
-            links = now (links .entry);
-            rows = now (rows .entry);
+            links = links;
+            rows = rows;
             keys = keys;
             actors = actors;
           };
-          answer = r .answer;
+          answer = answerOf r (poolOf (now (pool .exit))) links rows;
         }
         ≡ syncOf
         (record {
-          pool = pool;
+          pool = poolOf (now (pool .entry));
           bytes = bytes;
           records = records;
           store = store;
           groups = groups;
-          links = now (links .entry);
-          rows = now (rows .entry);
+          links = links;
+          rows = rows;
           keys = keys;
           actors = actors;
         }))
@@ -590,51 +552,38 @@ pub fn sync(pool: Pool, links: &[[u64; 4]], rows: &[[u64; 7]]) -> Called
 {
     let check = refusals::sync_check(pool);
     match check {
-        Check::Refuse(r) => answer::refused(pool, r),
-        Check::Fine => sync_log(pool, links, rows),
-    }
-}
-
-fn closed_pool(pool: Pool) -> Pool
-    ensures { λ r. ⌜ r ≡ closedPool pool ⌝ }
-{
-    let turn = pool.turn;
-    let limits = pool.limits;
-    Pool {
-        turn,
-        limits,
-        closed: true,
-        seeded: pool.seeded,
+        Check::Refuse(r) => answer::refused(r),
+        Check::Fine => sync_log(pool),
     }
 }
 
 // No more is admitted; closing twice is accepted.
-pub fn close(pool: Pool, links: &[[u64; 4]], rows: &[[u64; 7]]) -> Called
+pub fn close(pool: &mut [u64; 28]) -> Called
     ensures { λ r. ⌜
-        ((bytes : List ℕ) (records : Table) (store : List ℕ) (groups keys actors : Table) →
+        ((bytes : List ℕ) (records : Table) (store : List ℕ) (groups links rows keys actors : Table) →
         record {
           state = record {
-            pool = r .pool;
+            pool = poolOf (now (pool .exit));
             bytes = bytes;
             records = records;
             store = store;
             groups = groups;
-            links = now (links .entry);
-            rows = now (rows .entry);
+            links = links;
+            rows = rows;
             keys = keys;
             actors = actors;
           };
-          answer = r .answer;
+          answer = answerOf r (poolOf (now (pool .exit))) links rows;
         }
         ≡ closeOf
         (record {
-          pool = pool;
+          pool = poolOf (now (pool .entry));
           bytes = bytes;
           records = records;
           store = store;
           groups = groups;
-          links = now (links .entry);
-          rows = now (rows .entry);
+          links = links;
+          rows = rows;
           keys = keys;
           actors = actors;
         }))
@@ -642,10 +591,10 @@ pub fn close(pool: Pool, links: &[[u64; 4]], rows: &[[u64; 7]]) -> Called
 {
     let check = refusals::sync_check(pool);
     match check {
-        Check::Refuse(r) => answer::refused(pool, r),
+        Check::Refuse(r) => answer::refused(r),
         Check::Fine => {
-            let p = closed_pool(pool);
-            answer::shown_now(p, links, rows)
+            state::close(pool);
+            answer::shown_now()
         }
     }
 }

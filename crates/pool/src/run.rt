@@ -3,15 +3,15 @@ ghost use mathlib.Core.Path.{_≡_};
 ghost use mathlib.Core.List.{List};
 ghost use Prim.Native.Nat.{ℕ};
 ghost use Rattle.lists.specs.Links.{Table};
+ghost use Rattle.turn.specs.Words.{poolOf};
+ghost use Rattle.front.specs.Answers.{answerOf};
 ghost use Rattle.pool.specs.Run.{waitersFrom, busyOf, answeredOf, runOf};
 use front::answer;
-use front::answer::Answer;
 use front::answer::Called;
 use front::refusals;
 use group::roster;
 use lists::keys;
-use turn::state::Counts;
-use turn::state::Pool;
+use turn::state;
 use turn::step;
 
 // Whether some waiting list is not empty.
@@ -32,10 +32,10 @@ fn waiters(lists: &[[u8; 65]], groups: usize) -> bool
 }
 
 // Whether an actor was stepped, or pending is not empty.
-fn busy(counts: Counts, links: &[[u64; 4]]) -> bool
-    ensures { λ r. ⌜ r ≡ busyOf counts (now (links .entry)) ⌝ }
+fn busy(pool: &[u64; 28], links: &[[u64; 4]]) -> bool
+    ensures { λ r. ⌜ r ≡ busyOf (poolOf (now (pool .entry)) .turn .counts) (now (links .entry)) ⌝ }
 {
-    let stepped = counts.stepped;
+    let stepped = state::stepped(pool);
     let pending = lists::length_of(links, lists::PENDING);
     if stepped {
         return true;
@@ -44,55 +44,51 @@ fn busy(counts: Counts, links: &[[u64; 4]]) -> bool
 }
 
 // The turn ended where it is at rest; else a question or an order is open.
-fn answered(pool: Pool, links: &[[u64; 4]], rows: &[[u64; 7]], lists: &[[u8; 65]]) -> Called
+fn answered(pool: &[u64; 28], links: &[[u64; 4]], lists: &[[u8; 65]]) -> Called
     ensures { λ r. ⌜
-        ((bytes : List ℕ) (records : Table) (store : List ℕ) (groups actors : Table) →
+        ((bytes : List ℕ) (records : Table) (store : List ℕ) (groups rows actors : Table) →
         record {
           state = record {
-            pool = r .pool;
+            pool = poolOf (now (pool .entry));
             bytes = bytes;
             records = records;
             store = store;
             groups = groups;
             links = now (links .entry);
-            rows = now (rows .entry);
+            rows = rows;
             keys = now (lists .entry);
             actors = actors;
           };
-          answer = r .answer;
+          answer = answerOf r (poolOf (now (pool .entry))) (now (links .entry)) rows;
         }
         ≡ answeredOf
         (record {
-          pool = pool;
+          pool = poolOf (now (pool .entry));
           bytes = bytes;
           records = records;
           store = store;
           groups = groups;
           links = now (links .entry);
-          rows = now (rows .entry);
+          rows = rows;
           keys = now (lists .entry);
           actors = actors;
         }))
         ⌝ }
 {
-    let turn = pool.turn;
-    let at = turn.at;
+    let at = state::where_in(pool);
     let during = refusals::in_turn(at);
     if during {
-        return answer::shown_now(pool, links, rows);
+        return answer::shown_now();
     }
-    let counts = turn.counts;
-    let b = busy(counts, links);
-    let w = waiters(lists, pool.limits.groups);
-    Called {
-        pool,
-        answer: Answer::Ended(b, w),
-    }
+    let b = busy(pool, links);
+    let count = state::groups(pool);
+    let w = waiters(lists, count);
+    answer::turn_ended(b, w)
 }
 
 // Runs until a question, an order or the end.
 pub(crate) fn run(
-    pool: Pool,
+    pool: &mut [u64; 28],
     log: &mut [u8],
     records: &mut [[u64; 3]],
     store: &[u8],
@@ -105,7 +101,7 @@ pub(crate) fn run(
     ensures { λ r. ⌜
         record {
           state = record {
-            pool = r .pool;
+            pool = poolOf (now (pool .exit));
             bytes = now (log .exit);
             records = now (records .exit);
             store = now (store .entry);
@@ -115,11 +111,11 @@ pub(crate) fn run(
             keys = now (lists .exit);
             actors = now (actors .exit);
           };
-          answer = r .answer;
+          answer = answerOf r (poolOf (now (pool .exit))) (now (links .exit)) (now (rows .exit));
         }
         ≡ runOf
         (record {
-          pool = pool;
+          pool = poolOf (now (pool .entry));
           bytes = now (log .entry);
           records = now (records .entry);
           store = now (store .entry);
@@ -131,7 +127,7 @@ pub(crate) fn run(
         })
         ⌝ }
 {
-    let p = step::advance(
+    step::advance(
         pool,
         store,
         groups,
@@ -142,5 +138,5 @@ pub(crate) fn run(
         lists,
         actors,
     );
-    answered(p, links, rows, lists)
+    answered(pool, links, lists)
 }

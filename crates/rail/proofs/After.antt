@@ -21,8 +21,7 @@ use Rattle.log.proofs.RecoveryLaws as sound
 use Rattle.handing.specs.Handing.{idsOf}
 use Rattle.places.proofs.Steps.{pick-rule}
 use Rattle.turn.specs.declared.state.Limits.{Limits}
-use Rattle.turn.specs.declared.state.Pool.{Pool}
-use Rattle.turn.specs.State.{State, walOf}
+use Rattle.turn.specs.State.{Pool, State, walOf}
 use Rattle.turn.specs.Asks.{openIn}
 use Rattle.front.specs.declared.answer.Refusal.{Refusal}
 use Rattle.front.specs.declared.answer.Answer.{Answer}

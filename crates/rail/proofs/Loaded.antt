@@ -28,7 +28,7 @@ use Rattle.setup.specs.Entry.{Messages, Arrival, keepAt, keepOf}
 use Rattle.setup.proofs.Parts.{keep-long}
 use Rattle.places.specs.Places.{Sound}
 use Rattle.places.proofs.Steps.{pick-rule}
-use Rattle.turn.specs.State.{State, walOf, withPool}
+use Rattle.turn.specs.State.{State, walOf, withPool, closedPool}
 use Rattle.turn.specs.Step.{advanced}
 use Rattle.keeping.proofs.Turn.{StateSound}
 use Rattle.front.specs.declared.answer.Answer.{Answer}
@@ -125,7 +125,7 @@ module _ (s : State) where
       table-rule Long s (judged (syncRefusals (s .pool))) (shown (withPool s (one.syncEffect (s .pool)))) (λ r. refl)
       (λ fine. refl)
   call-long close =
-      table-rule Long s (judged (closeRefusals (s .pool))) (shown (withPool s (one.closedPool (s .pool))))
+      table-rule Long s (judged (closeRefusals (s .pool))) (shown (withPool s (closedPool (s .pool))))
       (λ r. refl) (λ fine. refl)
 
 -- the state after a call is what the call made of it, whatever is ordered

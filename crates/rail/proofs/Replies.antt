@@ -32,8 +32,7 @@ use Rattle.turn.specs.declared.state.What.the-variants as what
 use Rattle.turn.specs.declared.state.Limits.{Limits}
 use Rattle.turn.specs.declared.state.Disk.{Disk}
 use Rattle.turn.specs.declared.state.Disk.the-variants as order
-use Rattle.turn.specs.declared.state.Pool.{Pool}
-use Rattle.turn.specs.State.{State, walOf, withPool, withDisk}
+use Rattle.turn.specs.State.{Pool, State, walOf, withPool, withDisk, closedPool}
 use Rattle.turn.specs.Resume.{resumeOf}
 use Rattle.turn.specs.Step.{advanced}
 use Rattle.front.specs.Answers.{shown, messagesOf, kept}
@@ -43,7 +42,7 @@ use Rattle.pool.specs.declared.calls.StoredIn.{StoredIn}
 use Rattle.pool.specs.declared.calls.StoredIn.the-variants as stored
 use Rattle.pool.specs.Run.{runOf}
 use Rattle.pool.specs.Calls as pool
-use Rattle.pool.specs.Calls.{firstPoint, begunOf, freed, resumeIn, resumeAt, closedPool, storedIn}
+use Rattle.pool.specs.Calls.{firstPoint, begunOf, freed, resumeIn, resumeAt, storedIn}
 use Rattle.rail.specs.Rail.{Call, turn, reply, sync, close, callOf, World, answered, answeredBy, orderAnswered}
 use Rattle.rail.specs.Rail.{nothing, OrderFits}
 use Rattle.rail.proofs.Invariant.{Agrees, Ledger, Working, Steady}

@@ -32,7 +32,7 @@ use Rattle.turn.specs.declared.state.Disk.the-variants as order
 use Rattle.turn.specs.declared.state.Limits.{Limits}
 use Rattle.turn.specs.State.{State, walOf, withLinks, isFree, runsAt, runningOf, marksAt}
 use Rattle.turn.specs.Go.{goOf}
-use Rattle.turn.specs.Step.{markedLog, marked, markLogged, markFound, markFirst, markAt, goFree, stepAt}
+use Rattle.turn.specs.Step.{marked, markLogged, markFound, markFirst, markAt, goFree, stepAt}
 use Rattle.turn.specs.Step.{stepOf, advanced}
 use Rattle.turn.specs.Advance.{GoesOn, here, step}
 use Rattle.turn.proofs.Advance.{advances}
@@ -219,13 +219,13 @@ module _ (long : ℕ) (j : disk.World) (s : State) (free : s .pool .turn .disk �
           (works .wal) (mark-sound long limit j (id .0) (out .order) settles (works .journal)) (out .due-is)
 
       abbrev markedBy : Due → State
-      markedBy d = marked freed (markedLog (record { wal = did .wal; due = d }) id)
+      markedBy d = marked freed id (record { wal = did .wal; due = d })
 
       abbrev off : State
       off = markedBy (due.Ordered (out .order))
 
       stopped : Working long (markedOff j off (out .order) id) off
-      unfolding disk.issue markedLog
+      unfolding disk.issue
       stopped = record {
         sound = gone .sound;
         ids = λ x. omega (
@@ -243,13 +243,11 @@ module _ (long : ℕ) (j : disk.World) (s : State) (free : s .pool .turn .disk �
       }
 
       tail : TailKept (j .wal .bytes) off
-      unfolding markedLog
       tail =
           mark-tail limit (walOf s) (j .now) (id .0) standing
           ∙ ap (λ v. drop (did .wal .counters .size) (v .bytes)) (sym (works .wal))
 
       marks-it : Runs long j (markedBy (did .due))
-      unfolding markedLog
       marks-it =
           subst (λ d. Runs long j (markedBy d)) (sym (out .due-is))
           (marks (out .order) id refl there (out .next-is ∙ sym (ap (λ v. v .counters .next) (works .wal))) tail

@@ -20,8 +20,7 @@ use Rattle.group.specs.declared.at.At.the-variants as at
 use Rattle.group.specs.declared.at.Point.{Point}
 use Rattle.turn.specs.declared.state.Disk.{Disk}
 use Rattle.turn.specs.declared.state.Disk.the-variants as disk
-use Rattle.turn.specs.declared.state.Pool.{Pool}
-use Rattle.turn.specs.State.{State, isFree, runsAt, runningOf}
+use Rattle.turn.specs.State.{Pool, State, isFree, runsAt, runningOf}
 use Rattle.turn.specs.Step.{advanced}
 use Rattle.turn.specs.Advance.{Stops}
 use Rattle.turn.proofs.Advance.{settled}

@@ -9,8 +9,7 @@ use Rattle.lists.specs.declared.Found.{Found}
 use Rattle.lists.specs.declared.Found.the-variants.{Entry, Nothing}
 use Rattle.setup.specs.declared.part.Part.{Part}
 use Rattle.setup.specs.Part.{bytesIn, partOf}
-use Rattle.turn.specs.declared.state.Pool.{Pool}
-use Rattle.turn.specs.State.{State}
+use Rattle.turn.specs.State.{Pool, State}
 use Rattle.front.specs.declared.numbers.AnswerNumbers.{AnswerNumbers}
 use Rattle.front.specs.Answers.{Did}
 use Rattle.front.specs.Numbers.{flagNumber, numbersOf}

@@ -1,6 +1,8 @@
 // An entry of the output: the answer and the counters; the message that the answer shows; and, as far as they are
 // asked for, the log, the tables and the store.
 ghost use mathlib.Core.Path.{_≡_};
+ghost use Rattle.turn.specs.Words.{poolOf};
+ghost use Rattle.front.specs.Answers.{answerOf};
 ghost use Rattle.replay.specs.Entry.{
   entryNumbers,
   pourTexts,
@@ -12,13 +14,14 @@ ghost use Rattle.replay.specs.Entry.{
 };
 ghost use Rattle.wire.specs.Pour.{pour};
 ghost use Rattle.wire.specs.Number.{numbers};
-use front::answer::Answer;
+use front::answer;
+use front::answer::Called;
 use front::numbers;
 use front::numbers::AnswerNumbers;
 use lists::Found;
 use setup::part;
 use setup::part::Span;
-use turn::state::Pool;
+use turn::state;
 use wire::pour;
 use wire::pour::Done;
 
@@ -116,16 +119,15 @@ fn pour_store(out: &mut [u8], d: Done, show: u64, store: &[u8]) -> Done
 }
 
 // The answer and the counters.
-fn pour_head(out: &mut [u8], d: Done, s: AnswerNumbers, pool: Pool) -> Done
+fn pour_head(out: &mut [u8], d: Done, s: AnswerNumbers, pool: &[u64; 28]) -> Done
     ensures { λ r.
         ⌜ record { out = now (out .exit); at = r .at; code = r .code }
         ≡ pour (record { out = now (out .entry); at = d .at; code = d .code })
-        (numbers (entryNumbers s pool)) ⌝ }
+        (numbers (entryNumbers s (poolOf (now (pool .entry))))) ⌝ }
 {
-    let turn = pool.turn;
-    let counters = turn.log;
-    let counts = turn.counts;
-    let losses = counts.losses;
+    let counters = state::counters(pool);
+    let queued = state::queued(pool);
+    let losses = state::losses(pool);
     let head = [
         s.kind,
         s.a,
@@ -136,7 +138,7 @@ fn pour_head(out: &mut [u8], d: Done, s: AnswerNumbers, pool: Pool) -> Done
         counters.size as u64,
         numbers::flag(counters.dirty),
         counters.count as u64,
-        counts.queued,
+        queued,
         losses.dead,
         losses.crashes,
     ];
@@ -148,8 +150,8 @@ pub(crate) fn pour_entry(
     out: &mut [u8],
     d: Done,
     show: u64,
-    answer: Answer,
-    pool: Pool,
+    called: Called,
+    pool: &[u64; 28],
     log: &[u8],
     records: &[[u64; 3]],
     store: &[u8],
@@ -164,7 +166,7 @@ pub(crate) fn pour_entry(
         ≡ pourEntry show (record { out = now (out .entry); at = d .at; code = d .code })
         (record {
           state = record {
-            pool = pool;
+            pool = poolOf (now (pool .entry));
             bytes = now (log .entry);
             records = now (records .entry);
             store = now (store .entry);
@@ -174,13 +176,14 @@ pub(crate) fn pour_entry(
             keys = now (lists .entry);
             actors = now (actors .entry);
           };
-          answer = answer;
+          answer = answerOf called (poolOf (now (pool .entry))) (now (links .entry)) (now (rows .entry));
         }) ⌝ }
 {
+    let answer = answer::answer_of(called, pool, links, rows);
     let s = numbers::numbers_of(answer);
     let message = s.message;
-    let turn = pool.turn;
-    let size = turn.log.size;
+    let counters = state::counters(pool);
+    let size = counters.size;
     let a = pour_head(out, d, s, pool);
     let b = pour_message(out, a, message, rows, store);
     let c = pour_log(out, b, show, log, size);

@@ -24,6 +24,7 @@ pub extern "C" fn replay(script: &[u8], log: &mut [u8], store: &mut [u8], out: &
         return 2;
     }
     let mut given = [[0u64; 37]; 16];
+    let mut pool = [0u64; 28];
     let mut records = [[0u64; 3]; 256];
     let mut groups = [[0u64; 37]; 8];
     let mut links = [[0u64; 4]; 262];
@@ -36,6 +37,7 @@ pub extern "C" fn replay(script: &[u8], log: &mut [u8], store: &mut [u8], out: &
         store,
         out,
         &mut given,
+        &mut pool,
         &mut records,
         &mut groups,
         &mut links,

@@ -5,15 +5,18 @@ ghost use Prim.Native.Nat.{_+_, _≤_};
 ghost use lib.ListN.{length, take};
 ghost use Rattle.rail.specs.Rail.{callOf, accepted};
 ghost use Rattle.door.specs.Open.{openOf};
+ghost use Rattle.lists.specs.Links.{Table};
+ghost use Rattle.turn.specs.State.{Pool};
+ghost use Rattle.turn.specs.Words.{poolOf};
+ghost use Rattle.front.specs.Answers.{answerOf};
 ghost use Rattle.replay.specs.Replay.{heard, callsAt, play, blank, placed, playOpened, playScript};
 use crate::entry;
 use door::admit;
 use door::open;
-use front::answer::Answer;
+use front::answer::AnswerKind;
 use front::answer::Called;
 use pool::calls;
 use setup::settings::Settings;
-use turn::state::Pool;
 use wire::pour;
 use wire::pour::Done;
 use wire::script;
@@ -26,7 +29,7 @@ use wire::script::Kind;
 fn step(
     script: &[u8],
     call: CallAt,
-    pool: Pool,
+    pool: &mut [u64; 28],
     log: &mut [u8],
     records: &mut [[u64; 3]],
     store: &mut [u8],
@@ -40,7 +43,7 @@ fn step(
     ensures { λ r.
         ⌜ record {
           state = record {
-            pool = r .pool;
+            pool = poolOf (now (pool .exit));
             bytes = now (log .exit);
             records = now (records .exit);
             store = now (store .exit);
@@ -50,11 +53,11 @@ fn step(
             keys = now (lists .exit);
             actors = now (actors .exit);
           };
-          answer = r .answer;
+          answer = answerOf r (poolOf (now (pool .exit))) (now (links .exit)) (now (rows .exit));
         }
         ≡ callOf
         (record {
-          pool = pool;
+          pool = poolOf (now (pool .entry));
           bytes = now (log .entry);
           records = now (records .entry);
           store = now (store .entry);
@@ -108,8 +111,8 @@ fn step(
             &script[from..mid],
             &script[mid..end],
         ),
-        Kind::Sync => calls::sync(pool, links, rows),
-        Kind::Close => calls::close(pool, links, rows),
+        Kind::Sync => calls::sync(pool),
+        Kind::Close => calls::close(pool),
     }
 }
 
@@ -118,7 +121,7 @@ fn run_calls(
     script: &[u8],
     start: usize,
     show: u64,
-    first: Pool,
+    pool: &mut [u64; 28],
     log: &mut [u8],
     records: &mut [[u64; 3]],
     store: &mut [u8],
@@ -138,7 +141,7 @@ fn run_calls(
         }
         ≡ play show
         (record {
-          pool = first;
+          pool = poolOf (now (pool .entry));
           bytes = now (log .entry);
           records = now (records .entry);
           store = now (store .entry);
@@ -151,7 +154,6 @@ fn run_calls(
         (record { out = now (out .entry); at = d .at; code = d .code })
         (callsAt (length (now (script .entry))) (now (script .entry)) start) ⌝ }
 {
-    let mut pool = first;
     let mut p = start;
     let mut e = d;
     while e.code == 0 {
@@ -178,14 +180,12 @@ fn run_calls(
                     lists,
                     actors,
                 );
-                let after = called.pool;
-                let answer = called.answer;
                 let next = entry::pour_entry(
                     out,
                     e,
                     show,
-                    answer,
-                    after,
+                    called,
+                    pool,
                     log,
                     records,
                     store,
@@ -195,7 +195,6 @@ fn run_calls(
                     lists,
                     actors,
                 );
-                pool = after;
                 e = next;
                 p = end;
             }
@@ -205,13 +204,14 @@ fn run_calls(
 }
 
 // Whether an opening was accepted.
-fn is_accepted(a: Answer) -> bool
-    ensures { λ r. ⌜ r ≡ accepted a ⌝ }
+fn is_accepted(called: Called) -> bool
+    ensures { λ r. ⌜ ((p : Pool) (links rows : Table) → r ≡ accepted (answerOf called p links rows)) ⌝ }
 {
-    match a {
-        Answer::Refused(_) => false,
-        Answer::Open(_) => true,
-        Answer::Ended(_, _) => true,
+    let kind = called.kind;
+    match kind {
+        AnswerKind::Refused => false,
+        AnswerKind::Open => true,
+        AnswerKind::Ended => true,
     }
 }
 
@@ -223,6 +223,7 @@ fn run_opened(
     settings: Settings,
     given: &[[u64; 37]],
     n: usize,
+    pool: &mut [u64; 28],
     log: &mut [u8],
     records: &mut [[u64; 3]],
     store: &mut [u8],
@@ -257,6 +258,7 @@ fn run_opened(
         (record { out = now (out .entry); at = d .at; code = d .code }) ⌝ }
 {
     let called = open::open(
+        pool,
         settings,
         given,
         log,
@@ -269,13 +271,11 @@ fn run_opened(
         lists,
         actors,
     );
-    let pool = called.pool;
-    let answer = called.answer;
     let e = entry::pour_entry(
         out,
         d,
         show,
-        answer,
+        called,
         pool,
         log,
         records,
@@ -286,7 +286,7 @@ fn run_opened(
         lists,
         actors,
     );
-    let goes_on = is_accepted(answer);
+    let goes_on = is_accepted(called);
     if goes_on {
         return run_calls(
             script,
@@ -324,6 +324,7 @@ pub(crate) fn play(
     store: &mut [u8],
     out: &mut [u8],
     given: &mut [[u64; 37]],
+    pool: &mut [u64; 28],
     records: &mut [[u64; 3]],
     groups: &mut [[u64; 37]],
     links: &mut [[u64; 4]],
@@ -363,6 +364,7 @@ pub(crate) fn play(
                         settings,
                         &given[..count],
                         n,
+                        pool,
                         log,
                         records,
                         store,

@@ -24,8 +24,18 @@ use Rattle.group.specs.declared.settings.Named.{Named}
 use Rattle.group.specs.declared.settings.Named.the-variants as named
 use Rattle.group.specs.Settings.{groupAt, groupFor}
 use Rattle.group.specs.Roster.{Keyed, Spawned, IdlePopped, slotAt, liveLen, scheduleOf, spawnOf, popIdleOf, leastOf}
-use Rattle.routing.specs.declared.route.Routed.{Routed}
+use Rattle.routing.specs.declared.route.Routed as words
 use Rattle.routing.specs.Intake.{BATCH, Linked}
+use Rattle.group.specs.Words.{atOf}
+
+-- where the turn stands then, and the new counts
+pub record Routed : Type 0 where
+  pub at : At
+  pub queued : ℕ
+
+-- the same of the words that code hands on
+abbrev pub routedOf : words.Routed → Routed
+routedOf w = record { at = atOf (w .at); queued = w .queued }
 
 pub record Mailed : Type 0 where
   pub links : Table

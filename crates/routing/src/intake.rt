@@ -1,9 +1,10 @@
 // Inbox to pending while pending and queued are below the backlog, one message a step; then all of pending is the
 // batch.
 ghost use mathlib.Core.Path.{_≡_};
+ghost use Rattle.group.specs.Words.{atOf};
 ghost use Rattle.routing.specs.Intake.{batchSize, batchOf, intakeOf};
-use group::at::At;
-use group::at::Point;
+use group::words;
+use group::words::Where;
 
 // At most all entries.
 fn batch_size(n: u64) -> u64
@@ -13,19 +14,19 @@ fn batch_size(n: u64) -> u64
 }
 
 // All of pending is to be routed.
-fn batch(links: &mut [[u64; 4]]) -> At
-    ensures { λ r. ⌜ record { links = now (links .exit); at = r } ≡ batchOf (now (links .entry)) ⌝ }
+fn batch(links: &mut [[u64; 4]]) -> Where
+    ensures { λ r. ⌜ record { links = now (links .exit); at = atOf r } ≡ batchOf (now (links .entry)) ⌝ }
 {
     lists::move_all(links, lists::PENDING, lists::BATCH);
     let n = lists::length_of(links, lists::BATCH);
     let left = batch_size(n);
-    At::Runs(Point::Route(left))
+    words::route(left)
 }
 
 // One message more of the inbox is taken in, or the batch begins.
-pub fn intake(links: &mut [[u64; 4]], queued: u64, backlog: u64, left: u64) -> At
+pub fn intake(links: &mut [[u64; 4]], queued: u64, backlog: u64, left: u64) -> Where
     ensures { λ r.
-        ⌜ record { links = now (links .exit); at = r }
+        ⌜ record { links = now (links .exit); at = atOf r }
         ≡ intakeOf (now (links .entry)) queued backlog left ⌝ }
 {
     if left == 0 {
@@ -42,5 +43,5 @@ pub fn intake(links: &mut [[u64; 4]], queued: u64, backlog: u64, left: u64) -> A
     }
     lists::move_first(links, lists::INBOX, lists::PENDING);
     let fewer = lists::less(left, 1);
-    At::Runs(Point::Intake(fewer))
+    words::intake(fewer)
 }

@@ -1,6 +1,7 @@
 // `route_pending` of the Rust: the batch's messages go to actors of their groups. An actor is picked: an idle one,
 // else a spawn under the ceiling, else the least loaded. A message that nobody can get is over.
 ghost use mathlib.Core.Path.{_≡_};
+ghost use Rattle.group.specs.Words.{atOf};
 ghost use Rattle.routing.specs.Route.{
   wakeAt,
   undeliverable,
@@ -15,37 +16,37 @@ ghost use Rattle.routing.specs.Route.{
   routeOf,
   routeBooted,
   routeReply,
+  routedOf,
 };
 use actor::message;
 use actor::question;
 use actor::question::Reply;
 use actor::question::YesIn;
 use actor::state;
-use group::at::Ask;
-use group::at::At;
-use group::at::Point;
 use group::roster;
 use group::settings;
 use group::settings::Named;
+use group::words;
+use group::words::Where;
 use lists::Found;
 use lists::keys::Key;
 use steps::step;
 
 // The next point, and the new queued.
 pub struct Routed {
-    pub at: At,
+    pub at: Where,
     pub queued: u64,
 }
 
 // The batch's first message is over.
-fn undeliverable_first(links: &mut [[u64; 4]], rows: &[[u64; 7]], left: u64) -> At
+fn undeliverable_first(links: &mut [[u64; 4]], rows: &[[u64; 7]], left: u64) -> Where
     ensures { λ r.
-        ⌜ record { links = now (links .exit); at = r }
+        ⌜ record { links = now (links .exit); at = atOf r }
         ≡ undeliverable (now (links .entry)) (now (rows .entry)) left ⌝ }
 {
     step::over_first(links, rows, lists::BATCH);
     let fewer = lists::less(left, 1);
-    At::Runs(Point::Route(fewer))
+    words::route(fewer)
 }
 
 // A message came to an actor's mailbox: it is idle no more, and queued to run.
@@ -84,17 +85,15 @@ fn deliver_first(
     left: u64,
 ) -> Routed
     ensures { λ r.
-        ⌜ record { links = now (links .exit); keys = now (lists .exit); actors = now (actors .exit); routed = r }
+        ⌜ record { links = now (links .exit); keys = now (lists .exit); actors = now (actors .exit); routed = routedOf r }
         ≡ deliver (now (links .entry)) (now (lists .entry)) (now (actors .entry)) g key queued left ⌝ }
 {
     let slot = roster::slot_at(g, key);
     let more = deliver_to(links, slot, queued);
     wake_at(lists, actors, g, key);
     let fewer = lists::less(left, 1);
-    Routed {
-        at: At::Runs(Point::Route(fewer)),
-        queued: more,
-    }
+    let at = words::route(fewer);
+    Routed { at, queued: more }
 }
 
 // The batch's first message is delivered to an actor, or, where there is none, over.
@@ -109,7 +108,7 @@ fn deliver_key(
     left: u64,
 ) -> Routed
     ensures { λ r.
-        ⌜ record { links = now (links .exit); keys = now (lists .exit); actors = now (actors .exit); routed = r }
+        ⌜ record { links = now (links .exit); keys = now (lists .exit); actors = now (actors .exit); routed = routedOf r }
         ≡ deliverKey (now (links .entry)) (now (rows .entry)) (now (lists .entry)) (now (actors .entry)) g key
         queued left ⌝ }
 {
@@ -133,7 +132,7 @@ fn route_least(
     left: u64,
 ) -> Routed
     ensures { λ r.
-        ⌜ record { links = now (links .exit); keys = now (lists .exit); actors = now (actors .exit); routed = r }
+        ⌜ record { links = now (links .exit); keys = now (lists .exit); actors = now (actors .exit); routed = routedOf r }
         ≡ routeLeast (now (links .entry)) (now (rows .entry)) (now (lists .entry)) (now (actors .entry)) g
         queued left ⌝ }
 {
@@ -153,7 +152,7 @@ fn route_spawned(
     left: u64,
 ) -> Routed
     ensures { λ r.
-        ⌜ record { links = now (links .exit); keys = now (lists .exit); actors = now (actors .exit); routed = r }
+        ⌜ record { links = now (links .exit); keys = now (lists .exit); actors = now (actors .exit); routed = routedOf r }
         ≡ routeSpawned (now (links .entry)) (now (rows .entry)) (now (lists .entry)) (now (actors .entry)) g
         eval queued left ⌝ }
 {
@@ -175,7 +174,7 @@ fn route_new(
     left: u64,
 ) -> Routed
     ensures { λ r.
-        ⌜ record { links = now (links .exit); keys = now (lists .exit); actors = now (actors .exit); routed = r }
+        ⌜ record { links = now (links .exit); keys = now (lists .exit); actors = now (actors .exit); routed = routedOf r }
         ≡ routeNew (now (groups .entry)) (now (links .entry)) (now (rows .entry)) (now (lists .entry))
         (now (actors .entry)) g queued left ⌝ }
 {
@@ -187,10 +186,8 @@ fn route_new(
         if eval {
             return route_spawned(links, rows, lists, actors, g, true, queued, left);
         }
-        return Routed {
-            at: At::Asks(Ask::RouteBoot(g, left)),
-            queued,
-        };
+        let at = words::route_boot(g, left);
+        return Routed { at, queued };
     }
     route_least(links, rows, lists, actors, g, queued, left)
 }
@@ -207,7 +204,7 @@ fn route_to(
     left: u64,
 ) -> Routed
     ensures { λ r.
-        ⌜ record { links = now (links .exit); keys = now (lists .exit); actors = now (actors .exit); routed = r }
+        ⌜ record { links = now (links .exit); keys = now (lists .exit); actors = now (actors .exit); routed = routedOf r }
         ≡ routeTo (now (groups .entry)) (now (links .entry)) (now (rows .entry)) (now (lists .entry))
         (now (actors .entry)) g queued left ⌝ }
 {
@@ -231,7 +228,7 @@ fn route_one(
     left: u64,
 ) -> Routed
     ensures { λ r.
-        ⌜ record { links = now (links .exit); keys = now (lists .exit); actors = now (actors .exit); routed = r }
+        ⌜ record { links = now (links .exit); keys = now (lists .exit); actors = now (actors .exit); routed = routedOf r }
         ≡ routeOne (now (groups .entry)) count (now (store .entry)) (now (links .entry)) (now (rows .entry))
         (now (lists .entry)) (now (actors .entry)) entry queued left ⌝ }
 {
@@ -259,15 +256,13 @@ pub fn route(
     left: u64,
 ) -> Routed
     ensures { λ r.
-        ⌜ record { links = now (links .exit); keys = now (lists .exit); actors = now (actors .exit); routed = r }
+        ⌜ record { links = now (links .exit); keys = now (lists .exit); actors = now (actors .exit); routed = routedOf r }
         ≡ routeOf (now (groups .entry)) count (now (store .entry)) (now (links .entry)) (now (rows .entry))
         (now (lists .entry)) (now (actors .entry)) queued left ⌝ }
 {
     if left == 0 {
-        return Routed {
-            at: At::Asks(Ask::TickClock),
-            queued,
-        };
+        let at = words::tick_clock();
+        return Routed { at, queued };
     }
     match lists::first(links, lists::BATCH) {
         Found::Entry(e) => route_one(
@@ -282,10 +277,10 @@ pub fn route(
             queued,
             left,
         ),
-        Found::Nothing => Routed {
-            at: At::Asks(Ask::TickClock),
-            queued,
-        },
+        Found::Nothing => {
+            let at = words::tick_clock();
+            Routed { at, queued }
+        }
     }
 }
 
@@ -301,7 +296,7 @@ fn route_booted(
     booted: bool,
 ) -> Routed
     ensures { λ r.
-        ⌜ record { links = now (links .exit); keys = now (lists .exit); actors = now (actors .exit); routed = r }
+        ⌜ record { links = now (links .exit); keys = now (lists .exit); actors = now (actors .exit); routed = routedOf r }
         ≡ routeBooted (now (links .entry)) (now (rows .entry)) (now (lists .entry)) (now (actors .entry)) g
         queued left booted ⌝ }
 {
@@ -323,7 +318,7 @@ pub fn route_reply(
     reply: Reply,
 ) -> Routed
     ensures { λ r.
-        ⌜ record { links = now (links .exit); keys = now (lists .exit); actors = now (actors .exit); routed = r }
+        ⌜ record { links = now (links .exit); keys = now (lists .exit); actors = now (actors .exit); routed = routedOf r }
         ≡ routeReply (now (links .entry)) (now (rows .entry)) (now (lists .entry)) (now (actors .entry)) g
         queued left reply ⌝ }
 {
@@ -331,9 +326,9 @@ pub fn route_reply(
     match came {
         YesIn::Yes => route_booted(links, rows, lists, actors, g, queued, left, true),
         YesIn::No => route_booted(links, rows, lists, actors, g, queued, left, false),
-        YesIn::Other => Routed {
-            at: At::Asks(Ask::RouteBoot(g, left)),
-            queued,
-        },
+        YesIn::Other => {
+            let at = words::route_boot(g, left);
+            Routed { at, queued }
+        }
     }
 }

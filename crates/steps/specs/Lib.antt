@@ -1,4 +1,5 @@
 -- Definitions and statements.
+pub mod Words
 pub mod Steps
 pub mod StepFixed
 pub mod StepEval

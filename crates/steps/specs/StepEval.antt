@@ -31,11 +31,17 @@ use Rattle.steps.specs.declared.eval.EvalAsk.{EvalAsk}
 use Rattle.steps.specs.declared.eval.EvalAsk.the-variants as ask
 use Rattle.steps.specs.declared.eval.EvalNext.{EvalNext}
 use Rattle.steps.specs.declared.eval.EvalNext.the-variants as next
-use Rattle.steps.specs.declared.eval.EvalStep.{EvalStep}
+use Rattle.steps.specs.declared.eval.EvalStep as words
 use Rattle.steps.specs.declared.eval.Limit.{Limit}
 use Rattle.actor.specs.Questions.{yesIn, clockIn, countIn, ranIn, isTold, slotOf}
 use Rattle.actor.specs.Actors.{actorAt, putActor, runningTo, hasRun, deadlineOf}
+use Rattle.steps.specs.Words.{evalNextOf}
 use Rattle.steps.specs.Steps.{HAND, callerFirst, overFirst, idledAt, MailTaken, takeMail}
+
+-- what comes next, and the new queued
+pub record EvalStep : Type 0 where
+  pub next : EvalNext
+  pub queued : ℕ
 
 -- what a transition changes
 pub record EvalStarted : Type 0 where
@@ -205,3 +211,8 @@ evalAsks t rows who ask.StartClock = asked.Open question.Clock
 evalAsks t rows who (ask.Run start) = asked.Open (question.Run who start (evalShown t who start))
 evalAsks t rows who ask.Dispatch = asked.Open (question.Dispatch who)
 evalAsks t rows who (ask.Tell o) = askTell (callerFirst rows (firstOf t HAND)) o
+
+-- ---- a step as code hands it on
+
+abbrev pub evalStepOf : words.EvalStep → EvalStep
+evalStepOf w = record { next = evalNextOf (w .next); queued = w .queued }

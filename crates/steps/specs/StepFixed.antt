@@ -24,10 +24,16 @@ use Rattle.steps.specs.declared.fixed.FixedAsk.{FixedAsk}
 use Rattle.steps.specs.declared.fixed.FixedAsk.the-variants as ask
 use Rattle.steps.specs.declared.fixed.FixedNext.{FixedNext}
 use Rattle.steps.specs.declared.fixed.FixedNext.the-variants as next
-use Rattle.steps.specs.declared.fixed.FixedStep.{FixedStep}
+use Rattle.steps.specs.declared.fixed.FixedStep as words
 use Rattle.actor.specs.Questions.{yesIn, countIn, ranIn}
 use Rattle.actor.specs.Actors.{actorAt, putActor, startedAs, consumedAs}
+use Rattle.steps.specs.Words.{fixedNextOf}
 use Rattle.steps.specs.Steps.{HAND, overFirst, idledAt, MailTaken, takeMail}
+
+-- what comes next, and the new queued
+pub record FixedStep : Type 0 where
+  pub next : FixedNext
+  pub queued : ℕ
 
 -- what a transition changes
 pub record FixedActors : Type 0 where
@@ -162,3 +168,8 @@ fixedAsks t who (ask.Run start) = asked.Open (question.Run who start found.Nothi
 fixedAsks t who ask.Drain = asked.Open (question.Drain who)
 fixedAsks t who ask.Push = asked.Open (question.Push who (firstOf t HAND))
 fixedAsks t who ask.Dispatch = asked.Open (question.Dispatch who)
+
+-- ---- a step as code hands it on
+
+abbrev pub fixedStepOf : words.FixedStep → FixedStep
+fixedStepOf w = record { next = fixedNextOf (w .next); queued = w .queued }

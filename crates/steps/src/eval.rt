@@ -1,6 +1,7 @@
 // `step_eval` of the Rust, cut at its questions: Clock for a run that waits, else Boot and Clock for the next
 // message; then Run, Dispatch, Tell.
 ghost use mathlib.Core.Path.{_≡_};
+ghost use lib.Dec.{eqb};
 ghost use Rattle.steps.specs.StepEval.{
   deadlineFrom,
   evalStart,
@@ -22,9 +23,13 @@ ghost use Rattle.steps.specs.StepEval.{
   evalShown,
   askTell,
   evalAsks,
+  evalStepOf,
 };
+ghost use Rattle.steps.specs.Words.{parkedOf, evalNumber, evalKindOf, outcomeNumber, outcomeOf};
+ghost use Rattle.steps.specs.Words.{evalAskOf, evalNextOf};
 use crate::step;
 use crate::step::Parked;
+use crate::step::StepWords;
 use actor::message::Caller;
 use actor::question;
 use actor::question::Asked;
@@ -39,10 +44,9 @@ use actor::question::Who;
 use actor::question::YesIn;
 use actor::state;
 use actor::state::EvalRun;
-use actor::state::Wake;
 use lists::Found;
 
-// The question that is open.
+// The question that is open: what `EvalKind` and the outcome beside it mean.
 pub enum EvalAsk {
     // of a run that waited
     Clock,
@@ -57,16 +61,182 @@ pub enum EvalAsk {
     Tell(Outcome),
 }
 
-// What a reply leads to: the next question, or the step's end.
+// What a reply leads to: the next question, or the step's end. It is what `EvalWords` means.
 pub enum EvalNext {
     Asks(EvalAsk),
     Ended(Parked),
 }
 
+// The question that is open, as a word.
+pub enum EvalKind {
+    Clock,
+    Boot,
+    StartClock,
+    Start,
+    Resume,
+    Dispatch,
+    Tell,
+}
+
+// The questions as numbers; 0: the step ended.
+const ENDED: u64 = 0;
+
+const CLOCK: u64 = 1;
+
+const BOOT: u64 = 2;
+
+const START_CLOCK: u64 = 3;
+
+const START: u64 = 4;
+
+const RESUME: u64 = 5;
+
+const DISPATCH: u64 = 6;
+
+const TELL: u64 = 7;
+
+// The next question, with what Tell tells, or, once the step ended, its end, as words.
+pub struct EvalWords {
+    // one of the numbers above
+    pub ask: u64,
+    // of Tell: the number of its outcome
+    pub outcome: u64,
+    pub step: StepWords,
+}
+
 // What comes next, and the new queued.
 pub struct EvalStep {
-    pub next: EvalNext,
+    pub next: EvalWords,
     pub queued: u64,
+}
+
+fn number_of(ask: EvalKind) -> u64
+    ensures { λ r. ⌜ r ≡ evalNumber ask ⌝ }
+{
+    match ask {
+        EvalKind::Clock => CLOCK,
+        EvalKind::Boot => BOOT,
+        EvalKind::StartClock => START_CLOCK,
+        EvalKind::Start => START,
+        EvalKind::Resume => RESUME,
+        EvalKind::Dispatch => DISPATCH,
+        EvalKind::Tell => TELL,
+    }
+}
+
+// The question of a number.
+pub fn kind_of(ask: u64) -> EvalKind
+    ensures { λ r. ⌜ r ≡ evalKindOf ask ⌝ }
+{
+    if ask == CLOCK {
+        return EvalKind::Clock;
+    }
+    if ask == BOOT {
+        return EvalKind::Boot;
+    }
+    if ask == START_CLOCK {
+        return EvalKind::StartClock;
+    }
+    if ask == START {
+        return EvalKind::Start;
+    }
+    if ask == RESUME {
+        return EvalKind::Resume;
+    }
+    if ask == DISPATCH {
+        return EvalKind::Dispatch;
+    }
+    EvalKind::Tell
+}
+
+// The number of an outcome.
+pub fn outcome_number(o: Outcome) -> u64
+    ensures { λ r. ⌜ r ≡ outcomeNumber o ⌝ }
+{
+    match o {
+        Outcome::Ran => 0,
+        Outcome::Unbooted => 1,
+        Outcome::Broke => 2,
+        Outcome::Raised => 3,
+        Outcome::Late => 4,
+        Outcome::StuckHostCall => 5,
+        Outcome::StuckReceive => 6,
+    }
+}
+
+// The outcome of a number.
+pub fn outcome_of(n: u64) -> Outcome
+    ensures { λ r. ⌜ r ≡ outcomeOf n ⌝ }
+{
+    if n == 0 {
+        return Outcome::Ran;
+    }
+    if n == 1 {
+        return Outcome::Unbooted;
+    }
+    if n == 2 {
+        return Outcome::Broke;
+    }
+    if n == 3 {
+        return Outcome::Raised;
+    }
+    if n == 4 {
+        return Outcome::Late;
+    }
+    if n == 5 {
+        return Outcome::StuckHostCall;
+    }
+    Outcome::StuckReceive
+}
+
+// Whether the step ended.
+pub fn has_ended(next: EvalWords) -> bool
+    ensures { λ r. ⌜ r ≡ eqb (next .ask) 0 ⌝ }
+{
+    next.ask == ENDED
+}
+
+// A question is next.
+fn asks(ask: EvalKind, outcome: Outcome) -> EvalWords
+    ensures { λ r. ⌜ evalNextOf r ≡ EvalNext.Asks (evalAskOf ask outcome) ⌝ }
+{
+    let number = number_of(ask);
+    let told = outcome_number(outcome);
+    let step = step::done();
+    EvalWords {
+        ask: number,
+        outcome: told,
+        step,
+    }
+}
+
+// A question other than Tell is next.
+fn asks_for(ask: EvalKind) -> EvalWords
+    ensures { λ r. ⌜ evalNextOf r ≡ EvalNext.Asks (evalAskOf ask Outcome.Ran) ⌝ }
+{
+    asks(ask, Outcome::Ran)
+}
+
+// Run is next.
+fn asks_run(start: bool) -> EvalWords
+    ensures { λ r. ⌜ evalNextOf r ≡ EvalNext.Asks (EvalAsk.Run start) ⌝ }
+{
+    if start {
+        asks_for(EvalKind::Start)
+    } else {
+        asks_for(EvalKind::Resume)
+    }
+}
+
+// The step ended, and the actor goes on.
+fn ends(step: StepWords) -> EvalWords
+    ensures { λ r. ⌜ evalNextOf r ≡ EvalNext.Ended (parkedOf step) ⌝ }
+{
+    EvalWords {
+        ask: ENDED,
+        outcome: 0,
+        step,
+    }
 }
 
 // What bounds a run: the group's timeout in seconds, and the nanoseconds of a tick.
@@ -101,29 +271,27 @@ pub fn eval_start(
     queued: u64,
 ) -> EvalStep
     ensures { λ r.
-        ⌜ record { links = now (links .exit); actors = now (actors .exit); step = r }
+        ⌜ record { links = now (links .exit); actors = now (actors .exit); step = evalStepOf r }
         ≡ evalStart (now (links .entry)) (now (actors .entry)) slot queued ⌝ }
 {
     let a = state::actor_at(actors, slot);
     let waits = state::has_run(a);
     if waits {
-        let ask = EvalAsk::Clock;
-        let next = EvalNext::Asks(ask);
+        let next = asks_for(EvalKind::Clock);
         return EvalStep { next, queued };
     }
     let mail = step::take_mail(links, actors, slot, queued);
     let fewer = mail.queued;
     let taken = mail.taken;
     if taken {
-        let ask = EvalAsk::Boot;
-        let next = EvalNext::Asks(ask);
+        let next = asks_for(EvalKind::Boot);
         EvalStep {
             next,
             queued: fewer,
         }
     } else {
-        let end = Parked::Waiting;
-        let next = EvalNext::Ended(end);
+        let end = step::waiting();
+        let next = ends(end);
         EvalStep {
             next,
             queued: fewer,
@@ -137,9 +305,9 @@ fn eval_over(
     rows: &[[u64; 7]],
     actors: &mut [[u64; 12]],
     slot: usize,
-) -> EvalNext
+) -> EvalWords
     ensures { λ r.
-        ⌜ record { links = now (links .exit); actors = now (actors .exit); next = r }
+        ⌜ record { links = now (links .exit); actors = now (actors .exit); next = evalNextOf r }
         ≡ evalOver (now (links .entry)) (now (rows .entry)) (now (actors .entry)) slot ⌝ }
 {
     step::over_first(links, rows, lists::HAND);
@@ -147,11 +315,11 @@ fn eval_over(
     let waiting = lists::length_of(links, mailbox);
     if waiting == 0 {
         step::idle_at(actors, slot);
-        let end = Parked::Waiting;
-        EvalNext::Ended(end)
+        let end = step::waiting();
+        ends(end)
     } else {
-        let end = Parked::Yield;
-        EvalNext::Ended(end)
+        let end = step::yields();
+        ends(end)
     }
 }
 
@@ -162,18 +330,15 @@ fn eval_tell(
     actors: &mut [[u64; 12]],
     slot: usize,
     outcome: Outcome,
-) -> EvalNext
+) -> EvalWords
     ensures { λ r.
-        ⌜ record { links = now (links .exit); actors = now (actors .exit); next = r }
+        ⌜ record { links = now (links .exit); actors = now (actors .exit); next = evalNextOf r }
         ≡ evalTell (now (links .entry)) (now (rows .entry)) (now (actors .entry)) slot outcome ⌝ }
 {
     let found = lists::first(links, lists::HAND);
     let caller = step::caller_first(rows, found);
     match caller {
-        Caller::From(_) => {
-            let ask = EvalAsk::Tell(outcome);
-            EvalNext::Asks(ask)
-        }
+        Caller::From(_) => { asks(EvalKind::Tell, outcome) }
         Caller::Nobody => eval_over(links, rows, actors, slot),
     }
 }
@@ -185,9 +350,9 @@ fn eval_finish(
     actors: &mut [[u64; 12]],
     slot: usize,
     outcome: Outcome,
-) -> EvalNext
+) -> EvalWords
     ensures { λ r.
-        ⌜ record { links = now (links .exit); actors = now (actors .exit); next = r }
+        ⌜ record { links = now (links .exit); actors = now (actors .exit); next = evalNextOf r }
         ≡ evalFinish (now (links .entry)) (now (rows .entry)) (now (actors .entry)) slot outcome ⌝ }
 {
     let a = state::actor_at(actors, slot);
@@ -206,9 +371,9 @@ pub fn eval_clocked(
     actors: &mut [[u64; 12]],
     slot: usize,
     clock: u64,
-) -> EvalNext
+) -> EvalWords
     ensures { λ r.
-        ⌜ record { links = now (links .exit); actors = now (actors .exit); next = r }
+        ⌜ record { links = now (links .exit); actors = now (actors .exit); next = evalNextOf r }
         ≡ evalClocked (now (links .entry)) (now (rows .entry)) (now (actors .entry)) slot clock ⌝ }
 {
     let a = state::actor_at(actors, slot);
@@ -217,8 +382,7 @@ pub fn eval_clocked(
         let outcome = Outcome::Late;
         eval_finish(links, rows, actors, slot, outcome)
     } else {
-        let ask = EvalAsk::Run(false);
-        EvalNext::Asks(ask)
+        asks_for(EvalKind::Resume)
     }
 }
 
@@ -229,14 +393,13 @@ pub fn eval_booted(
     actors: &mut [[u64; 12]],
     slot: usize,
     booted: bool,
-) -> EvalNext
+) -> EvalWords
     ensures { λ r.
-        ⌜ record { links = now (links .exit); actors = now (actors .exit); next = r }
+        ⌜ record { links = now (links .exit); actors = now (actors .exit); next = evalNextOf r }
         ≡ evalBooted (now (links .entry)) (now (rows .entry)) (now (actors .entry)) slot booted ⌝ }
 {
     if booted {
-        let ask = EvalAsk::StartClock;
-        EvalNext::Asks(ask)
+        asks_for(EvalKind::StartClock)
     } else {
         let outcome = Outcome::Unbooted;
         eval_tell(links, rows, actors, slot, outcome)
@@ -250,9 +413,9 @@ pub fn eval_started(
     slot: usize,
     limit: Limit,
     clock: u64,
-) -> EvalNext
+) -> EvalWords
     ensures { λ r.
-        ⌜ record { links = now (links .exit); actors = now (actors .exit); next = r }
+        ⌜ record { links = now (links .exit); actors = now (actors .exit); next = evalNextOf r }
         ≡ evalStarted (now (links .entry)) (now (actors .entry)) slot limit clock ⌝ }
 {
     let until = deadline(clock, limit);
@@ -262,8 +425,7 @@ pub fn eval_started(
     state::put_actor(actors, slot, b);
     let hand = lists::hand(slot);
     lists::move_first(links, lists::HAND, hand);
-    let ask = EvalAsk::Run(true);
-    EvalNext::Asks(ask)
+    asks_for(EvalKind::Start)
 }
 
 // Run came back.
@@ -273,9 +435,9 @@ pub fn eval_ran(
     actors: &mut [[u64; 12]],
     slot: usize,
     status: Status,
-) -> EvalNext
+) -> EvalWords
     ensures { λ r.
-        ⌜ record { links = now (links .exit); actors = now (actors .exit); next = r }
+        ⌜ record { links = now (links .exit); actors = now (actors .exit); next = evalNextOf r }
         ≡ evalRan (now (links .entry)) (now (rows .entry)) (now (actors .entry)) slot status ⌝ }
 {
     match status {
@@ -288,17 +450,14 @@ pub fn eval_ran(
             eval_finish(links, rows, actors, slot, outcome)
         }
         Status::Preempted => {
-            let end = Parked::Yield;
-            EvalNext::Ended(end)
+            let end = step::yields();
+            ends(end)
         }
         Status::Event => {
             let outcome = Outcome::StuckReceive;
             eval_finish(links, rows, actors, slot, outcome)
         }
-        Status::HostCall => {
-            let ask = EvalAsk::Dispatch;
-            EvalNext::Asks(ask)
-        }
+        Status::HostCall => { asks_for(EvalKind::Dispatch) }
         Status::Error => {
             let outcome = Outcome::Raised;
             eval_finish(links, rows, actors, slot, outcome)
@@ -318,17 +477,16 @@ pub fn eval_dispatched(
     actors: &mut [[u64; 12]],
     slot: usize,
     count: u64,
-) -> EvalNext
+) -> EvalWords
     ensures { λ r.
-        ⌜ record { links = now (links .exit); actors = now (actors .exit); next = r }
+        ⌜ record { links = now (links .exit); actors = now (actors .exit); next = evalNextOf r }
         ≡ evalDispatched (now (links .entry)) (now (rows .entry)) (now (actors .entry)) slot count ⌝ }
 {
     if 0 < count {
         let a = state::actor_at(actors, slot);
         let ns = state::deadline_of(a);
-        let until = Wake::At(ns);
-        let end = Parked::Blocked(until);
-        return EvalNext::Ended(end);
+        let end = step::blocked_until(ns);
+        return ends(end);
     }
     let outcome = Outcome::StuckHostCall;
     eval_finish(links, rows, actors, slot, outcome)
@@ -341,18 +499,15 @@ fn clock_reply(
     actors: &mut [[u64; 12]],
     slot: usize,
     reply: Reply,
-) -> EvalNext
+) -> EvalWords
     ensures { λ r.
-        ⌜ record { links = now (links .exit); actors = now (actors .exit); next = r }
+        ⌜ record { links = now (links .exit); actors = now (actors .exit); next = evalNextOf r }
         ≡ clockReply (now (links .entry)) (now (rows .entry)) (now (actors .entry)) slot reply ⌝ }
 {
     let came = question::clock_in(reply);
     match came {
         ClockIn::Of(ns) => eval_clocked(links, rows, actors, slot, ns),
-        ClockIn::Other => {
-            let ask = EvalAsk::Clock;
-            EvalNext::Asks(ask)
-        }
+        ClockIn::Other => { asks_for(EvalKind::Clock) }
     }
 }
 
@@ -363,19 +518,16 @@ fn boot_reply(
     actors: &mut [[u64; 12]],
     slot: usize,
     reply: Reply,
-) -> EvalNext
+) -> EvalWords
     ensures { λ r.
-        ⌜ record { links = now (links .exit); actors = now (actors .exit); next = r }
+        ⌜ record { links = now (links .exit); actors = now (actors .exit); next = evalNextOf r }
         ≡ bootReply (now (links .entry)) (now (rows .entry)) (now (actors .entry)) slot reply ⌝ }
 {
     let came = question::yes_in(reply);
     match came {
         YesIn::Yes => eval_booted(links, rows, actors, slot, true),
         YesIn::No => eval_booted(links, rows, actors, slot, false),
-        YesIn::Other => {
-            let ask = EvalAsk::Boot;
-            EvalNext::Asks(ask)
-        }
+        YesIn::Other => { asks_for(EvalKind::Boot) }
     }
 }
 
@@ -386,18 +538,15 @@ fn start_reply(
     slot: usize,
     limit: Limit,
     reply: Reply,
-) -> EvalNext
+) -> EvalWords
     ensures { λ r.
-        ⌜ record { links = now (links .exit); actors = now (actors .exit); next = r }
+        ⌜ record { links = now (links .exit); actors = now (actors .exit); next = evalNextOf r }
         ≡ startReply (now (links .entry)) (now (actors .entry)) slot limit reply ⌝ }
 {
     let came = question::clock_in(reply);
     match came {
         ClockIn::Of(ns) => eval_started(links, actors, slot, limit, ns),
-        ClockIn::Other => {
-            let ask = EvalAsk::StartClock;
-            EvalNext::Asks(ask)
-        }
+        ClockIn::Other => { asks_for(EvalKind::StartClock) }
     }
 }
 
@@ -409,18 +558,15 @@ fn run_reply(
     slot: usize,
     start: bool,
     reply: Reply,
-) -> EvalNext
+) -> EvalWords
     ensures { λ r.
-        ⌜ record { links = now (links .exit); actors = now (actors .exit); next = r }
+        ⌜ record { links = now (links .exit); actors = now (actors .exit); next = evalNextOf r }
         ≡ runReply (now (links .entry)) (now (rows .entry)) (now (actors .entry)) slot start reply ⌝ }
 {
     let came = question::ran_in(reply);
     match came {
         RanIn::Of(status) => eval_ran(links, rows, actors, slot, status),
-        RanIn::Other => {
-            let ask = EvalAsk::Run(start);
-            EvalNext::Asks(ask)
-        }
+        RanIn::Other => { asks_run(start) }
     }
 }
 
@@ -431,18 +577,15 @@ fn dispatch_reply(
     actors: &mut [[u64; 12]],
     slot: usize,
     reply: Reply,
-) -> EvalNext
+) -> EvalWords
     ensures { λ r.
-        ⌜ record { links = now (links .exit); actors = now (actors .exit); next = r }
+        ⌜ record { links = now (links .exit); actors = now (actors .exit); next = evalNextOf r }
         ≡ dispatchReply (now (links .entry)) (now (rows .entry)) (now (actors .entry)) slot reply ⌝ }
 {
     let came = question::count_in(reply);
     match came {
         CountIn::Of(n) => eval_dispatched(links, rows, actors, slot, n),
-        CountIn::Other => {
-            let ask = EvalAsk::Dispatch;
-            EvalNext::Asks(ask)
-        }
+        CountIn::Other => { asks_for(EvalKind::Dispatch) }
     }
 }
 
@@ -454,17 +597,16 @@ fn tell_reply(
     slot: usize,
     outcome: Outcome,
     reply: Reply,
-) -> EvalNext
+) -> EvalWords
     ensures { λ r.
-        ⌜ record { links = now (links .exit); actors = now (actors .exit); next = r }
+        ⌜ record { links = now (links .exit); actors = now (actors .exit); next = evalNextOf r }
         ≡ tellReply (now (links .entry)) (now (rows .entry)) (now (actors .entry)) slot outcome reply ⌝ }
 {
     let told = question::is_told(reply);
     if told {
         eval_over(links, rows, actors, slot)
     } else {
-        let ask = EvalAsk::Tell(outcome);
-        EvalNext::Asks(ask)
+        asks(EvalKind::Tell, outcome)
     }
 }
 
@@ -475,20 +617,23 @@ pub fn step_eval(
     actors: &mut [[u64; 12]],
     slot: usize,
     limit: Limit,
-    ask: EvalAsk,
+    ask: EvalKind,
+    outcome: Outcome,
     reply: Reply,
-) -> EvalNext
+) -> EvalWords
     ensures { λ r.
-        ⌜ record { links = now (links .exit); actors = now (actors .exit); next = r }
-        ≡ stepEval (now (links .entry)) (now (rows .entry)) (now (actors .entry)) slot limit ask reply ⌝ }
+        ⌜ record { links = now (links .exit); actors = now (actors .exit); next = evalNextOf r }
+        ≡ stepEval (now (links .entry)) (now (rows .entry)) (now (actors .entry)) slot limit
+        (evalAskOf ask outcome) reply ⌝ }
 {
     match ask {
-        EvalAsk::Clock => clock_reply(links, rows, actors, slot, reply),
-        EvalAsk::Boot => boot_reply(links, rows, actors, slot, reply),
-        EvalAsk::StartClock => start_reply(links, actors, slot, limit, reply),
-        EvalAsk::Run(start) => run_reply(links, rows, actors, slot, start, reply),
-        EvalAsk::Dispatch => dispatch_reply(links, rows, actors, slot, reply),
-        EvalAsk::Tell(outcome) => tell_reply(links, rows, actors, slot, outcome, reply),
+        EvalKind::Clock => clock_reply(links, rows, actors, slot, reply),
+        EvalKind::Boot => boot_reply(links, rows, actors, slot, reply),
+        EvalKind::StartClock => start_reply(links, actors, slot, limit, reply),
+        EvalKind::Start => run_reply(links, rows, actors, slot, true, reply),
+        EvalKind::Resume => run_reply(links, rows, actors, slot, false, reply),
+        EvalKind::Dispatch => dispatch_reply(links, rows, actors, slot, reply),
+        EvalKind::Tell => tell_reply(links, rows, actors, slot, outcome, reply),
     }
 }
 
@@ -505,6 +650,19 @@ fn eval_shown(links: &[[u64; 4]], who: Who, start: bool) -> Found
     }
 }
 
+// Run, with that message.
+fn ask_run(links: &[[u64; 4]], who: Who, start: bool) -> Asked
+    ensures { λ r. ⌜ r ≡ Asked.Open (Question.Run who start (evalShown (now (links .entry)) who start)) ⌝ }
+{
+    let message = eval_shown(links, who, start);
+    let q = Question::Run {
+        who,
+        start,
+        message,
+    };
+    Asked::Open(q)
+}
+
 // Tell, to the caller of the message in the step's hand.
 fn ask_tell(caller: Caller, outcome: Outcome) -> Asked
     ensures { λ r. ⌜ r ≡ askTell caller outcome ⌝ }
@@ -519,36 +677,35 @@ fn ask_tell(caller: Caller, outcome: Outcome) -> Asked
 }
 
 // The question that is open, as it is shown.
-pub fn eval_asks(links: &[[u64; 4]], rows: &[[u64; 7]], who: Who, ask: EvalAsk) -> Asked
-    ensures { λ r. ⌜ r ≡ evalAsks (now (links .entry)) (now (rows .entry)) who ask ⌝ }
+pub fn eval_asks(
+    links: &[[u64; 4]],
+    rows: &[[u64; 7]],
+    who: Who,
+    ask: EvalKind,
+    outcome: Outcome,
+) -> Asked
+    ensures { λ r. ⌜ r ≡ evalAsks (now (links .entry)) (now (rows .entry)) who (evalAskOf ask outcome) ⌝ }
 {
     match ask {
-        EvalAsk::Clock => {
+        EvalKind::Clock => {
             let q = Question::Clock;
             Asked::Open(q)
         }
-        EvalAsk::Boot => {
+        EvalKind::Boot => {
             let q = Question::Boot(who.group);
             Asked::Open(q)
         }
-        EvalAsk::StartClock => {
+        EvalKind::StartClock => {
             let q = Question::Clock;
             Asked::Open(q)
         }
-        EvalAsk::Run(start) => {
-            let message = eval_shown(links, who, start);
-            let q = Question::Run {
-                who,
-                start,
-                message,
-            };
-            Asked::Open(q)
-        }
-        EvalAsk::Dispatch => {
+        EvalKind::Start => ask_run(links, who, true),
+        EvalKind::Resume => ask_run(links, who, false),
+        EvalKind::Dispatch => {
             let q = Question::Dispatch(who);
             Asked::Open(q)
         }
-        EvalAsk::Tell(outcome) => {
+        EvalKind::Tell => {
             let found = lists::first(links, lists::HAND);
             let caller = step::caller_first(rows, found);
             ask_tell(caller, outcome)

@@ -1,5 +1,6 @@
 // `step_fixed` of the Rust, cut at its questions: Run, and after it Drain, Push or Dispatch, until the step ends.
 ghost use mathlib.Core.Path.{_≡_};
+ghost use lib.Dec.{eqb};
 ghost use Rattle.steps.specs.StepFixed.{
   fixedStart,
   fixedFailed,
@@ -13,10 +14,12 @@ ghost use Rattle.steps.specs.StepFixed.{
   dispatchReply,
   stepFixed,
   fixedAsks,
+  fixedStepOf,
 };
+ghost use Rattle.steps.specs.Words.{stepOf, fixedNumber, fixedKindOf, fixedAskOf, fixedNextOf};
 use crate::step;
-use crate::step::Parked;
 use crate::step::Step;
+use crate::step::StepWords;
 use actor::question;
 use actor::question::Asked;
 use actor::question::CountIn;
@@ -27,10 +30,9 @@ use actor::question::Status;
 use actor::question::Who;
 use actor::question::YesIn;
 use actor::state;
-use actor::state::Wake;
 use lists::Found;
 
-// The question that is open.
+// The question that is open: what `FixedKind` means.
 pub enum FixedAsk {
     // start, or resume
     Run(bool),
@@ -40,41 +42,131 @@ pub enum FixedAsk {
     Dispatch,
 }
 
-// What a reply leads to: the next question, or the step's end.
+// What a reply leads to: the next question, or the step's end. It is what `FixedWords` means.
 pub enum FixedNext {
     Asks(FixedAsk),
     Ended(Step),
 }
 
+// The question that is open, as a word.
+pub enum FixedKind {
+    Start,
+    Resume,
+    Drain,
+    Push,
+    Dispatch,
+}
+
+// The questions as numbers; 0: the step ended.
+const ENDED: u64 = 0;
+
+const START: u64 = 1;
+
+const RESUME: u64 = 2;
+
+const DRAIN: u64 = 3;
+
+const PUSH: u64 = 4;
+
+const DISPATCH: u64 = 5;
+
+// The next question, or, once the step ended, its end, as words.
+pub struct FixedWords {
+    // one of the numbers above
+    pub ask: u64,
+    pub step: StepWords,
+}
+
 // What comes next, and the new queued.
 pub struct FixedStep {
-    pub next: FixedNext,
+    pub next: FixedWords,
     pub queued: u64,
 }
 
-// A step begins: the program is started the first time, and else resumed.
-pub fn fixed_start(actors: &mut [[u64; 12]], slot: usize) -> FixedAsk
-    ensures { λ r. ⌜ record { actors = now (actors .exit); ask = r } ≡ fixedStart (now (actors .entry)) slot ⌝ }
+fn number_of(ask: FixedKind) -> u64
+    ensures { λ r. ⌜ r ≡ fixedNumber ask ⌝ }
+{
+    match ask {
+        FixedKind::Start => START,
+        FixedKind::Resume => RESUME,
+        FixedKind::Drain => DRAIN,
+        FixedKind::Push => PUSH,
+        FixedKind::Dispatch => DISPATCH,
+    }
+}
+
+// The question of a number.
+pub fn kind_of(ask: u64) -> FixedKind
+    ensures { λ r. ⌜ r ≡ fixedKindOf ask ⌝ }
+{
+    if ask == START {
+        return FixedKind::Start;
+    }
+    if ask == RESUME {
+        return FixedKind::Resume;
+    }
+    if ask == DRAIN {
+        return FixedKind::Drain;
+    }
+    if ask == PUSH {
+        return FixedKind::Push;
+    }
+    FixedKind::Dispatch
+}
+
+// Whether the step ended.
+pub fn has_ended(next: FixedWords) -> bool
+    ensures { λ r. ⌜ r ≡ eqb (next .ask) 0 ⌝ }
+{
+    next.ask == ENDED
+}
+
+// A question is next.
+fn asks(ask: FixedKind) -> FixedWords
+    ensures { λ r. ⌜ fixedNextOf r ≡ FixedNext.Asks (fixedAskOf ask) ⌝ }
+{
+    let number = number_of(ask);
+    let step = step::done();
+    FixedWords { ask: number, step }
+}
+
+// Run is next.
+fn asks_run(start: bool) -> FixedWords
+    ensures { λ r. ⌜ fixedNextOf r ≡ FixedNext.Asks (FixedAsk.Run start) ⌝ }
+{
+    if start {
+        asks(FixedKind::Start)
+    } else {
+        asks(FixedKind::Resume)
+    }
+}
+
+// The step ended.
+fn ends(step: StepWords) -> FixedWords
+    ensures { λ r. ⌜ fixedNextOf r ≡ FixedNext.Ended (stepOf step) ⌝ }
+{
+    FixedWords { ask: ENDED, step }
+}
+
+// A step begins: the program is started the first time, and else resumed. The number of the question.
+pub fn fixed_start(actors: &mut [[u64; 12]], slot: usize) -> u64
+    ensures { λ r. ⌜ record { actors = now (actors .exit); ask = fixedAskOf (fixedKindOf r) } ≡ fixedStart (now (actors .entry)) slot ⌝ }
 {
     let a = state::actor_at(actors, slot);
     let before = a.started;
     let b = state::started(a);
     state::put_actor(actors, slot, b);
-    if before {
-        FixedAsk::Run(false)
-    } else {
-        FixedAsk::Run(true)
-    }
+    if before { RESUME } else { START }
 }
 
 // It raised: the message that it was at goes to the step's hand.
-fn fixed_failed(links: &mut [[u64; 4]], slot: usize) -> FixedNext
-    ensures { λ r. ⌜ record { links = now (links .exit); next = r } ≡ fixedFailed (now (links .entry)) slot ⌝ }
+fn fixed_failed(links: &mut [[u64; 4]], slot: usize) -> FixedWords
+    ensures { λ r. ⌜ record { links = now (links .exit); next = fixedNextOf r } ≡ fixedFailed (now (links .entry)) slot ⌝ }
 {
     let hand = lists::hand(slot);
     lists::move_first(links, hand, lists::HAND);
-    let end = Step::Failed;
-    FixedNext::Ended(end)
+    let end = step::failed();
+    ends(end)
 }
 
 // Run came back. Back in receive() or at its end, the message that it had is over.
@@ -83,37 +175,32 @@ pub fn fixed_ran(
     rows: &[[u64; 7]],
     slot: usize,
     status: Status,
-) -> FixedNext
+) -> FixedWords
     ensures { λ r.
-        ⌜ record { links = now (links .exit); next = r }
+        ⌜ record { links = now (links .exit); next = fixedNextOf r }
         ≡ fixedRan (now (links .entry)) (now (rows .entry)) slot status ⌝ }
 {
     let hand = lists::hand(slot);
     match status {
         Status::Done => {
             step::over_first(links, rows, hand);
-            let end = Step::Done;
-            FixedNext::Ended(end)
+            let end = step::done();
+            ends(end)
         }
         Status::Exit => {
             step::over_first(links, rows, hand);
-            let end = Step::Done;
-            FixedNext::Ended(end)
+            let end = step::done();
+            ends(end)
         }
         Status::Preempted => {
-            let parked = Parked::Yield;
-            let end = Step::Parked(parked);
-            FixedNext::Ended(end)
+            let end = step::yields();
+            ends(end)
         }
         Status::Event => {
             step::over_first(links, rows, hand);
-            let ask = FixedAsk::Drain;
-            FixedNext::Asks(ask)
+            asks(FixedKind::Drain)
         }
-        Status::HostCall => {
-            let ask = FixedAsk::Dispatch;
-            FixedNext::Asks(ask)
-        }
+        Status::HostCall => { asks(FixedKind::Dispatch) }
         Status::Error => fixed_failed(links, slot),
         Status::Broke => fixed_failed(links, slot),
     }
@@ -128,28 +215,25 @@ pub fn fixed_drained(
     count: u64,
 ) -> FixedStep
     ensures { λ r.
-        ⌜ record { links = now (links .exit); actors = now (actors .exit); step = r }
+        ⌜ record { links = now (links .exit); actors = now (actors .exit); step = fixedStepOf r }
         ≡ fixedDrained (now (links .entry)) (now (actors .entry)) slot queued count ⌝ }
 {
     if 0 < count {
-        let ask = FixedAsk::Run(false);
-        let next = FixedNext::Asks(ask);
+        let next = asks(FixedKind::Resume);
         return FixedStep { next, queued };
     }
     let mail = step::take_mail(links, actors, slot, queued);
     let fewer = mail.queued;
     let taken = mail.taken;
     if taken {
-        let ask = FixedAsk::Push;
-        let next = FixedNext::Asks(ask);
+        let next = asks(FixedKind::Push);
         FixedStep {
             next,
             queued: fewer,
         }
     } else {
-        let parked = Parked::Waiting;
-        let end = Step::Parked(parked);
-        let next = FixedNext::Ended(end);
+        let end = step::waiting();
+        let next = ends(end);
         FixedStep {
             next,
             queued: fewer,
@@ -166,7 +250,7 @@ pub fn fixed_pushed(
     taken: bool,
 ) -> FixedStep
     ensures { λ r.
-        ⌜ record { links = now (links .exit); actors = now (actors .exit); step = r }
+        ⌜ record { links = now (links .exit); actors = now (actors .exit); step = fixedStepOf r }
         ≡ fixedPushed (now (links .entry)) (now (actors .entry)) slot queued taken ⌝ }
 {
     if taken {
@@ -175,32 +259,28 @@ pub fn fixed_pushed(
         state::put_actor(actors, slot, b);
         let hand = lists::hand(slot);
         lists::move_first(links, lists::HAND, hand);
-        let ask = FixedAsk::Run(false);
-        let next = FixedNext::Asks(ask);
+        let next = asks(FixedKind::Resume);
         FixedStep { next, queued }
     } else {
         let mailbox = lists::mailbox(slot);
         lists::move_first_to_front(links, lists::HAND, mailbox);
         step::idle_at(actors, slot);
         let more = lists::sum(queued, 1);
-        let parked = Parked::Waiting;
-        let end = Step::Parked(parked);
-        let next = FixedNext::Ended(end);
+        let end = step::waiting();
+        let next = ends(end);
         FixedStep { next, queued: more }
     }
 }
 
 // Dispatch told how many host calls are in flight: it waits for them, and with none it is stuck.
-pub fn fixed_dispatched(links: &mut [[u64; 4]], slot: usize, count: u64) -> FixedNext
+pub fn fixed_dispatched(links: &mut [[u64; 4]], slot: usize, count: u64) -> FixedWords
     ensures { λ r.
-        ⌜ record { links = now (links .exit); next = r }
+        ⌜ record { links = now (links .exit); next = fixedNextOf r }
         ≡ fixedDispatched (now (links .entry)) slot count ⌝ }
 {
     if 0 < count {
-        let until = Wake::Never;
-        let parked = Parked::Blocked(until);
-        let end = Step::Parked(parked);
-        return FixedNext::Ended(end);
+        let end = step::forever();
+        return ends(end);
     }
     fixed_failed(links, slot)
 }
@@ -212,18 +292,15 @@ fn run_reply(
     slot: usize,
     start: bool,
     reply: Reply,
-) -> FixedNext
+) -> FixedWords
     ensures { λ r.
-        ⌜ record { links = now (links .exit); next = r }
+        ⌜ record { links = now (links .exit); next = fixedNextOf r }
         ≡ runReply (now (links .entry)) (now (rows .entry)) slot start reply ⌝ }
 {
     let came = question::ran_in(reply);
     match came {
         RanIn::Of(status) => fixed_ran(links, rows, slot, status),
-        RanIn::Other => {
-            let ask = FixedAsk::Run(start);
-            FixedNext::Asks(ask)
-        }
+        RanIn::Other => { asks_run(start) }
     }
 }
 
@@ -236,15 +313,14 @@ fn drain_reply(
     reply: Reply,
 ) -> FixedStep
     ensures { λ r.
-        ⌜ record { links = now (links .exit); actors = now (actors .exit); step = r }
+        ⌜ record { links = now (links .exit); actors = now (actors .exit); step = fixedStepOf r }
         ≡ drainReply (now (links .entry)) (now (actors .entry)) slot queued reply ⌝ }
 {
     let came = question::count_in(reply);
     match came {
         CountIn::Of(n) => fixed_drained(links, actors, slot, queued, n),
         CountIn::Other => {
-            let ask = FixedAsk::Drain;
-            let next = FixedNext::Asks(ask);
+            let next = asks(FixedKind::Drain);
             FixedStep { next, queued }
         }
     }
@@ -259,7 +335,7 @@ fn push_reply(
     reply: Reply,
 ) -> FixedStep
     ensures { λ r.
-        ⌜ record { links = now (links .exit); actors = now (actors .exit); step = r }
+        ⌜ record { links = now (links .exit); actors = now (actors .exit); step = fixedStepOf r }
         ≡ pushReply (now (links .entry)) (now (actors .entry)) slot queued reply ⌝ }
 {
     let came = question::yes_in(reply);
@@ -267,24 +343,20 @@ fn push_reply(
         YesIn::Yes => fixed_pushed(links, actors, slot, queued, true),
         YesIn::No => fixed_pushed(links, actors, slot, queued, false),
         YesIn::Other => {
-            let ask = FixedAsk::Push;
-            let next = FixedNext::Asks(ask);
+            let next = asks(FixedKind::Push);
             FixedStep { next, queued }
         }
     }
 }
 
 // The reply to Dispatch; one that does not fit changes nothing.
-fn dispatch_reply(links: &mut [[u64; 4]], slot: usize, reply: Reply) -> FixedNext
-    ensures { λ r. ⌜ record { links = now (links .exit); next = r } ≡ dispatchReply (now (links .entry)) slot reply ⌝ }
+fn dispatch_reply(links: &mut [[u64; 4]], slot: usize, reply: Reply) -> FixedWords
+    ensures { λ r. ⌜ record { links = now (links .exit); next = fixedNextOf r } ≡ dispatchReply (now (links .entry)) slot reply ⌝ }
 {
     let came = question::count_in(reply);
     match came {
         CountIn::Of(n) => fixed_dispatched(links, slot, n),
-        CountIn::Other => {
-            let ask = FixedAsk::Dispatch;
-            FixedNext::Asks(ask)
-        }
+        CountIn::Other => { asks(FixedKind::Dispatch) }
     }
 }
 
@@ -295,51 +367,61 @@ pub fn step_fixed(
     actors: &mut [[u64; 12]],
     slot: usize,
     queued: u64,
-    ask: FixedAsk,
+    ask: FixedKind,
     reply: Reply,
 ) -> FixedStep
     ensures { λ r.
-        ⌜ record { links = now (links .exit); actors = now (actors .exit); step = r }
-        ≡ stepFixed (now (links .entry)) (now (rows .entry)) (now (actors .entry)) slot queued ask reply ⌝ }
+        ⌜ record { links = now (links .exit); actors = now (actors .exit); step = fixedStepOf r }
+        ≡ stepFixed (now (links .entry)) (now (rows .entry)) (now (actors .entry)) slot queued (fixedAskOf ask) reply ⌝ }
 {
     match ask {
-        FixedAsk::Run(start) => {
-            let next = run_reply(links, rows, slot, start, reply);
+        FixedKind::Start => {
+            let next = run_reply(links, rows, slot, true, reply);
             FixedStep { next, queued }
         }
-        FixedAsk::Drain => drain_reply(links, actors, slot, queued, reply),
-        FixedAsk::Push => push_reply(links, actors, slot, queued, reply),
-        FixedAsk::Dispatch => {
+        FixedKind::Resume => {
+            let next = run_reply(links, rows, slot, false, reply);
+            FixedStep { next, queued }
+        }
+        FixedKind::Drain => drain_reply(links, actors, slot, queued, reply),
+        FixedKind::Push => push_reply(links, actors, slot, queued, reply),
+        FixedKind::Dispatch => {
             let next = dispatch_reply(links, slot, reply);
             FixedStep { next, queued }
         }
     }
 }
 
+// Run of a fixed actor shows no message.
+fn ask_run(who: Who, start: bool) -> Asked
+    ensures { λ r. ⌜ r ≡ Asked.Open (Question.Run who start Found.Nothing) ⌝ }
+{
+    let message = Found::Nothing;
+    let q = Question::Run {
+        who,
+        start,
+        message,
+    };
+    Asked::Open(q)
+}
+
 // The question that is open, as it is shown.
-pub fn fixed_asks(links: &[[u64; 4]], who: Who, ask: FixedAsk) -> Asked
-    ensures { λ r. ⌜ r ≡ fixedAsks (now (links .entry)) who ask ⌝ }
+pub fn fixed_asks(links: &[[u64; 4]], who: Who, ask: FixedKind) -> Asked
+    ensures { λ r. ⌜ r ≡ fixedAsks (now (links .entry)) who (fixedAskOf ask) ⌝ }
 {
     match ask {
-        FixedAsk::Run(start) => {
-            let message = Found::Nothing;
-            let q = Question::Run {
-                who,
-                start,
-                message,
-            };
-            Asked::Open(q)
-        }
-        FixedAsk::Drain => {
+        FixedKind::Start => ask_run(who, true),
+        FixedKind::Resume => ask_run(who, false),
+        FixedKind::Drain => {
             let q = Question::Drain(who);
             Asked::Open(q)
         }
-        FixedAsk::Push => {
+        FixedKind::Push => {
             let message = lists::first(links, lists::HAND);
             let q = Question::Push { who, message };
             Asked::Open(q)
         }
-        FixedAsk::Dispatch => {
+        FixedKind::Dispatch => {
             let q = Question::Dispatch(who);
             Asked::Open(q)
         }

@@ -26,9 +26,20 @@ use Rattle.group.specs.At.{readyAfter}
 use Rattle.group.specs.Settings.{groupAt}
 use Rattle.group.specs.Roster.{DOOMED, slabRow, slotAt, pushKey}
 use Rattle.ticking.specs.declared.crash.Losses.{Losses}
-use Rattle.ticking.specs.declared.crash.Crashed.{Crashed}
+use Rattle.ticking.specs.declared.crash.Crashed as words
 use Rattle.ticking.specs.Waking.{Listed}
 use Rattle.ticking.specs.Settle.{PENDING, removeKey}
+use Rattle.group.specs.Words.{atOf}
+
+-- where the turn stands then, and the new counts
+pub record Crashed : Type 0 where
+  pub at : At
+  pub queued : ℕ
+  pub losses : Losses
+
+-- the same of the words that code hands on
+abbrev pub crashedOf : words.Crashed → Crashed
+crashedOf w = record { at = atOf (w .at); queued = w .queued; losses = w .losses }
 
 pub record Dying : Type 0 where
   pub links : Table

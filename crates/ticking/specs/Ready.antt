@@ -21,7 +21,18 @@ use Rattle.group.specs.declared.at.Point.the-variants as point
 use Rattle.group.specs.declared.at.Cursor.{Cursor}
 use Rattle.group.specs.At.{nextGroup, readyAfter, evalAfter}
 use Rattle.group.specs.Roster.{readyRow, slotAt, liveOf}
-use Rattle.ticking.specs.declared.ready.Begun.{Begun}
+use Rattle.ticking.specs.declared.ready.Begun as words
+use Rattle.group.specs.Words.{atOf}
+
+-- where the turn stands then, and the new counts
+pub record Begun : Type 0 where
+  pub at : At
+  pub queued : ℕ
+  pub stepped : Bool
+
+-- the same of the words that code hands on
+abbrev pub begunOf : words.Begun → Begun
+begunOf w = record { at = atOf (w .at); queued = w .queued; stepped = w .stepped }
 
 pub record Started : Type 0 where
   pub actors : Table

@@ -21,7 +21,17 @@ use Rattle.group.specs.declared.at.Point.the-variants as point
 use Rattle.group.specs.declared.at.Cursor.{Cursor}
 use Rattle.group.specs.At.{readyAfter}
 use Rattle.group.specs.Roster.{slabRow, idleRow, waitingRow, slotAt, Keyed, pushKey, scheduleOf, overAll}
-use Rattle.ticking.specs.declared.settle.Settled.{Settled}
+use Rattle.ticking.specs.declared.settle.Settled as words
+use Rattle.group.specs.Words.{atOf}
+
+-- where the turn stands then, and the new counts
+pub record Settled : Type 0 where
+  pub at : At
+  pub queued : ℕ
+
+-- the same of the words that code hands on
+abbrev pub settledOf : words.Settled → Settled
+settledOf w = record { at = atOf (w .at); queued = w .queued }
 
 abbrev pub PENDING : ℕ
 PENDING = 2

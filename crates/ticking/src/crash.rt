@@ -1,6 +1,7 @@
 // Crashed messages are tried again or dead (`handle_crash` of the Rust), and actors of a trapped interpreter are
 // retired (`crash_trapped`).
 ghost use mathlib.Core.Path.{_≡_};
+ghost use Rattle.group.specs.Words.{atOf};
 ghost use Rattle.ticking.specs.Crash.{
   crashedEntry,
   crashedFirst,
@@ -11,6 +12,7 @@ ghost use Rattle.ticking.specs.Crash.{
   trappedReply,
   doomedKey,
   doomedOf,
+  crashedOf,
 };
 use crate::settle;
 use actor::message;
@@ -18,12 +20,11 @@ use actor::question;
 use actor::question::Reply;
 use actor::question::YesIn;
 use group::at;
-use group::at::Ask;
-use group::at::At;
 use group::at::Cursor;
-use group::at::Point;
 use group::roster;
 use group::settings;
+use group::words;
+use group::words::Where;
 use lists::Found;
 use lists::keys;
 use lists::keys::Key;
@@ -38,7 +39,7 @@ pub struct Losses {
 
 // Where the turn stands then, and the counts.
 pub struct Crashed {
-    pub at: At,
+    pub at: Where,
     pub queued: u64,
     pub losses: Losses,
 }
@@ -109,20 +110,20 @@ pub fn crash(
 }
 
 // Trapped is asked of the next actor in key order; after the last those that were trapped are retired.
-fn trapped_next(lists: &[[u8; 65]], c: Cursor, from: u8) -> At
-    ensures { λ r. ⌜ r ≡ trappedNext (now (lists .entry)) c from ⌝ }
+fn trapped_next(lists: &[[u8; 65]], c: Cursor, from: u8) -> Where
+    ensures { λ r. ⌜ atOf r ≡ trappedNext (now (lists .entry)) c from ⌝ }
 {
     let row = roster::slab_row(c.group);
     let given = keys::keys_at(lists, row);
     match slab::next_key(given, from) {
-        Key::At(key) => At::Asks(Ask::Trapped(c, key)),
-        Key::Nothing => At::Runs(Point::Doomed(c, 16)),
+        Key::At(key) => words::trapped(c, key),
+        Key::Nothing => words::doomed(c, 16),
     }
 }
 
 // The reply to Trap; one that does not fit changes nothing.
-pub fn trap_reply(lists: &mut [[u8; 65]], c: Cursor, reply: Reply) -> At
-    ensures { λ r. ⌜ record { keys = now (lists .exit); at = r } ≡ trapReply (now (lists .entry)) c reply ⌝ }
+pub fn trap_reply(lists: &mut [[u8; 65]], c: Cursor, reply: Reply) -> Where
+    ensures { λ r. ⌜ record { keys = now (lists .exit); at = atOf r } ≡ trapReply (now (lists .entry)) c reply ⌝ }
 {
     let came = question::yes_in(reply);
     match came {
@@ -132,7 +133,7 @@ pub fn trap_reply(lists: &mut [[u8; 65]], c: Cursor, reply: Reply) -> At
             trapped_next(lists, c, 0)
         }
         YesIn::No => at::ready_after(c),
-        YesIn::Other => At::Asks(Ask::Trap(c)),
+        YesIn::Other => words::trap(c),
     }
 }
 
@@ -144,8 +145,8 @@ fn next_asked(key: u8) -> u8
 }
 
 // The reply to Trapped; one that does not fit changes nothing.
-pub fn trapped_reply(lists: &mut [[u8; 65]], c: Cursor, key: u8, reply: Reply) -> At
-    ensures { λ r. ⌜ record { keys = now (lists .exit); at = r } ≡ trappedReply (now (lists .entry)) c key reply ⌝ }
+pub fn trapped_reply(lists: &mut [[u8; 65]], c: Cursor, key: u8, reply: Reply) -> Where
+    ensures { λ r. ⌜ record { keys = now (lists .exit); at = atOf r } ≡ trappedReply (now (lists .entry)) c key reply ⌝ }
 {
     let came = question::yes_in(reply);
     let after = next_asked(key);
@@ -155,7 +156,7 @@ pub fn trapped_reply(lists: &mut [[u8; 65]], c: Cursor, key: u8, reply: Reply) -
             trapped_next(lists, c, after)
         }
         YesIn::No => trapped_next(lists, c, after),
-        YesIn::Other => At::Asks(Ask::Trapped(c, key)),
+        YesIn::Other => words::trapped(c, key),
     }
 }
 
@@ -172,7 +173,7 @@ fn doomed_key(
     losses: Losses,
 ) -> Crashed
     ensures { λ r.
-        ⌜ record { links = now (links .exit); rows = now (rows .exit); keys = now (lists .exit); crashed = r }
+        ⌜ record { links = now (links .exit); rows = now (rows .exit); keys = now (lists .exit); crashed = crashedOf r }
         ≡ doomedKey (now (groups .entry)) (now (links .entry)) (now (rows .entry)) (now (lists .entry)) c key
         left queued losses ⌝ }
 {
@@ -187,8 +188,9 @@ fn doomed_key(
     let crashes = lists::sum(losses.crashes, 1);
     let hand = lists::hand(slot);
     let dead = crashed_first(groups, links, rows, c.group, hand, losses.dead);
+    let at = words::doomed(c, left);
     Crashed {
-        at: At::Runs(Point::Doomed(c, left)),
+        at,
         queued: fewer,
         losses: Losses { dead, crashes },
     }
@@ -206,7 +208,7 @@ pub fn doomed(
     losses: Losses,
 ) -> Crashed
     ensures { λ r.
-        ⌜ record { links = now (links .exit); rows = now (rows .exit); keys = now (lists .exit); crashed = r }
+        ⌜ record { links = now (links .exit); rows = now (rows .exit); keys = now (lists .exit); crashed = crashedOf r }
         ≡ doomedOf (now (groups .entry)) (now (links .entry)) (now (rows .entry)) (now (lists .entry)) c left
         queued losses ⌝ }
 {

@@ -1,15 +1,15 @@
 // A group's ready list is popped, and each actor that has work is stepped once.
 ghost use mathlib.Core.Path.{_≡_};
-ghost use Rattle.ticking.specs.Ready.{restsOf, beginFixed, beginEval, beginStep, readyKey, readyOf};
+ghost use Rattle.group.specs.Words.{atOf};
+ghost use Rattle.ticking.specs.Ready.{restsOf, beginFixed, beginEval, beginStep, readyKey, readyOf, begunOf};
 use actor::state;
 use actor::state::Actor;
 use actor::state::Mode;
 use group::at;
-use group::at::Ask;
-use group::at::At;
 use group::at::Cursor;
-use group::at::Point;
 use group::roster;
+use group::words;
+use group::words::Where;
 use lists::keys;
 use lists::keys::Key;
 use steps::eval;
@@ -17,7 +17,7 @@ use steps::fixed;
 
 // The next point, the new queued, and whether an actor was stepped.
 pub struct Begun {
-    pub at: At,
+    pub at: Where,
     pub queued: u64,
     pub stepped: bool,
 }
@@ -36,11 +36,11 @@ fn rests(a: Actor, waiting: u64) -> bool
 }
 
 // A step of a fixed actor begins.
-fn begin_fixed(actors: &mut [[u64; 12]], c: Cursor, slot: usize) -> At
-    ensures { λ r. ⌜ record { actors = now (actors .exit); at = r } ≡ beginFixed (now (actors .entry)) c slot ⌝ }
+fn begin_fixed(actors: &mut [[u64; 12]], c: Cursor, slot: usize) -> Where
+    ensures { λ r. ⌜ record { actors = now (actors .exit); at = atOf r } ≡ beginFixed (now (actors .entry)) c slot ⌝ }
 {
     let ask = fixed::fixed_start(actors, slot);
-    At::Asks(Ask::Fixed(c, ask))
+    words::fixed(c, ask)
 }
 
 // A step of an eval actor begins; one with no run and no mail ends at once.
@@ -52,7 +52,7 @@ fn begin_eval(
     queued: u64,
 ) -> Begun
     ensures { λ r.
-        ⌜ record { links = now (links .exit); actors = now (actors .exit); begun = r }
+        ⌜ record { links = now (links .exit); actors = now (actors .exit); begun = begunOf r }
         ≡ beginEval (now (links .entry)) (now (actors .entry)) c slot queued ⌝ }
 {
     let s = eval::eval_start(links, actors, slot, queued);
@@ -74,7 +74,7 @@ fn begin_step(
     queued: u64,
 ) -> Begun
     ensures { λ r.
-        ⌜ record { links = now (links .exit); actors = now (actors .exit); begun = r }
+        ⌜ record { links = now (links .exit); actors = now (actors .exit); begun = begunOf r }
         ≡ beginStep (now (links .entry)) (now (actors .entry)) c slot queued ⌝ }
 {
     let a = state::actor_at(actors, slot);
@@ -104,7 +104,7 @@ fn ready_key(
     stepped: bool,
 ) -> Begun
     ensures { λ r.
-        ⌜ record { links = now (links .exit); actors = now (actors .exit); begun = r }
+        ⌜ record { links = now (links .exit); actors = now (actors .exit); begun = begunOf r }
         ≡ readyKey (now (links .entry)) (now (lists .entry)) (now (actors .entry)) c queued stepped ⌝ }
 {
     let next = at::ready_after(c);
@@ -144,13 +144,14 @@ pub fn ready(
     pops: u64,
 ) -> Begun
     ensures { λ r.
-        ⌜ record { links = now (links .exit); keys = now (lists .exit); actors = now (actors .exit); begun = r }
+        ⌜ record { links = now (links .exit); keys = now (lists .exit); actors = now (actors .exit); begun = begunOf r }
         ≡ readyOf (now (links .entry)) (now (lists .entry)) (now (actors .entry)) queued stepped g clock pops ⌝ }
 {
     let after = at::next_group(g);
     if pops == 0 {
+        let at = words::wake(after, clock);
         return Begun {
-            at: At::Runs(Point::Wake(after, clock)),
+            at,
             queued,
             stepped,
         };
@@ -170,10 +171,13 @@ pub fn ready(
             };
             ready_key(links, lists, actors, c, queued, stepped)
         }
-        Key::Nothing => Begun {
-            at: At::Runs(Point::Wake(after, clock)),
-            queued,
-            stepped,
-        },
+        Key::Nothing => {
+            let at = words::wake(after, clock);
+            Begun {
+                at,
+                queued,
+                stepped,
+            }
+        }
     }
 }

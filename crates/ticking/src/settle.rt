@@ -1,38 +1,43 @@
 // `settle` of the Rust: a step's end puts the actor into a list, or takes it out of its group.
 ghost use mathlib.Core.Path.{_≡_};
-ghost use Rattle.ticking.specs.Settle.{stepEnd, removeKey, letGo, releaseOf, blockAt, yieldAt, parkAt, settleOf};
+ghost use Rattle.steps.specs.Words.{parkedOf, stepOf};
+ghost use Rattle.group.specs.Words.{atOf};
+ghost use Rattle.ticking.specs.Settle.{stepEnd, removeKey, letGo, releaseOf, blockAt, yieldAt, parkAt, settleOf, settledOf};
 use actor::state;
 use actor::state::Wake;
 use group::at;
-use group::at::Ask;
-use group::at::At;
 use group::at::Cursor;
-use group::at::Point;
 use group::over;
 use group::roster;
+use group::words;
+use group::words::Where;
 use lists::keys;
 use lists::slab;
+use steps::step;
 use steps::step::End;
-use steps::step::Parked;
-use steps::step::Step;
+use steps::step::ParkedKind;
+use steps::step::StepKind;
+use steps::step::StepWords;
 
 // The next point, and the new queued.
 pub struct Settled {
-    pub at: At,
+    pub at: Where,
     pub queued: u64,
 }
 
-// What the step finished has its marks: Sends is asked of a fixed actor; an eval actor is settled.
-pub fn step_end(c: Cursor, end: End) -> At
-    ensures { λ r. ⌜ r ≡ stepEnd c end ⌝ }
+// What a fixed actor's step finished has its marks: Sends is asked.
+pub fn fixed_end(c: Cursor, step: StepWords) -> Where
+    ensures { λ r. ⌜ atOf r ≡ stepEnd c (End.Fixed (stepOf step)) ⌝ }
 {
-    match end {
-        End::Fixed(step) => At::Asks(Ask::Sends(c, step)),
-        End::Eval(parked) => {
-            let step = Step::Parked(parked);
-            At::Runs(Point::Settle(c, step))
-        }
-    }
+    words::sends(c, step)
+}
+
+// What an eval actor's step finished has its marks: the actor is settled.
+pub fn eval_end(c: Cursor, step: StepWords) -> Where
+    ensures { λ r. ⌜ atOf r ≡ stepEnd c (End.Eval (parkedOf step)) ⌝ }
+{
+    let end = step::going_on(step);
+    words::settle(c, end)
 }
 
 // A key is free again.
@@ -121,18 +126,20 @@ fn yield_at(lists: &mut [[u8; 65]], actors: &mut [[u64; 12]], c: Cursor)
 }
 
 // An actor that goes on is put into a list of its group: idle, waiting or ready.
-fn park(lists: &mut [[u8; 65]], actors: &mut [[u64; 12]], c: Cursor, parked: Parked)
+fn park(lists: &mut [[u8; 65]], actors: &mut [[u64; 12]], c: Cursor, step: StepWords)
     ensures { λ r.
         ⌜ record { keys = now (lists .exit); actors = now (actors .exit) }
-        ≡ parkAt (now (lists .entry)) (now (actors .entry)) c parked ⌝ }
+        ≡ parkAt (now (lists .entry)) (now (actors .entry)) c (parkedOf step) ⌝ }
 {
+    let parked = step::parked_kind(step.end);
     match parked {
-        Parked::Waiting => {
+        ParkedKind::Waiting => {
             let row = roster::idle_row(c.group);
             roster::push_key(lists, row, c.key);
         }
-        Parked::Blocked(until) => block_at(lists, actors, c, until),
-        Parked::Yield => yield_at(lists, actors, c),
+        ParkedKind::Forever => block_at(lists, actors, c, Wake::Never),
+        ParkedKind::Until => block_at(lists, actors, c, Wake::At(step.until)),
+        ParkedKind::Yield => yield_at(lists, actors, c),
     }
 }
 
@@ -143,33 +150,32 @@ pub fn settle(
     lists: &mut [[u8; 65]],
     actors: &mut [[u64; 12]],
     c: Cursor,
-    step: Step,
+    step: StepWords,
     queued: u64,
 ) -> Settled
     ensures { λ r.
-        ⌜ record { links = now (links .exit); keys = now (lists .exit); actors = now (actors .exit); settled = r }
-        ≡ settleOf (now (links .entry)) (now (rows .entry)) (now (lists .entry)) (now (actors .entry)) c step
-        queued ⌝ }
+        ⌜ record { links = now (links .exit); keys = now (lists .exit); actors = now (actors .exit); settled = settledOf r }
+        ≡ settleOf (now (links .entry)) (now (rows .entry)) (now (lists .entry)) (now (actors .entry)) c
+        (stepOf step) queued ⌝ }
 {
     let next = at::ready_after(c);
-    match step {
-        Step::Done => {
+    let kind = step::step_kind(step.end);
+    match kind {
+        StepKind::Done => {
             let fewer = release(links, rows, lists, actors, c, queued);
             Settled {
                 at: next,
                 queued: fewer,
             }
         }
-        Step::Parked(parked) => {
-            park(lists, actors, c, parked);
+        StepKind::Parked => {
+            park(lists, actors, c, step);
             Settled { at: next, queued }
         }
-        Step::Failed => {
+        StepKind::Failed => {
             let fewer = release(links, rows, lists, actors, c, queued);
-            Settled {
-                at: At::Runs(Point::Crash(c)),
-                queued: fewer,
-            }
+            let at = words::crash(c);
+            Settled { at, queued: fewer }
         }
     }
 }

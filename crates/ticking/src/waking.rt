@@ -1,5 +1,6 @@
 // `wake` of the Rust: waiting actors past their deadline, and those whose host calls answered, go to the ready list.
 ghost use mathlib.Core.Path.{_≡_};
+ghost use Rattle.group.specs.Words.{atOf};
 ghost use Rattle.ticking.specs.Waking.{atMost64, wakeOf, lateAt, pollsOf, wokenTo, wakeOne, wakeNext, pollReply};
 use actor::question;
 use actor::question::CountIn;
@@ -8,10 +9,9 @@ use actor::state;
 use actor::state::Actor;
 use actor::state::Mode;
 use actor::state::Wake;
-use group::at::Ask;
-use group::at::At;
-use group::at::Point;
 use group::roster;
+use group::words;
+use group::words::Where;
 use lists::keys;
 use lists::keys::Key;
 
@@ -23,14 +23,14 @@ fn at_most_64(n: u64) -> u64
 }
 
 // A group's waiting list is gone through from its front, and grows anew; past the last group the turn is over.
-pub fn wake(lists: &mut [[u8; 65]], count: usize, g: usize, clock: u64) -> At
-    ensures { λ r. ⌜ record { keys = now (lists .exit); at = r } ≡ wakeOf (now (lists .entry)) count g clock ⌝ }
+pub fn wake(lists: &mut [[u8; 65]], count: usize, g: usize, clock: u64) -> Where
+    ensures { λ r. ⌜ record { keys = now (lists .exit); at = atOf r } ≡ wakeOf (now (lists .entry)) count g clock ⌝ }
 {
     if count <= g {
-        return At::Rest;
+        return words::rest();
     }
     if 8 <= g {
-        return At::Rest;
+        return words::rest();
     }
     let row = roster::waiting_row(g);
     let waiting = keys::keys_at(lists, row);
@@ -39,7 +39,7 @@ pub fn wake(lists: &mut [[u8; 65]], count: usize, g: usize, clock: u64) -> At
     let none = keys::empty();
     keys::put_keys(lists, row, none);
     let left = at_most_64(n);
-    At::Runs(Point::WakeNext(g, clock, left))
+    words::wake_next(g, clock, left)
 }
 
 // Whether its deadline has passed.
@@ -95,9 +95,9 @@ fn wake_one(
     key: u8,
     clock: u64,
     left: u64,
-) -> At
+) -> Where
     ensures { λ r.
-        ⌜ record { keys = now (lists .exit); actors = now (actors .exit); at = r }
+        ⌜ record { keys = now (lists .exit); actors = now (actors .exit); at = atOf r }
         ≡ wakeOne (now (lists .entry)) (now (actors .entry)) g key clock left ⌝ }
 {
     let there = roster::live(lists, g, key);
@@ -109,15 +109,15 @@ fn wake_one(
         let asks = polls(a);
         if over {
             woken_to(lists, actors, g, key, true);
-            return At::Runs(Point::WakeNext(g, clock, left));
+            return words::wake_next(g, clock, left);
         }
         if asks {
-            return At::Asks(Ask::WakePoll(g, key, clock, left));
+            return words::wake_poll(g, key, clock, left);
         }
         woken_to(lists, actors, g, key, false);
-        return At::Runs(Point::WakeNext(g, clock, left));
+        return words::wake_next(g, clock, left);
     }
-    At::Runs(Point::WakeNext(g, clock, left))
+    words::wake_next(g, clock, left)
 }
 
 // The next of the waiting list; with none left the ready list is popped as often as it has keys now.
@@ -127,16 +127,16 @@ pub fn wake_next(
     g: usize,
     clock: u64,
     left: u64,
-) -> At
+) -> Where
     ensures { λ r.
-        ⌜ record { keys = now (lists .exit); actors = now (actors .exit); at = r }
+        ⌜ record { keys = now (lists .exit); actors = now (actors .exit); at = atOf r }
         ≡ wakeNext (now (lists .entry)) (now (actors .entry)) g clock left ⌝ }
 {
     let ready = keys::keys_at(lists, roster::ready_row(g));
     let n = keys::count(ready) as u64;
     let pops = at_most_64(n);
     if left == 0 {
-        return At::Runs(Point::Ready(g, clock, pops));
+        return words::ready(g, clock, pops);
     }
     let rest = keys::keys_at(lists, roster::REST);
     match keys::front(rest) {
@@ -146,7 +146,7 @@ pub fn wake_next(
             let less = lists::less(left, 1);
             wake_one(lists, actors, g, key, clock, less)
         }
-        Key::Nothing => At::Runs(Point::Ready(g, clock, pops)),
+        Key::Nothing => words::ready(g, clock, pops),
     }
 }
 
@@ -159,9 +159,9 @@ pub fn poll_reply(
     clock: u64,
     left: u64,
     reply: Reply,
-) -> At
+) -> Where
     ensures { λ r.
-        ⌜ record { keys = now (lists .exit); actors = now (actors .exit); at = r }
+        ⌜ record { keys = now (lists .exit); actors = now (actors .exit); at = atOf r }
         ≡ pollReply (now (lists .entry)) (now (actors .entry)) g key clock left reply ⌝ }
 {
     let came = question::count_in(reply);
@@ -169,11 +169,11 @@ pub fn poll_reply(
         CountIn::Of(n) => {
             if 0 < n {
                 woken_to(lists, actors, g, key, true);
-                return At::Runs(Point::WakeNext(g, clock, left));
+                return words::wake_next(g, clock, left);
             }
             woken_to(lists, actors, g, key, false);
-            At::Runs(Point::WakeNext(g, clock, left))
+            words::wake_next(g, clock, left)
         }
-        CountIn::Other => At::Asks(Ask::WakePoll(g, key, clock, left)),
+        CountIn::Other => words::wake_poll(g, key, clock, left),
     }
 }

@@ -1,11 +1,20 @@
--- A step by what its marks gave: the point runs, or the order of a mark waits.
+-- A step by where the turn stands, and by what its marks gave: the point runs, or the order of a mark waits.
 use mathlib.Core.Path.{_≡_, sym, _∙_, ap}
 use mathlib.Core.Bool.{true, false}
 use Rattle.group.specs.declared.at.At.the-variants as at
+use Rattle.group.specs.declared.at.Ask.{Ask}
 use Rattle.group.specs.declared.at.Point.{Point}
 use Rattle.turn.specs.State.{State, isFree}
 use Rattle.turn.specs.Go.{goOf}
 use Rattle.turn.specs.Step.{markAt, goFree, stepAt, stepOf}
+
+pub step-rests : (s : State) → s .pool .turn .at ≡ at.Rest → s ≡ stepOf s
+unfolding stepOf
+step-rests s is = ap (stepAt s) (sym is)
+
+pub step-asks : (s : State) (a : Ask) → s .pool .turn .at ≡ at.Asks a → s ≡ stepOf s
+unfolding stepOf
+step-asks s a is = ap (stepAt s) (sym is)
 
 module _ (s : State) (p : Point) (at-is : s .pool .turn .at ≡ at.Runs p) (m : State) (marked : m ≡ markAt s p) where
   steps : goFree m p ≡ stepOf s

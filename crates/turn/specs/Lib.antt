@@ -1,5 +1,7 @@
 -- Definitions and statements.
 pub mod State
+pub mod Words
+pub mod Logged
 pub mod Go
 pub mod Weight
 pub mod Step

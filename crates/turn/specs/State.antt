@@ -10,11 +10,32 @@ use Rattle.group.specs.declared.at.At.the-variants as at
 use Rattle.group.specs.declared.at.Point.{Point}
 use Rattle.group.specs.declared.at.Point.the-variants as point
 use Rattle.ticking.specs.declared.crash.Losses.{Losses}
+use Rattle.log.specs.declared.Due.{Due}
+use Rattle.log.specs.declared.Due.the-variants as due
+use Rattle.turn.specs.declared.state.What.{What}
 use Rattle.turn.specs.declared.state.Disk.{Disk}
 use Rattle.turn.specs.declared.state.Disk.the-variants as disk
-use Rattle.turn.specs.declared.state.Counts.{Counts}
-use Rattle.turn.specs.declared.state.Turn.{Turn}
-use Rattle.turn.specs.declared.state.Pool.{Pool}
+use Rattle.turn.specs.declared.state.Limits.{Limits}
+
+-- messages in mailboxes; dead messages and crashes; whether an actor was stepped in this turn
+pub record Counts : Type 0 where
+  pub queued : ℕ
+  pub losses : Losses
+  pub stepped : Bool
+
+-- where a turn stands, the disk, the counts, and the log's counters
+pub record Turn : Type 0 where
+  pub at : At
+  pub disk : Disk
+  pub counts : Counts
+  pub log : Counters
+
+-- the pool's own state; code has it in cells (specs/Words)
+pub record Pool : Type 0 where
+  pub turn : Turn
+  pub limits : Limits
+  pub closed : Bool
+  pub seeded : Bool
 
 -- what each call gets as the one before left it: the pool, the log's bytes and table of open records, the body store,
 -- and the pool's tables
@@ -135,6 +156,11 @@ withTurn p t = record { turn = t; limits = p .limits; closed = p .closed; seeded
 abbrev pub withDisk : Pool → Counters → Disk → Pool
 withDisk p n d = withTurn p (record { at = p .turn .at; disk = d; counts = p .turn .counts; log = n })
 
+-- what the log had due waits, for this
+abbrev pub diskFor : Due → What → Disk
+diskFor (due.Ordered o) w = disk.Waits o w
+diskFor due.Nothing w = disk.Free
+
 -- the turn stands there, with these counts
 abbrev pub countedAt : Pool → At → Counts → Pool
 countedAt p a n = withTurn p (record { at = a; disk = p .turn .disk; counts = n; log = p .turn .log })
@@ -154,6 +180,44 @@ steppedAt p a queued stepped =
 abbrev pub lostAt : Pool → At → ℕ → Losses → Pool
 lostAt p a queued losses =
     countedAt p a (record { queued = queued; losses = losses; stepped = p .turn .counts .stepped })
+
+-- a turn begins there: no actor was stepped in it yet, and the first turn was taken
+abbrev pub begunAt : Pool → At → Pool
+begunAt p a =
+    record {
+      turn = record {
+        at = a;
+        disk = p .turn .disk;
+        counts = record { queued = p .turn .counts .queued; losses = p .turn .counts .losses; stepped = false };
+        log = p .turn .log;
+      };
+      limits = p .limits;
+      closed = p .closed;
+      seeded = true;
+    }
+
+-- no more is admitted
+abbrev pub closedPool : Pool → Pool
+closedPool p = record { turn = p .turn; limits = p .limits; closed = true; seeded = p .seeded }
+
+-- a pool at rest: nothing queued, nobody dead
+abbrev pub newPool : Limits → Counters → Disk → Pool
+newPool limits n d =
+    record {
+      turn = record {
+        at = at.Rest;
+        disk = d;
+        counts = record {
+          queued = 0;
+          losses = record { dead = 0; crashes = 0 };
+          stepped = false;
+        };
+        log = n;
+      };
+      limits = limits;
+      closed = false;
+      seeded = false;
+    }
 
 -- ---- what runs
 

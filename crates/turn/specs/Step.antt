@@ -1,13 +1,9 @@
 -- A step of a turn, and the turn as far as it runs by itself.
-use mathlib.Core.List.{List}
 use Prim.Native.Nat.{ℕ, zero, suc}
 use Rattle.lists.specs.declared.Found.{Found}
 use Rattle.lists.specs.declared.Found.the-variants as found
-use Rattle.lists.specs.Links.{pick, Table, FREE, firstOf, moveFirst}
+use Rattle.lists.specs.Links.{pick, FREE, firstOf, moveFirst}
 use Rattle.log.specs.declared.LogId.{LogId}
-use Rattle.log.specs.declared.Counters.{Counters}
-use Rattle.log.specs.declared.Due.{Due}
-use Rattle.log.specs.declared.Due.the-variants as due
 use Rattle.log.specs.Log.{DidMark, markOf}
 use Rattle.actor.specs.declared.message.Logged.{Logged}
 use Rattle.actor.specs.declared.message.Logged.the-variants as logged
@@ -17,40 +13,22 @@ use Rattle.group.specs.declared.at.At.{At}
 use Rattle.group.specs.declared.at.At.the-variants as at
 use Rattle.group.specs.declared.at.Point.{Point}
 use Rattle.turn.specs.declared.state.What.the-variants as what
-use Rattle.turn.specs.declared.state.Disk.{Disk}
-use Rattle.turn.specs.declared.state.Disk.the-variants as disk
-use Rattle.turn.specs.declared.step.Marked.{Marked}
-use Rattle.turn.specs.State.{State, walOf, withPool, withLinks, withLog, withDisk, isFree, marksAt, runningOf}
+use Rattle.turn.specs.State.{State, walOf, withPool, withLinks, withLog, withDisk, diskFor, isFree, marksAt}
+use Rattle.turn.specs.State.{runningOf}
 use Rattle.turn.specs.Go.{goOf}
 use Rattle.turn.specs.Weight.{weightOf}
 
 -- ---- marks
 
-abbrev pub diskBy : LogId → Due → Disk
-diskBy id (due.Ordered o) = disk.Waits o (what.Mark id)
-diskBy id due.Nothing = disk.Free
-
--- what a mark leaves: the log's counters after it, and the disk by what the log had due
-abbrev pub markedBy : Counters → Due → LogId → Marked
-markedBy n d id = record { counters = n; disk = diskBy id d }
-
--- the same with the log's bytes and open records
-pub record MarkedLog : Type 0 where
-  pub bytes : List ℕ
-  pub records : Table
-  pub marked : Marked
-
-unfoldable pub markedLog : DidMark → LogId → MarkedLog
-markedLog d id =
-    record { bytes = d .wal .bytes; records = d .wal .table; marked = markedBy (d .wal .counters) (d .due) id }
-
-abbrev pub marked : State → MarkedLog → State
-marked s m =
-    withLog (withPool s (withDisk (s .pool) (m .marked .counters) (m .marked .disk))) (m .bytes) (m .records)
+-- a mark in the log: its order waits, if one was due
+abbrev pub marked : State → LogId → DidMark → State
+marked s id d =
+    withLog (withPool s (withDisk (s .pool) (d .wal .counters) (diskFor (d .due) (what.Mark id)))) (d .wal .bytes)
+    (d .wal .table)
 
 -- a message that was logged gets its mark
 unfoldable pub markLogged : State → Logged → State
-markLogged s (logged.As id) = marked s (markedLog (markOf (s .pool .limits .«compact_at») (walOf s) (id .0)) id)
+markLogged s (logged.As id) = marked s id (markOf (s .pool .limits .«compact_at») (walOf s) (id .0))
 markLogged s logged.Never = s
 
 abbrev pub markFound : State → Found → State

@@ -7,7 +7,7 @@ use Rattle.group.specs.declared.at.Point.{Point}
 use Rattle.group.specs.declared.at.Point.the-variants as point
 use Rattle.turn.specs.declared.state.Disk.{Disk}
 use Rattle.turn.specs.declared.state.Disk.the-variants as disk
-use Rattle.turn.specs.declared.state.Turn.{Turn}
+use Rattle.turn.specs.State.{Turn}
 
 -- what is left of a tick after a group, and after the pops of its ready list
 abbrev pub tickLeft : ℕ → ℕ

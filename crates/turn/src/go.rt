@@ -3,12 +3,13 @@ ghost use mathlib.Core.Path.{_≡_};
 ghost use mathlib.Core.List.{List};
 ghost use Prim.Native.Nat.{ℕ};
 ghost use Rattle.lists.specs.Links.{Table};
+ghost use Rattle.group.specs.Words.{pointOf};
+ghost use Rattle.turn.specs.Words.{poolOf};
 ghost use Rattle.turn.specs.Go.{goOf};
 use crate::state;
-use crate::state::Pool;
-use group::at::Ask;
-use group::at::At;
-use group::at::Point;
+use group::words;
+use group::words::PointKind;
+use group::words::Where;
 use routing::intake;
 use routing::route;
 use routing::seed;
@@ -19,19 +20,19 @@ use ticking::waking;
 
 // A point of a turn that runs, whatever the log is.
 pub(crate) fn go(
-    pool: Pool,
+    pool: &mut [u64; 28],
     store: &[u8],
     groups: &[[u64; 37]],
     links: &mut [[u64; 4]],
     rows: &mut [[u64; 7]],
     lists: &mut [[u8; 65]],
     actors: &mut [[u64; 12]],
-    point: Point,
-) -> Pool
+    w: Where,
+)
     ensures { λ r. ⌜
         ((bytes : List ℕ) (records : Table) →
         record {
-          pool = r;
+          pool = poolOf (now (pool .exit));
           bytes = bytes;
           records = records;
           store = now (store .entry);
@@ -43,7 +44,7 @@ pub(crate) fn go(
         }
         ≡ goOf
         (record {
-          pool = pool;
+          pool = poolOf (now (pool .entry));
           bytes = bytes;
           records = records;
           store = now (store .entry);
@@ -53,21 +54,24 @@ pub(crate) fn go(
           keys = now (lists .entry);
           actors = now (actors .entry);
         })
-        point)
+        (pointOf w))
         ⌝ }
 {
-    let count = pool.limits.groups;
-    let queued = pool.turn.counts.queued;
+    let count = state::groups(pool);
+    let queued = state::queued(pool);
+    let point = words::point_kind(w.place);
+    let c = words::cursor_of(w);
     match point {
-        Point::Seed(g) => {
-            let next = seed::seed(groups, count, lists, actors, g);
-            state::stood_at(pool, next)
+        PointKind::Seed => {
+            let next = seed::seed(groups, count, lists, actors, c.group);
+            state::stand_at(pool, next);
         }
-        Point::Intake(left) => {
-            let next = intake::intake(links, queued, pool.limits.backlog, left);
-            state::stood_at(pool, next)
+        PointKind::Intake => {
+            let backlog = state::backlog(pool);
+            let next = intake::intake(links, queued, backlog, w.left);
+            state::stand_at(pool, next);
         }
-        Point::Route(left) => {
+        PointKind::Route => {
             let s = route::route(
                 groups,
                 count,
@@ -77,50 +81,66 @@ pub(crate) fn go(
                 lists,
                 actors,
                 queued,
-                left,
+                w.left,
             );
             let next = s.at;
-            state::queued_at(pool, next, s.queued)
+            state::queue_at(pool, next, s.queued);
         }
-        Point::Wake(g, clock) => {
-            let next = waking::wake(lists, count, g, clock);
-            state::stood_at(pool, next)
+        PointKind::Wake => {
+            let next = waking::wake(lists, count, c.group, c.now);
+            state::stand_at(pool, next);
         }
-        Point::WakeNext(g, clock, left) => {
-            let next = waking::wake_next(lists, actors, g, clock, left);
-            state::stood_at(pool, next)
+        PointKind::WakeNext => {
+            let next = waking::wake_next(lists, actors, c.group, c.now, w.left);
+            state::stand_at(pool, next);
         }
-        Point::Ready(g, clock, pops) => {
-            let stepped = pool.turn.counts.stepped;
-            let s = ready::ready(links, lists, actors, queued, stepped, g, clock, pops);
+        PointKind::Ready => {
+            let stepped = state::stepped(pool);
+            let s = ready::ready(
+                links,
+                lists,
+                actors,
+                queued,
+                stepped,
+                c.group,
+                c.now,
+                w.left,
+            );
             let next = s.at;
-            state::stepped_at(pool, next, s.queued, s.stepped)
+            state::step_at(pool, next, s.queued, s.stepped);
         }
-        Point::StepEnd(c, end) => {
-            let next = settle::step_end(c, end);
-            state::stood_at(pool, next)
+        PointKind::FixedEnd => {
+            let step = words::end_of(w);
+            let next = settle::fixed_end(c, step);
+            state::stand_at(pool, next);
         }
-        Point::Settle(c, step) => {
+        PointKind::EvalEnd => {
+            let step = words::end_of(w);
+            let next = settle::eval_end(c, step);
+            state::stand_at(pool, next);
+        }
+        PointKind::Settle => {
+            let step = words::end_of(w);
             let s = settle::settle(links, rows, lists, actors, c, step, queued);
             let next = s.at;
-            state::queued_at(pool, next, s.queued)
+            state::queue_at(pool, next, s.queued);
         }
-        Point::Crash(c) => {
-            let losses = pool.turn.counts.losses;
+        PointKind::Crash => {
+            let losses = state::losses(pool);
             let more = crash::crash(groups, links, rows, c, losses);
-            let next = At::Runs(Point::AskTrap(c));
-            state::lost_at(pool, next, queued, more)
+            let next = words::ask_trap(c);
+            state::lose_at(pool, next, queued, more);
         }
-        Point::AskTrap(c) => {
-            let next = At::Asks(Ask::Trap(c));
-            state::stood_at(pool, next)
+        PointKind::AskTrap => {
+            let next = words::trap(c);
+            state::stand_at(pool, next);
         }
-        Point::Doomed(c, left) => {
-            let losses = pool.turn.counts.losses;
-            let s = crash::doomed(groups, links, rows, lists, c, left, queued, losses);
+        PointKind::Doomed => {
+            let losses = state::losses(pool);
+            let s = crash::doomed(groups, links, rows, lists, c, w.more, queued, losses);
             let next = s.at;
             let more = s.losses;
-            state::lost_at(pool, next, s.queued, more)
+            state::lose_at(pool, next, s.queued, more);
         }
     }
 }

@@ -4,72 +4,74 @@ ghost use mathlib.Core.Path.{_≡_};
 ghost use mathlib.Core.List.{List};
 ghost use Prim.Native.Nat.{ℕ};
 ghost use Rattle.lists.specs.Links.{Table};
+ghost use Rattle.steps.specs.Words.{stepOf};
+ghost use Rattle.group.specs.Words.{askOf, atOf};
+ghost use Rattle.turn.specs.Words.{poolOf};
 ghost use Rattle.turn.specs.Resume.{clockReply, sendsReply, resumeOf};
 use crate::state;
-use crate::state::Pool;
 use actor::question;
 use actor::question::ClockIn;
 use actor::question::Reply;
 use group::at;
-use group::at::Ask;
-use group::at::At;
 use group::at::Cursor;
-use group::at::Point;
 use group::roster;
 use group::settings;
+use group::words;
+use group::words::AskKind;
+use group::words::Where;
 use routing::route;
 use routing::seed;
 use steps::eval;
 use steps::eval::Limit;
 use steps::fixed;
-use steps::step::Step;
+use steps::step::StepWords;
 use ticking::crash;
 use ticking::waking;
 
 // The tick's clock; a reply that does not fit changes nothing.
-fn clock_reply(reply: Reply) -> At
-    ensures { λ r. ⌜ r ≡ clockReply reply ⌝ }
+fn clock_reply(reply: Reply) -> Where
+    ensures { λ r. ⌜ atOf r ≡ clockReply reply ⌝ }
 {
     let came = question::clock_in(reply);
     match came {
-        ClockIn::Of(ns) => At::Runs(Point::Wake(0, ns)),
-        ClockIn::Other => At::Asks(Ask::TickClock),
+        ClockIn::Of(ns) => words::wake(0, ns),
+        ClockIn::Other => words::tick_clock(),
     }
 }
 
 // No more was sent: the step is settled.
-fn sends_reply(c: Cursor, step: Step, reply: Reply) -> At
-    ensures { λ r. ⌜ r ≡ sendsReply c step reply ⌝ }
+fn sends_reply(c: Cursor, step: StepWords, reply: Reply) -> Where
+    ensures { λ r. ⌜ atOf r ≡ sendsReply c (stepOf step) reply ⌝ }
 {
     match reply {
-        Reply::Yes => At::Asks(Ask::Sends(c, step)),
-        Reply::No => At::Asks(Ask::Sends(c, step)),
-        Reply::Clock(_) => At::Asks(Ask::Sends(c, step)),
-        Reply::Count(_) => At::Asks(Ask::Sends(c, step)),
-        Reply::Ran(_) => At::Asks(Ask::Sends(c, step)),
-        Reply::Message => At::Asks(Ask::Sends(c, step)),
-        Reply::End => At::Runs(Point::Settle(c, step)),
-        Reply::Told => At::Asks(Ask::Sends(c, step)),
-        Reply::Stored => At::Asks(Ask::Sends(c, step)),
-        Reply::Failed => At::Asks(Ask::Sends(c, step)),
+        Reply::Yes => words::sends(c, step),
+        Reply::No => words::sends(c, step),
+        Reply::Clock(_) => words::sends(c, step),
+        Reply::Count(_) => words::sends(c, step),
+        Reply::Ran(_) => words::sends(c, step),
+        Reply::Message => words::sends(c, step),
+        Reply::End => words::settle(c, step),
+        Reply::Told => words::sends(c, step),
+        Reply::Stored => words::sends(c, step),
+        Reply::Failed => words::sends(c, step),
     }
 }
 
 // The turn's question is answered, whatever the log and the body store are.
 pub fn resume(
-    pool: Pool,
+    pool: &mut [u64; 28],
     groups: &[[u64; 37]],
     links: &mut [[u64; 4]],
     rows: &[[u64; 7]],
     lists: &mut [[u8; 65]],
     actors: &mut [[u64; 12]],
-    ask: Ask,
+    w: Where,
     reply: Reply,
-) -> Pool
+)
     ensures { λ r. ⌜
         ((bytes : List ℕ) (records : Table) (store : List ℕ) →
         record {
-          pool = r;
+          pool = poolOf (now (pool .exit));
           bytes = bytes;
           records = records;
           store = store;
@@ -81,7 +83,7 @@ pub fn resume(
         }
         ≡ resumeOf
         (record {
-          pool = pool;
+          pool = poolOf (now (pool .entry));
           bytes = bytes;
           records = records;
           store = store;
@@ -91,57 +93,65 @@ pub fn resume(
           keys = now (lists .entry);
           actors = now (actors .entry);
         })
-        ask reply)
+        (askOf w) reply)
         ⌝ }
 {
-    let queued = pool.turn.counts.queued;
+    let queued = state::queued(pool);
+    let ask = words::ask_kind(w.place);
+    let c = words::cursor_of(w);
     match ask {
-        Ask::SeedBoot(g) => {
-            let next = seed::seed_reply(lists, actors, g, reply);
-            state::stood_at(pool, next)
+        AskKind::SeedBoot => {
+            let next = seed::seed_reply(lists, actors, c.group, reply);
+            state::stand_at(pool, next);
         }
-        Ask::RouteBoot(g, left) => {
-            let s = route::route_reply(links, rows, lists, actors, g, queued, left, reply);
+        AskKind::RouteBoot => {
+            let s = route::route_reply(links, rows, lists, actors, c.group, queued, w.left, reply);
             let next = s.at;
-            state::queued_at(pool, next, s.queued)
+            state::queue_at(pool, next, s.queued);
         }
-        Ask::TickClock => {
+        AskKind::TickClock => {
             let next = clock_reply(reply);
-            state::stood_at(pool, next)
+            state::stand_at(pool, next);
         }
-        Ask::WakePoll(g, key, clock, left) => {
-            let next = waking::poll_reply(lists, actors, g, key, clock, left, reply);
-            state::stood_at(pool, next)
+        AskKind::WakePoll => {
+            let next = waking::poll_reply(lists, actors, c.group, c.key, c.now, w.left, reply);
+            state::stand_at(pool, next);
         }
-        Ask::Fixed(c, step) => {
+        AskKind::Fixed => {
+            let step = fixed::kind_of(w.step);
             let slot = roster::slot_at(c.group, c.key);
             let s = fixed::step_fixed(links, rows, actors, slot, queued, step, reply);
             let after = s.next;
             let next = at::fixed_after(c, after);
-            state::queued_at(pool, next, s.queued)
+            state::queue_at(pool, next, s.queued);
         }
-        Ask::Eval(c, step) => {
+        AskKind::Eval => {
+            let step = eval::kind_of(w.step);
+            let outcome = eval::outcome_of(w.more);
             let group = settings::group_at(groups, c.group);
+            let tick = state::tick(pool);
             let limit = Limit {
                 timeout: group.timeout,
-                tick: pool.limits.tick,
+                tick,
             };
             let slot = roster::slot_at(c.group, c.key);
-            let after = eval::step_eval(links, rows, actors, slot, limit, step, reply);
+            let after = eval::step_eval(links, rows, actors, slot, limit, step, outcome, reply);
             let next = at::eval_after(c, after);
-            state::stood_at(pool, next)
+            state::stand_at(pool, next);
         }
-        Ask::Sends(c, step) => {
+        AskKind::Sends => {
+            let step = words::end_of(w);
             let next = sends_reply(c, step, reply);
-            state::stood_at(pool, next)
+            state::stand_at(pool, next);
         }
-        Ask::Trap(c) => {
+        AskKind::Trap => {
             let next = crash::trap_reply(lists, c, reply);
-            state::stood_at(pool, next)
+            state::stand_at(pool, next);
         }
-        Ask::Trapped(c, key) => {
-            let next = crash::trapped_reply(lists, c, key, reply);
-            state::stood_at(pool, next)
+        AskKind::Trapped => {
+            let other = words::key_of(w.more);
+            let next = crash::trapped_reply(lists, c, other, reply);
+            state::stand_at(pool, next);
         }
     }
 }

@@ -4,75 +4,71 @@ ghost use mathlib.Core.Path.{_≡_};
 ghost use mathlib.Core.List.{List};
 ghost use Prim.Native.Nat.{ℕ};
 ghost use Rattle.lists.specs.Links.{Table};
-ghost use Rattle.log.specs.Log.{state, markOf};
-ghost use Rattle.turn.specs.Step.{markedBy, markedLog, markFirst, markAt, stepOf, advanced};
+ghost use Rattle.group.specs.Words.{pointOf};
+ghost use Rattle.turn.specs.Words.{poolOf};
+ghost use Rattle.turn.specs.Step.{markLogged, markFirst, markAt, stepOf, advanced};
 use crate::go;
+use crate::logged;
 use crate::state;
-use crate::state::Disk;
-use crate::state::Pool;
-use crate::state::What;
 use actor::message;
 use actor::message::Logged;
-use group::at::At;
-use group::at::Point;
+use group::words;
+use group::words::AtKind;
+use group::words::Where;
 use lists::Found;
-use log::Counters;
-use log::Due;
 use log::LogId;
-use log::wal;
 
-// The log's counters after a mark, and its order, if one went out.
-pub struct Marked {
-    pub counters: Counters,
-    pub disk: Disk,
-}
-
-// What the log had due for a mark, acted on: with the counters as they are now.
-fn marked_by(counters: Counters, due: Due, id: LogId) -> Marked
-    ensures { λ r. ⌜ r ≡ markedBy counters due id ⌝ }
-{
-    match due {
-        Due::Ordered(order) => Marked {
-            counters,
-            disk: Disk::Waits(order, What::Mark(id)),
-        },
-        Due::Nothing => Marked {
-            counters,
-            disk: Disk::Free,
-        },
-    }
-}
-
-// The mark of a message that was logged as `id`: the log changes the pool's counters, lent to it by `&mut`.
-fn mark_id(
-    log: &mut [u8],
-    records: &mut [[u64; 3]],
-    before: Counters,
-    limit: usize,
-    id: LogId,
-) -> Marked
+// A message that was logged as `id` gets its mark.
+fn mark_logged(pool: &mut [u64; 28], log: &mut [u8], records: &mut [[u64; 3]], id: LogId)
     ensures { λ r. ⌜
-        record { bytes = now (log .exit); records = now (records .exit); marked = r }
-        ≡ markedLog (markOf limit (state (now (log .entry)) (now (records .entry)) before) (id .0)) id
+        ((store : List ℕ) (groups links rows keys actors : Table) →
+        record {
+          pool = poolOf (now (pool .exit));
+          bytes = now (log .exit);
+          records = now (records .exit);
+          store = store;
+          groups = groups;
+          links = links;
+          rows = rows;
+          keys = keys;
+          actors = actors;
+        }
+        ≡ markLogged
+        (record {
+          pool = poolOf (now (pool .entry));
+          bytes = now (log .entry);
+          records = now (records .entry);
+          store = store;
+          groups = groups;
+          links = links;
+          rows = rows;
+          keys = keys;
+          actors = actors;
+        })
+        (Logged.As id))
         ⌝ }
 {
-    let mut counters = before;
-    let due = wal::mark(&mut counters, log, records, limit, id);
-    marked_by(counters, due, id)
+    let before = state::counters(pool);
+    let limit = state::compact_at(pool);
+    let s = logged::mark(log, records, before, limit, id);
+    let counters = s.counters;
+    let due = s.due;
+    let disk = state::waiting(due, state::MARK, id.0);
+    state::set_log(pool, counters, disk);
 }
 
 // The first message that is over: its entry is free, and its mark is ordered.
 fn mark_first(
-    pool: Pool,
+    pool: &mut [u64; 28],
     log: &mut [u8],
     records: &mut [[u64; 3]],
     links: &mut [[u64; 4]],
     rows: &[[u64; 7]],
-) -> Pool
+)
     ensures { λ r. ⌜
         ((store : List ℕ) (groups keys actors : Table) →
         record {
-          pool = r;
+          pool = poolOf (now (pool .exit));
           bytes = now (log .exit);
           records = now (records .exit);
           store = store;
@@ -84,7 +80,7 @@ fn mark_first(
         }
         ≡ markFirst
         (record {
-          pool = pool;
+          pool = poolOf (now (pool .entry));
           bytes = now (log .entry);
           records = now (records .entry);
           store = store;
@@ -102,33 +98,27 @@ fn mark_first(
             let id = m.id;
             lists::move_first(links, lists::OVER, lists::FREE);
             match id {
-                Logged::As(number) => {
-                    let before = state::counters_of(pool);
-                    let m = mark_id(log, records, before, pool.limits.compact_at, number);
-                    let counters = m.counters;
-                    let disk = m.disk;
-                    state::with_disk(pool, counters, disk)
-                }
-                Logged::Never => pool,
+                Logged::As(number) => mark_logged(pool, log, records, number),
+                Logged::Never => {}
             }
         }
-        Found::Nothing => pool,
+        Found::Nothing => {}
     }
 }
 
 // What is over gets its mark first, at the points that say so.
 fn mark_at(
-    pool: Pool,
+    pool: &mut [u64; 28],
     log: &mut [u8],
     records: &mut [[u64; 3]],
     links: &mut [[u64; 4]],
     rows: &[[u64; 7]],
-    point: Point,
-) -> Pool
+    w: Where,
+)
     ensures { λ r. ⌜
         ((store : List ℕ) (groups keys actors : Table) →
         record {
-          pool = r;
+          pool = poolOf (now (pool .exit));
           bytes = now (log .exit);
           records = now (records .exit);
           store = store;
@@ -140,7 +130,7 @@ fn mark_at(
         }
         ≡ markAt
         (record {
-          pool = pool;
+          pool = poolOf (now (pool .entry));
           bytes = now (log .entry);
           records = now (records .entry);
           store = store;
@@ -150,19 +140,18 @@ fn mark_at(
           keys = keys;
           actors = actors;
         })
-        point)
+        (pointOf w))
         ⌝ }
 {
-    let marks = state::marks_at(point);
+    let marks = state::marks_at(w);
     if marks {
-        return mark_first(pool, log, records, links, rows);
+        mark_first(pool, log, records, links, rows);
     }
-    pool
 }
 
 // One step of the turn, where it runs: the marks first; then the point, unless an order waits.
 fn step(
-    pool: Pool,
+    pool: &mut [u64; 28],
     store: &[u8],
     groups: &[[u64; 37]],
     log: &mut [u8],
@@ -171,10 +160,10 @@ fn step(
     rows: &mut [[u64; 7]],
     lists: &mut [[u8; 65]],
     actors: &mut [[u64; 12]],
-) -> Pool
+)
     ensures { λ r. ⌜
         record {
-          pool = r;
+          pool = poolOf (now (pool .exit));
           bytes = now (log .exit);
           records = now (records .exit);
           store = now (store .entry);
@@ -186,7 +175,7 @@ fn step(
         }
         ≡ stepOf
         (record {
-          pool = pool;
+          pool = poolOf (now (pool .entry));
           bytes = now (log .entry);
           records = now (records .entry);
           store = now (store .entry);
@@ -198,25 +187,24 @@ fn step(
         })
         ⌝ }
 {
-    let turn = pool.turn;
-    let at = turn.at;
-    match at {
-        At::Rest => pool,
-        At::Asks(_) => pool,
-        At::Runs(point) => {
-            let p = mark_at(pool, log, records, links, rows, point);
-            let free = state::disk_free(p);
+    let w = state::where_in(pool);
+    let kind = words::at_kind(w.place);
+    match kind {
+        AtKind::Rest => {}
+        AtKind::Asks => {}
+        AtKind::Runs => {
+            mark_at(pool, log, records, links, rows, w);
+            let free = state::disk_free(pool);
             if free {
-                return go::go(p, store, groups, links, rows, lists, actors, point);
+                go::go(pool, store, groups, links, rows, lists, actors, w);
             }
-            p
         }
     }
 }
 
 // Runs until a question, an order or the end.
 pub fn advance(
-    pool: Pool,
+    pool: &mut [u64; 28],
     store: &[u8],
     groups: &[[u64; 37]],
     log: &mut [u8],
@@ -225,10 +213,10 @@ pub fn advance(
     rows: &mut [[u64; 7]],
     lists: &mut [[u8; 65]],
     actors: &mut [[u64; 12]],
-) -> Pool
+)
     ensures { λ r. ⌜
         record {
-          pool = r;
+          pool = poolOf (now (pool .exit));
           bytes = now (log .exit);
           records = now (records .exit);
           store = now (store .entry);
@@ -240,7 +228,7 @@ pub fn advance(
         }
         ≡ advanced
         (record {
-          pool = pool;
+          pool = poolOf (now (pool .entry));
           bytes = now (log .entry);
           records = now (records .entry);
           store = now (store .entry);
@@ -252,10 +240,17 @@ pub fn advance(
         })
         ⌝ }
 {
-    let mut p = pool;
-    while state::running(p) {
-        let next = step(p, store, groups, log, records, links, rows, lists, actors);
-        p = next;
+    while state::running(pool) {
+        step(
+            pool,
+            store,
+            groups,
+            log,
+            records,
+            links,
+            rows,
+            lists,
+            actors,
+        );
     }
-    p
 }

@@ -34,8 +34,8 @@ play-requires : tie.Need-play-requires
 unfolding blank
 play-requires c κs = (refl, refl, refl, refl, refl, refl, refl)
 
-sub-t15 : tie.Need-sub-t15
-sub-t15 c = count-room _ _ _ _ (c .before .before .before .before .before .before .before .before .before .before .before .before .before .play .ensures)
+sub-t16 : tie.Need-sub-t16
+sub-t16 c = count-room _ _ _ _ (c .before .before .before .before .before .before .before .before .before .before .before .before .before .play .ensures)
 
 slice-aggregate-pour-numbers : tie.Need-slice-aggregate-pour-numbers
 slice-aggregate-pour-numbers c = search needs
@@ -54,7 +54,7 @@ same-length-3 c = search needs
 
 returns-2 : tie.Need-returns-2
 returns-2 c =
-    let if1 = c .before .before .before .before .before .before .before .before .before .before .before .before .before .before .before .before .before .before .before .before .before .before .before .before .before .before .before .before .before .if1 in
+    let if1 = c .before .before .before .before .before .before .before .before .before .before .before .before .before .before .before .before .before .before .before .before .before .before .before .before .before .before .before .before .before .before .if1 in
     let play = c .before .before .before .before .before .before .before .before .before .before .before .before .before .before .before .before .before .before .play in
     let pour-numbers = c .before .before .pour-numbers in
     replay-whole _ _ _ _ (play .ensures) (if1 .left) (pour-numbers .ensures)
@@ -72,7 +72,7 @@ replay-spec =
     slice-aggregate-play-6
     slice-aggregate-play-7
     play-requires
-    sub-t15
+    sub-t16
     slice-aggregate-pour-numbers
     pour-numbers-requires
     same-length

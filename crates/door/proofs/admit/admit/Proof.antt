@@ -1,6 +1,7 @@
--- `admit::admit` meets its contract: by its calls and its tests. Assumes nothing.
+-- `admit::admit` meets its contract: by its table, and by whether a caller waits. Assumes nothing.
 use mathlib.Core.Path.{sym, _∙_}
 use Rattle.door.proofs.AdmitLaws.{admit-refused, admit-called, admit-logged}
+use Rattle.door.specs.Admit.{admitOf}
 use borrow.Author.Needs.{needs}
 use Rattle.door.proofs.admit.admit.Statement.{statement}
 use Rattle.door.proofs.admit.admit.Tie as tie
@@ -35,7 +36,7 @@ same-length c = search needs
 returns : tie.Need-returns
 returns c keys actors =
     let e1 = c .before .before .before .before .admit-check .ensures in
-    let h1 = (c .before .before .check .given .1) in
+    let h1 = c .before .before .check .given .1 in
     let e2 = c .refused .ensures in
     admit-refused _ _ _ _ _ _ (sym (e1 _ _ _ _ _ _) ∙ h1) (simp (e2))
 
@@ -50,9 +51,9 @@ same-length-4 c = search needs
 
 returns-2 : tie.Need-returns-2
 returns-2 c keys actors =
-    let e1 = c .before .before .before .before .before .before .before .before .before .before .before .before .before .admit-check .ensures in
-    let h1 = (c .before .before .before .before .before .before .before .before .before .before .before .enum-told .given .1) in
-    let h2 = c .before .before .before .before .before .before .before .before .before .caller .given .1 in
+    let e1 = c .before .before .before .before .before .before .before .before .before .before .before .before .before .before .admit-check .ensures in
+    let h1 = c .before .before .before .before .before .before .before .before .before .before .before .before .enum-told .given .1 in
+    let h2 = c .before .before .before .before .before .before .before .before .before .before .caller .given .1 in
     let e2 = c .before .before .before .before .admit-called .ensures in
     simp (h2) (admit-called _ _ _ _ _ (sym (e1 _ _ _ _ _ _) ∙ h1) (e2 _ _ _ _ _))
 
@@ -73,9 +74,9 @@ same-length-9 c = search needs
 
 returns-3 : tie.Need-returns-3
 returns-3 c keys actors =
-    let e1 = c .before .before .before .before .before .before .before .before .before .before .before .before .before .before .before .before .before .admit-check .ensures in
-    let h1 = (c .before .before .before .before .before .before .before .before .before .before .before .before .before .before .before .enum-told .given .1) in
-    let h2 = c .before .before .before .before .before .before .before .before .before .before .before .before .before .enum-told2 .given .1 in
+    let e1 = c .before .before .before .before .before .before .before .before .before .before .before .before .before .before .before .before .before .before .admit-check .ensures in
+    let h1 = c .before .before .before .before .before .before .before .before .before .before .before .before .before .before .before .before .enum-told .given .1 in
+    let h2 = c .before .before .before .before .before .before .before .before .before .before .before .before .before .before .enum-told2 .given .1 in
     let e2 = c .before .before .before .before .before .before .before .admit-logged .ensures in
     simp (h2) (admit-logged _ _ _ _ (sym (e1 _ _ _ _ _ _) ∙ h1) (e2 _ _ _))
 

@@ -1,8 +1,9 @@
--- `open::open` meets its contract: by its calls and its tests. Assumes nothing.
+-- `open::open` meets its contract: by its table, and by what the log answered. Assumes nothing.
 use mathlib.Core.Path.{sym, ap, _∙_}
 use Rattle.front.specs.Refusals.{Lent}
 use Rattle.door.specs.Open.{openEffect, openedBy}
 use Rattle.door.proofs.OpenLaws.{open-refused, open-effect}
+use Rattle.door.specs.Open.{openOf}
 use borrow.Author.Needs.{needs}
 use Rattle.door.proofs.open.open.Statement.{statement}
 use Rattle.door.proofs.open.open.Tie as tie
@@ -63,14 +64,14 @@ same-length-4 c = search needs
 
 returns : tie.Need-returns
 returns c =
-    let e1 = c .before .before .before .before .before .open-check .ensures in
-    let h1 = (c .before .before .before .check .given .1) in
+    let e1 = c .before .before .before .before .before .before .open-check .ensures in
+    let h1 = c .before .before .before .before .check .given .1 in
     let e2 = c .before .no-pool .ensures in
     let e3 = c .refused .ensures in
     open-refused _ _ _ (sym (e1 _ _ _ _) ∙ h1) (simp (e2, e3))
 
 same-length-5 : tie.Need-same-length-5
-same-length-5 c = c .before .before .before .before .before .before .before .before .before .before .before .before .before .before .before .before .before .before .before .before .open-log .kept .0
+same-length-5 c = search needs
 
 same-length-6 : tie.Need-same-length-6
 same-length-6 c = search needs
@@ -93,12 +94,24 @@ same-length-11 c = search needs
 returns-2 : tie.Need-returns-2
 unfolding openEffect openedBy
 returns-2 c =
-    let e1 = c .before .before .before .before .before .before .before .before .before .before .before .before .before .before .before .before .before .before .before .before .before .before .before .before .before .before .before .open-check .ensures in
-    let h1 = (c .before .before .before .before .before .before .before .before .before .before .before .before .before .before .before .before .before .before .before .before .before .before .before .before .before .enum-told .given .1) in
-    let e2 = c .before .before .before .before .before .before .before .before .before .before .before .before .before .before .before .before .before .before .before .before .open-log .ensures in
-    let h2 = c .before .before .before .before .before .before .before .before .before .before .before .answer .given .1 in
-    let a = c .before .before .before .before .before .before .before .before .before .before .before .before .before .before .before .before .before .before .before .before .before .before .before .before .before .before .before .before .before .before .before .before .before .before .args in
-    let l : Lent = record { settings = a .settings; groupsGiven = a .given .now; bytes = a .log .now; size = a .n; store = a .store .now; records = a .records .now; groups = a .groups .now; links = a .links .now; rows = a .rows .now; keys = a .lists .now; actors = a .actors .now } in
+    let e1 = c .before .before .before .before .before .before .before .before .before .before .before .before .before .before .before .before .before .before .before .before .before .before .before .before .before .before .before .before .open-check .ensures in
+    let h1 = c .before .before .before .before .before .before .before .before .before .before .before .before .before .before .before .before .before .before .before .before .before .before .before .before .before .before .enum-told .given .1 in
+    let e2 = c .before .before .before .before .before .before .before .before .before .before .before .before .before .before .before .before .before .before .before .before .before .open-log .ensures in
+    let h2 = c .before .before .before .before .before .before .before .before .before .before .before .before .answer .given .1 in
+    let a = c .before .before .before .before .before .before .before .before .before .before .before .before .before .before .before .before .before .before .before .before .before .before .before .before .before .before .before .before .before .before .before .before .before .before .before .args in
+    let l : Lent = record {
+      settings = a .settings;
+      groupsGiven = a .given .now;
+      bytes = a .log .now;
+      size = a .n;
+      store = a .store .now;
+      records = a .records .now;
+      groups = a .groups .now;
+      links = a .links .now;
+      rows = a .rows .now;
+      keys = a .lists .now;
+      actors = a .actors .now;
+    } in
     let opened = simp (h2) at (ap (openedBy l) e2) in
     let e3 = c .before .before .before .before .open-pool .ensures in
     open-effect _ _ (sym (e1 _ _ _ _) ∙ h1) (simp (← e3) at opened)
@@ -127,12 +140,24 @@ same-length-18 c = search needs
 returns-3 : tie.Need-returns-3
 unfolding openEffect openedBy
 returns-3 c =
-    let e1 = c .before .before .before .before .before .before .before .before .before .before .before .before .before .before .before .before .before .before .before .before .open-check .ensures in
-    let h1 = (c .before .before .before .before .before .before .before .before .before .before .before .before .before .before .before .before .before .before .enum-told .given .1) in
-    let e2 = c .before .before .before .before .before .before .before .before .before .before .before .before .before .open-log .ensures in
-    let h2 = c .before .before .before .before .answer2 .given .1 in
-    let a = c .before .before .before .before .before .before .before .before .before .before .before .before .before .before .before .before .before .before .before .before .before .before .before .before .before .before .before .args in
-    let l : Lent = record { settings = a .settings; groupsGiven = a .given .now; bytes = a .log .now; size = a .n; store = a .store .now; records = a .records .now; groups = a .groups .now; links = a .links .now; rows = a .rows .now; keys = a .lists .now; actors = a .actors .now } in
+    let e1 = c .before .before .before .before .before .before .before .before .before .before .before .before .before .before .before .before .before .before .before .before .before .open-check .ensures in
+    let h1 = c .before .before .before .before .before .before .before .before .before .before .before .before .before .before .before .before .before .before .before .enum-told .given .1 in
+    let e2 = c .before .before .before .before .before .before .before .before .before .before .before .before .before .before .open-log .ensures in
+    let h2 = c .before .before .before .before .before .answer2 .given .1 in
+    let a = c .before .before .before .before .before .before .before .before .before .before .before .before .before .before .before .before .before .before .before .before .before .before .before .before .before .before .before .before .args in
+    let l : Lent = record {
+      settings = a .settings;
+      groupsGiven = a .given .now;
+      bytes = a .log .now;
+      size = a .n;
+      store = a .store .now;
+      records = a .records .now;
+      groups = a .groups .now;
+      links = a .links .now;
+      rows = a .rows .now;
+      keys = a .lists .now;
+      actors = a .actors .now;
+    } in
     let opened = simp (h2) at (ap (openedBy l) e2) in
     let e3 = c .before .before .no-pool2 .ensures in
     let e4 = c .before .log-refusal .ensures in

@@ -1,18 +1,12 @@
--- `open::open_pool` meets its contract: by its calls and its tests. Assumes nothing.
-use Rattle.door.specs.Open.{filledBy}
-use mathlib.Core.Path.{ap}
-use Rattle.lists.specs.Links.{Table}
-use Rattle.setup.specs.Tables.{Placed}
-use Rattle.front.specs.declared.answer.Called.{Called}
-use Rattle.door.specs.Open.{Filled}
+-- `open::open_pool` meets its contract: each table by the function that fills it. Assumes nothing.
+use mathlib.Core.Path.{ap, _∙_}
+use Rattle.turn.specs.State.{Pool}
+use Rattle.turn.specs.Words.{whatOf}
+use Rattle.front.specs.declared.answer.Answer.the-variants as answer
+use Rattle.door.proofs.OpenLaws.{filled, store-open}
 use borrow.Author.Needs.{needs}
 use Rattle.door.proofs.open.open_pool.Statement.{statement}
 use Rattle.door.proofs.open.open_pool.Tie as tie
-
--- the tables filled, by what the messages left made of links and rows
-abbrev filledIn : Table → Table → Called → Placed → Filled
-filledIn groups keys called p =
-    record { groups = groups; links = p .links; rows = p .rows; keys = keys; called = called }
 
 put-groups-requires : tie.Need-put-groups-requires
 put-groups-requires c κs = search needs
@@ -29,11 +23,17 @@ blank-keys-requires c κs = search needs
 limits-from-requires : tie.Need-limits-from-requires
 limits-from-requires c κs = search needs
 
-new-pool-requires : tie.Need-new-pool-requires
-new-pool-requires c κs = search needs
+waits-requires : tie.Need-waits-requires
+waits-requires c κs = search needs
+
+start-requires-2 : tie.Need-start-requires-2
+start-requires-2 c κs = search needs
+
+shown-now-requires : tie.Need-shown-now-requires
+shown-now-requires c κs = search needs
 
 same-length : tie.Need-same-length
-same-length c = c .before .before .before .before .before .before .before .before .before .before .before .before .before .before .put-groups .kept .0
+same-length c = search needs
 
 same-length-2 : tie.Need-same-length-2
 same-length-2 c = search needs
@@ -45,15 +45,15 @@ same-length-4 : tie.Need-same-length-4
 same-length-4 c = search needs
 
 returns : tie.Need-returns
-unfolding filledBy
+unfolding whatOf
 returns c =
-    let e1 = c .before .before .before .before .before .before .before .before .before .before .before .before .before .before .put-groups .ensures in
-    let e2 = c .before .before .before .before .before .before .before .before .before .before .before .start .ensures in
-    let e3 = simp (e2) at (c .before .before .before .before .before .before .before .put-left .ensures) in
-    let e4 = c .before .before .before .blank-keys .ensures in
-    let e5 = c .before .limits-from .ensures in
-    let e6 = c .new-pool .ensures in
-    simp (e1, e4, e6, e5) (ap (filledIn _ _ _) e3)
+    let e1 = c .before .before .before .before .before .before .before .before .before .before .before .before .before .before .before .before .before .put-groups .ensures in
+    let e2 = c .before .before .before .before .before .before .before .before .before .before .before .before .before .before .start .ensures in
+    let e3 = simp (e2) at (c .before .before .before .before .before .before .before .before .before .before .put-left .ensures) in
+    let e4 = c .before .before .before .before .before .before .blank-keys .ensures in
+    let e5 = simp (c .before .before .before .before .limits-from .ensures, c .before .before .before .waits .ensures) at (c .before .start2 .ensures) in
+    let e6 = c .shown-now .ensures _ _ _ ∙ ap answer.Open (store-open _ _ _ _ _ _ (ap (λ (p : Pool). p .turn .disk) e5)) in
+    filled _ _ _ _ _ _ _ _ _ e1 e3 e4 e5 e6
 
 pub open-pool-spec : {M : Type 1} → statement M
 open-pool-spec =
@@ -64,7 +64,9 @@ open-pool-spec =
     put-left-requires
     blank-keys-requires
     limits-from-requires
-    new-pool-requires
+    waits-requires
+    start-requires-2
+    shown-now-requires
     same-length
     same-length-2
     same-length-3

@@ -17,15 +17,15 @@ refused-requires c κs = search needs
 enum-told : tie.Need-enum-told
 enum-told c = search needs
 
-closed-pool-requires : tie.Need-closed-pool-requires
-closed-pool-requires c κs = search needs
+close-requires : tie.Need-close-requires
+close-requires c κs = search needs
 
 shown-now-requires : tie.Need-shown-now-requires
 shown-now-requires c κs = search needs
 
 returns : tie.Need-returns
 unfolding closeOf shown
-returns c bytes records store groups keys actors =
+returns c bytes records store groups links rows keys actors =
     let e1 = c .before .before .before .before .sync-check .ensures in
     let h1 = simp (e1) at (c .before .before .check .given .1) in
     let e2 = c .refused .ensures in
@@ -33,10 +33,10 @@ returns c bytes records store groups keys actors =
 
 returns-2 : tie.Need-returns-2
 unfolding closeOf shown
-returns-2 c bytes records store groups keys actors =
-    let e1 = c .before .before .before .before .sync-check .ensures in
-    let h1 = simp (e1) at (c .before .before .enum-told .given .1) in
-    let e2 = c .before .closed-pool .ensures in
+returns-2 c bytes records store groups links rows keys actors =
+    let e1 = c .before .before .before .before .before .sync-check .ensures in
+    let h1 = simp (e1) at (c .before .before .before .enum-told .given .1) in
+    let e2 = c .before .close .ensures in
     let e3 = c .shown-now .ensures in
     simp (e1, e2, e3, h1)
 
@@ -48,7 +48,7 @@ close-spec =
     enum-known-check
     refused-requires
     enum-told
-    closed-pool-requires
+    close-requires
     shown-now-requires
     returns
     returns-2)

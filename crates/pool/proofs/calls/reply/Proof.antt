@@ -1,7 +1,7 @@
--- `calls::reply` meets its contract: by its calls and its tests. Assumes nothing.
-use Rattle.pool.specs.Calls.{replyEffect, replyOf}
+-- `calls::reply` meets its contract: by its table, and by what the reply is. Assumes nothing.
 use Rattle.front.proofs.RefusalLaws.{by-refused, by-effect}
-use Rattle.pool.proofs.ReplyLaws.{sends, resumes}
+use Rattle.pool.proofs.ReplyLaws.{stores, fails, sends, resumes}
+use Rattle.pool.specs.Calls.{replyOf}
 use borrow.Author.Needs.{needs}
 use Rattle.pool.proofs.calls.reply.Statement.{statement}
 use Rattle.pool.proofs.calls.reply.Tie as tie
@@ -54,14 +54,12 @@ same-length-3 c = search needs
 returns : tie.Need-returns
 unfolding replyOf
 returns c =
-    let e1 = c .before .before .before .before .before .before .before .before .before .before .before .before .before .before .before .reply-check .ensures in
-    let h1 = (c .before .before .before .before .before .before .before .before .before .before .before .before .before .enum-told .given .1) in
-    let e2 = c .before .before .before .before .before .before .before .before .before .before .before .before .stored-in .ensures in
-    let h2 = simp (e2) at (c .before .before .before .before .before .before .before .before .before .before .enum-told4 .given .1) in
-    let e3 = c .before .before .before .before .before .before .before .before .before .is-message .ensures in
-    let h3 = simp (e3) at (c .before .before .before .before .before .before .before .before .if1 .taken) in
-    let e4 = c .before .before .before .before .sent .ensures in
-    by-effect _ _ _ _ _ (e1 _ _ _ _ _ _) h1 (sends _ _ _ _ _ h2 h3 (e4 _ _ _ _ _))
+    let e1 = c .before .before .before .before .before .before .before .before .before .before .before .before .before .before .before .before .reply-check .ensures in
+    let h1 = c .before .before .before .before .before .before .before .before .before .before .before .before .before .before .enum-told .given .1 in
+    let h2 = simp (c .before .before .before .before .before .before .before .before .before .before .before .before .before .stored-in .ensures) at (c .before .before .before .before .before .before .before .before .before .before .before .enum-told4 .given .1) in
+    let h3 = simp (c .before .before .before .before .before .before .before .before .before .before .is-message .ensures) at (c .before .before .before .before .before .before .before .before .before .if1 .taken) in
+    let e2 = c .before .before .before .before .sent .ensures in
+    by-effect _ _ _ _ _ (e1 _ _ _ _ _ _) h1 (sends _ _ _ _ _ h2 h3 (e2 _ _ _ _ _))
 
 resumed-requires : tie.Need-resumed-requires
 resumed-requires c κs = search needs
@@ -73,10 +71,10 @@ same-length-5 : tie.Need-same-length-5
 same-length-5 c = search needs
 
 returns-2 : tie.Need-returns-2
-unfolding replyOf replyEffect
+unfolding replyOf
 returns-2 c =
     let e1 = c .before .before .before .before .reply-check .ensures in
-    let h1 = (c .before .before .check .given .1) in
+    let h1 = c .before .before .check .given .1 in
     let e2 = c .refused .ensures in
     by-refused _ _ _ _ _ (e1 _ _ _ _ _ _) _ h1 (simp (e2))
 
@@ -102,14 +100,12 @@ same-length-12 : tie.Need-same-length-12
 same-length-12 c = search needs
 
 returns-3 : tie.Need-returns-3
-unfolding replyOf replyEffect
+unfolding replyOf
 returns-3 c =
-    let e1 = c .before .before .before .before .before .before .before .before .before .before .before .before .before .before .before .before .before .before .before .before .reply-check .ensures in
-    let h1 = (c .before .before .before .before .before .before .before .before .before .before .before .before .before .before .before .before .before .before .enum-told .given .1) in
-    let e2 = c .before .before .before .before .before .before .before .before .before .before .before .before .before .before .before .before .before .stored-in .ensures in
-    let h2 = simp (e2) at (c .before .before .before .before .before .before .before .before .before .before .before .before .before .before .before .enum-told2 .given .1) in
-    let e3 = c .before .before .before .before .before .before .before .stored .ensures in
-    by-effect _ _ _ _ _ (e1 _ _ _ _ _ _) h1 (simp (h2) e3)
+    let e1 = c .before .before .before .before .before .before .before .before .before .before .before .before .before .before .before .before .before .before .before .before .before .reply-check .ensures in
+    let h1 = c .before .before .before .before .before .before .before .before .before .before .before .before .before .before .before .before .before .before .before .enum-told .given .1 in
+    let h2 = simp (c .before .before .before .before .before .before .before .before .before .before .before .before .before .before .before .before .before .before .stored-in .ensures) at (c .before .before .before .before .before .before .before .before .before .before .before .before .before .before .before .before .enum-told2 .given .1) in
+    by-effect _ _ _ _ _ (e1 _ _ _ _ _ _) h1 (stores _ _ _ _ _ h2 (c .before .before .before .before .before .before .before .stored .ensures))
 
 same-length-13 : tie.Need-same-length-13
 same-length-13 c = search needs
@@ -118,14 +114,13 @@ same-length-14 : tie.Need-same-length-14
 same-length-14 c = search needs
 
 returns-4 : tie.Need-returns-4
-unfolding replyOf replyEffect
+unfolding replyOf
 returns-4 c =
-    let e1 = c .before .before .before .before .before .before .before .before .reply-check .ensures in
-    let h1 = (c .before .before .before .before .before .before .enum-told .given .1) in
-    let e2 = c .before .before .before .before .before .stored-in .ensures in
-    let h2 = simp (e2) at (c .before .before .before .enum-told3 .given .1) in
-    let e3 = c .failed .ensures in
-    by-effect _ _ _ _ _ (e1 _ _ _ _ _ _) h1 (simp (h2) (e3 _ _ _ _ _ _))
+    let e1 = c .before .before .before .before .before .before .before .reply-check .ensures in
+    let h1 = c .before .before .before .before .before .enum-told .given .1 in
+    let h2 = simp (c .before .before .before .before .stored-in .ensures) at (c .before .before .enum-told3 .given .1) in
+    let e2 = c .failed .ensures in
+    by-effect _ _ _ _ _ (e1 _ _ _ _ _ _) h1 (fails _ _ _ _ _ h2 (e2 _ _ _ _ _ _ _ _))
 
 same-length-15 : tie.Need-same-length-15
 same-length-15 c = search needs
@@ -151,14 +146,12 @@ same-length-21 c = search needs
 returns-5 : tie.Need-returns-5
 unfolding replyOf
 returns-5 c =
-    let e1 = c .before .before .before .before .before .before .before .before .before .before .before .before .before .before .before .before .before .before .before .before .before .before .reply-check .ensures in
-    let h1 = (c .before .before .before .before .before .before .before .before .before .before .before .before .before .before .before .before .before .before .before .before .enum-told .given .1) in
-    let e2 = c .before .before .before .before .before .before .before .before .before .before .before .before .before .before .before .before .before .before .before .stored-in .ensures in
-    let h2 = simp (e2) at (c .before .before .before .before .before .before .before .before .before .before .before .before .before .before .before .before .before .enum-told4 .given .1) in
-    let e3 = c .before .before .before .before .before .before .before .before .before .before .before .before .before .before .before .before .is-message .ensures in
-    let h3 = simp (e3) at (c .before .before .before .before .before .before .before .before .before .before .before .before .before .before .before .if1 .left) in
-    let e4 = c .before .before .before .before .before .before .before .resumed .ensures in
-    by-effect _ _ _ _ _ (e1 _ _ _ _ _ _) h1 (resumes _ _ _ _ _ h2 h3 e4)
+    let e1 = c .before .before .before .before .before .before .before .before .before .before .before .before .before .before .before .before .before .before .before .before .before .before .before .reply-check .ensures in
+    let h1 = c .before .before .before .before .before .before .before .before .before .before .before .before .before .before .before .before .before .before .before .before .before .enum-told .given .1 in
+    let h2 = simp (c .before .before .before .before .before .before .before .before .before .before .before .before .before .before .before .before .before .before .before .before .stored-in .ensures) at (c .before .before .before .before .before .before .before .before .before .before .before .before .before .before .before .before .before .before .enum-told4 .given .1) in
+    let h3 = simp (c .before .before .before .before .before .before .before .before .before .before .before .before .before .before .before .before .before .is-message .ensures) at (c .before .before .before .before .before .before .before .before .before .before .before .before .before .before .before .before .if1 .left) in
+    let e2 = c .before .before .before .before .before .before .before .resumed .ensures in
+    by-effect _ _ _ _ _ (e1 _ _ _ _ _ _) h1 (resumes _ _ _ _ _ h2 h3 e2)
 
 pub reply-spec : {M : Type 1} → statement M
 reply-spec =

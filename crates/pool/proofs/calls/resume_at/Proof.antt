@@ -1,26 +1,34 @@
--- `calls::resume_at` meets its contract: by its calls and its tests. Assumes nothing.
+-- `calls::resume_at` meets its contract: by where the turn stands. Assumes nothing.
+use mathlib.Core.Path.{_∙_}
+use Rattle.group.proofs.WordLaws.{at-rest, at-asks, at-runs}
+use Rattle.pool.proofs.ReplyLaws.{resume-rests, resume-asks, resume-runs}
 use Rattle.pool.specs.Calls.{resumeAt}
+use Rattle.group.specs.Words.{atOf}
 use borrow.Author.Needs.{needs}
 use Rattle.pool.proofs.calls.resume_at.Statement.{statement}
 use Rattle.pool.proofs.calls.resume_at.Tie as tie
 
+where-in-requires : tie.Need-where-in-requires
+where-in-requires c κs = search needs
+
+at-kind-requires : tie.Need-at-kind-requires
+at-kind-requires c κs = search needs
+
 enum-told : tie.Need-enum-told
 enum-told c = search needs
-
-enum-known-at : tie.Need-enum-known-at
-enum-known-at c = search needs
-
-resume-requires : tie.Need-resume-requires
-resume-requires c κs = search needs
 
 enum-told-2 : tie.Need-enum-told-2
 enum-told-2 c = search needs
 
+resume-requires : tie.Need-resume-requires
+resume-requires c κs = search needs
+
+enum-told-3 : tie.Need-enum-told-3
+enum-told-3 c = search needs
+
 returns : tie.Need-returns
-unfolding resumeAt
 returns c bytes records store =
-    let h1 = c .enum-told .given .1 in
-    simp (h1)
+    resume-rests _ _ (c .before .before .before .where-in .ensures ∙ at-rest _ (simp (c .before .before .at-kind .ensures) at (c .enum-told .given .1)))
 
 same-length : tie.Need-same-length
 same-length c = search needs
@@ -32,26 +40,24 @@ same-length-3 : tie.Need-same-length-3
 same-length-3 c = search needs
 
 returns-2 : tie.Need-returns-2
-unfolding resumeAt
 returns-2 c bytes records store =
-    let h1 = c .before .before .before .before .before .before .before .before .at .given .1 in
-    let e1 = c .before .before .before .resume .ensures in
-    simp (h1) (e1 _ _ _)
+    let stands = c .before .before .before .before .before .before .before .before .before .before .before .where-in .ensures ∙ at-asks _ (simp (c .before .before .before .before .before .before .before .before .before .before .at-kind .ensures) at (c .before .before .before .before .before .before .before .before .enum-told2 .given .1)) in
+    c .before .before .before .resume .ensures _ _ _ ∙ resume-asks _ _ _ stands
 
 returns-3 : tie.Need-returns-3
-unfolding resumeAt
 returns-3 c bytes records store =
-    let h1 = c .enum-told2 .given .1 in
-    simp (h1)
+    resume-runs _ _ _ (c .before .before .before .where-in .ensures ∙ at-runs _ (simp (c .before .before .at-kind .ensures) at (c .enum-told3 .given .1)))
 
 pub resume-at-spec : {M : Type 1} → statement M
 resume-at-spec =
     tie.close
     (tie.spec
+    where-in-requires
+    at-kind-requires
     enum-told
-    enum-known-at
-    resume-requires
     enum-told-2
+    resume-requires
+    enum-told-3
     returns
     same-length
     same-length-2

@@ -1,7 +1,7 @@
--- `calls::resumed` meets its contract: by its calls and its tests. Assumes nothing.
-use Rattle.pool.specs.Calls.{resumedOf}
+-- `calls::resumed` meets its contract: the question is answered, then the turn runs. Assumes nothing.
 use mathlib.Core.Path.{_∙_, ap}
 use Rattle.pool.specs.Run.{runOf}
+use Rattle.pool.specs.Calls.{resumedOf}
 use borrow.Author.Needs.{needs}
 use Rattle.pool.proofs.calls.resumed.Statement.{statement}
 use Rattle.pool.proofs.calls.resumed.Tie as tie
@@ -32,10 +32,7 @@ same-length-6 c = search needs
 
 returns : tie.Need-returns
 unfolding resumedOf
-returns c =
-    let e1 = c .before .before .before .before .before .before .before .before .before .before .before .before .before .before .before .before .before .resume-at .ensures in
-    let e2 = c .before .before .before .before .before .before .before .run .ensures in
-    e2 ∙ ap runOf (e1 _ _ _)
+returns c = c .before .before .before .before .before .before .before .run .ensures ∙ ap runOf (c .before .before .before .before .before .before .before .before .before .before .before .before .before .before .before .before .before .before .resume-at .ensures _ _ _)
 
 pub resumed-spec : {M : Type 1} → statement M
 resumed-spec =

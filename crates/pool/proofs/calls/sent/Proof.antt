@@ -23,7 +23,7 @@ same-length-3 c = search needs
 returns : tie.Need-returns
 unfolding sentOf shown
 returns c bytes records groups keys actors =
-    let e1 = c .before .before .before .before .before .before .before .keep .ensures in
+    let e1 = c .before .before .before .before .before .keep .ensures in
     let e2 = c .shown-now .ensures in
     simp (← e1, e2)
 

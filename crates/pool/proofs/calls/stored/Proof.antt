@@ -1,15 +1,22 @@
--- `calls::stored` meets its contract: by its calls and its tests. Assumes nothing.
-use Rattle.pool.specs.Calls.{storedOf}
+-- `calls::stored` meets its contract: by whether a turn is under way. Assumes nothing.
+use mathlib.Core.Path.{sym, _∙_}
+use Rattle.pool.proofs.ReplyLaws.{stored-runs, stored-shows}
 use Rattle.front.specs.Answers.{shown}
 use borrow.Author.Needs.{needs}
 use Rattle.pool.proofs.calls.stored.Statement.{statement}
 use Rattle.pool.proofs.calls.stored.Tie as tie
 
+where-in-requires : tie.Need-where-in-requires
+where-in-requires c κs = search needs
+
 in-turn-requires : tie.Need-in-turn-requires
 in-turn-requires c κs = search needs
 
-with-disk-requires : tie.Need-with-disk-requires
-with-disk-requires c κs = search needs
+free-requires : tie.Need-free-requires
+free-requires c κs = search needs
+
+set-disk-requires : tie.Need-set-disk-requires
+set-disk-requires c κs = search needs
 
 run-requires : tie.Need-run-requires
 run-requires c κs = search needs
@@ -33,38 +40,32 @@ same-length-6 : tie.Need-same-length-6
 same-length-6 c = search needs
 
 returns : tie.Need-returns
-unfolding storedOf shown
 returns c =
-    let e1 = c .before .before .before .before .before .before .before .before .before .before .before .before .before .before .before .before .in-turn .ensures in
-    let e2 = c .before .before .before .before .before .before .before .before .before .before .before .before .before .before .before .with-disk .ensures in
-    let h1 = simp (e1) at (c .before .before .before .before .before .before .before .before .before .before .before .before .before .before .if1 .taken) in
-    let e3 = simp (e2) at (c .before .before .before .before .before .before .before .run .ensures) in
-    simp (e2, h1) e3
+    let e1 = c .before .before .before .before .before .before .before .before .before .before .before .before .before .before .before .before .before .before .before .before .where-in .ensures in
+    let h1 = simp (c .before .before .before .before .before .before .before .before .before .before .before .before .before .before .before .before .before .before .before .in-turn .ensures, ← e1) at (c .before .before .before .before .before .before .before .before .before .before .before .before .before .before .before .if1 .taken) in
+    let e2 = simp (c .before .before .before .before .before .before .before .before .before .before .before .before .before .before .before .before .before .before .free .ensures) at (c .before .before .before .before .before .before .before .before .before .before .before .before .before .before .before .before .set-disk .ensures) in
+    stored-runs _ _ _ e2 h1 (c .before .before .before .before .before .before .before .run .ensures)
 
 shown-now-requires : tie.Need-shown-now-requires
 shown-now-requires c κs = search needs
 
-same-length-7 : tie.Need-same-length-7
-same-length-7 c = search needs
-
-same-length-8 : tie.Need-same-length-8
-same-length-8 c = search needs
-
 returns-2 : tie.Need-returns-2
-unfolding storedOf shown
+unfolding shown
 returns-2 c =
-    let e1 = c .before .before .before .before .before .in-turn .ensures in
-    let e2 = c .before .before .before .before .with-disk .ensures in
-    let h1 = simp (e1) at (c .before .before .before .if1 .left) in
+    let e1 = c .before .before .before .before .before .before .where-in .ensures in
+    let h1 = simp (c .before .before .before .before .before .in-turn .ensures, ← e1) at (c .before .if1 .left) in
+    let e2 = simp (c .before .before .before .before .free .ensures) at (c .before .before .set-disk .ensures) in
     let e3 = c .shown-now .ensures in
-    simp (e2, e3, h1)
+    stored-shows _ _ _ e2 h1 (simp (e3))
 
 pub stored-spec : {M : Type 1} → statement M
 stored-spec =
     tie.close
     (tie.spec
+    where-in-requires
     in-turn-requires
-    with-disk-requires
+    free-requires
+    set-disk-requires
     run-requires
     same-length
     same-length-2
@@ -74,6 +75,4 @@ stored-spec =
     same-length-6
     returns
     shown-now-requires
-    same-length-7
-    same-length-8
     returns-2)

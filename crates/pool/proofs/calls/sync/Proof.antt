@@ -1,4 +1,4 @@
--- `calls::sync` meets its contract: by its table, and by what the log had due. Assumes nothing.
+-- `calls::sync` meets its contract: by its calls and its tests. Assumes nothing.
 use Rattle.pool.specs.Calls.{syncOf}
 use borrow.Author.Needs.{needs}
 use Rattle.pool.proofs.calls.sync.Statement.{statement}
@@ -21,7 +21,7 @@ sync-log-requires c κs = search needs
 
 returns : tie.Need-returns
 unfolding syncOf
-returns c bytes records store groups keys actors =
+returns c bytes records store groups links rows keys actors =
     let e1 = c .before .before .before .before .sync-check .ensures in
     let h1 = simp (e1) at (c .before .before .check .given .1) in
     let e2 = c .refused .ensures in
@@ -29,11 +29,11 @@ returns c bytes records store groups keys actors =
 
 returns-2 : tie.Need-returns-2
 unfolding syncOf
-returns-2 c bytes records store groups keys actors =
-    let e1 = c .before .before .before .sync-check .ensures in
-    let h1 = simp (e1) at (c .before .enum-told .given .1) in
+returns-2 c bytes records store groups links rows keys actors =
+    let e1 = c .before .before .before .before .sync-check .ensures in
+    let h1 = simp (e1) at (c .before .before .enum-told .given .1) in
     let e2 = c .sync-log .ensures in
-    simp (e1, h1) (e2 _ _ _ _ _ _)
+    simp (e1, h1) (e2 _ _ _ _ _ _ _ _)
 
 pub sync-spec : {M : Type 1} → statement M
 sync-spec =

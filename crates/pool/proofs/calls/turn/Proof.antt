@@ -1,4 +1,6 @@
--- `calls::turn` meets its contract: by its calls and its tests. Assumes nothing.
+-- `calls::turn` meets its contract: by its table; a turn that begins runs. Assumes nothing.
+use mathlib.Core.Path.{sym, _∙_}
+use Rattle.pool.proofs.ReplyLaws.{turn-runs}
 use Rattle.pool.specs.Calls.{turnOf}
 use borrow.Author.Needs.{needs}
 use Rattle.pool.proofs.calls.turn.Statement.{statement}
@@ -16,8 +18,8 @@ refused-requires c κs = search needs
 enum-told : tie.Need-enum-told
 enum-told c = search needs
 
-begun-requires : tie.Need-begun-requires
-begun-requires c κs = search needs
+begin-requires : tie.Need-begin-requires
+begin-requires c κs = search needs
 
 run-requires : tie.Need-run-requires
 run-requires c κs = search needs
@@ -49,13 +51,9 @@ same-length-6 : tie.Need-same-length-6
 same-length-6 c = search needs
 
 returns-2 : tie.Need-returns-2
-unfolding turnOf
 returns-2 c =
-    let e1 = c .before .before .before .before .before .before .before .before .before .before .before .before .before .before .before .before .before .turn-check .ensures in
-    let h1 = simp (e1) at (c .before .before .before .before .before .before .before .before .before .before .before .before .before .before .before .enum-told .given .1) in
-    let e2 = c .before .before .before .before .before .before .before .before .before .before .before .before .before .before .begun .ensures in
-    let e3 = simp (e2) at (c .before .before .before .before .before .before .before .run .ensures) in
-    simp (e1, e2, h1) e3
+    let fine = sym (c .before .before .before .before .before .before .before .before .before .before .before .before .before .before .before .before .before .before .before .turn-check .ensures) ∙ c .before .before .before .before .before .before .before .before .before .before .before .before .before .before .before .before .before .enum-told .given .1 in
+    turn-runs _ _ _ fine (c .before .before .before .before .before .before .before .before .before .before .before .before .before .before .before .begin .ensures) (c .before .before .before .before .before .before .before .run .ensures)
 
 pub turn-spec : {M : Type 1} → statement M
 turn-spec =
@@ -65,7 +63,7 @@ turn-spec =
     enum-known-check
     refused-requires
     enum-told
-    begun-requires
+    begin-requires
     run-requires
     returns
     same-length

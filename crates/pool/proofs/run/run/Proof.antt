@@ -1,7 +1,7 @@
--- `run::run` meets its contract: by its calls and its tests. Assumes nothing.
-use Rattle.pool.specs.Run.{runOf}
+-- `run::run` meets its contract: the turn runs as far as it can, then what it answers. Assumes nothing.
 use mathlib.Core.Path.{_∙_, ap}
 use Rattle.pool.specs.Run.{answeredOf}
+use Rattle.pool.specs.Run.{runOf}
 use borrow.Author.Needs.{needs}
 use Rattle.pool.proofs.run.run.Statement.{statement}
 use Rattle.pool.proofs.run.run.Tie as tie
@@ -32,10 +32,7 @@ same-length-6 c = search needs
 
 returns : tie.Need-returns
 unfolding runOf
-returns c =
-    let e1 = c .before .before .before .before .before .before .before .before .before .before .before .advance .ensures in
-    let e2 = c .answered .ensures in
-    e2 _ _ _ _ _ ∙ ap answeredOf e1
+returns c = c .answered .ensures _ _ _ _ _ _ ∙ ap answeredOf (c .before .before .before .before .before .before .before .before .before .before .before .advance .ensures)
 
 pub run-spec : {M : Type 1} → statement M
 run-spec =

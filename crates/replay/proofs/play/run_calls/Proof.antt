@@ -4,6 +4,7 @@ use mathlib.Core.Path.{_≡_, refl, sym, subst, _∙_}
 use Prim.Native.Nat.{_-_}
 use lib.ListN.{length}
 use Rattle.wire.specs.Script.{InScript}
+use Rattle.turn.specs.Words.{poolOf}
 use Rattle.replay.specs.Replay.{play, callsAt}
 use Rattle.replay.proofs.PlayLaws.{Running, running-begins, running-stops, running-ends, running-torn, running-on}
 use borrow.Author.Needs.{needs}
@@ -11,11 +12,46 @@ use Rattle.replay.proofs.play.run_calls.Statement.{statement}
 use Rattle.replay.proofs.play.run_calls.Tie as tie
 
 abbrev Inv-loop : tie.InvT-loop
-Inv-loop script start show log₀ records₀ store₀ groups links₀ rows₀ lists₀ actors₀ out₀ pool₀ p₀ e₀ log records store links rows lists actors out pool p e =
-    (length log ≡ length log₀) × (length records ≡ length records₀) × (length store ≡ length store₀) × (length links ≡ length links₀) × (length rows ≡ length rows₀) × (length lists ≡ length lists₀) × (length actors ≡ length actors₀) × (length out ≡ length out₀) × Running (play show (record { pool = pool₀; bytes = log₀; records = records₀; store = store₀; groups = groups; links = links₀; rows = rows₀; keys = lists₀; actors = actors₀ }) (record { out = out₀; at = e₀ .at; code = e₀ .code }) (callsAt (length script) script start)) show script (record { pool = pool; bytes = log; records = records; store = store; groups = groups; links = links; rows = rows; keys = lists; actors = actors }) (record { out = out; at = e .at; code = e .code }) p
+Inv-loop script start show cells₀ log₀ records₀ store₀ groups links₀ rows₀ lists₀ actors₀ out₀ p₀ e₀ cells log records
+    store links rows lists actors out p e =
+    (length log ≡ length log₀) ×
+    (length records ≡ length records₀) ×
+    (length store ≡ length store₀) ×
+    (length links ≡ length links₀) ×
+    (length rows ≡ length rows₀) ×
+    (length lists ≡ length lists₀) ×
+    (length actors ≡ length actors₀) ×
+    (length out ≡ length out₀) ×
+    Running
+    (play show (record {
+      pool = poolOf cells₀;
+      bytes = log₀;
+      records = records₀;
+      store = store₀;
+      groups = groups;
+      links = links₀;
+      rows = rows₀;
+      keys = lists₀;
+      actors = actors₀;
+    })
+    (record { out = out₀; at = e₀ .at; code = e₀ .code })
+    (callsAt (length script) script start))
+    show script (record {
+      pool = poolOf cells;
+      bytes = log;
+      records = records;
+      store = store;
+      groups = groups;
+      links = links;
+      rows = rows;
+      keys = lists;
+      actors = actors;
+    })
+    (record { out = out; at = e .at; code = e .code }) p
 
 abbrev μ-loop : tie.MeasureT-loop
-μ-loop script start show log₀ records₀ store₀ groups links₀ rows₀ lists₀ actors₀ out₀ pool₀ p₀ e₀ log records store links rows lists actors out pool p e =
+μ-loop script start show cells₀ log₀ records₀ store₀ groups links₀ rows₀ lists₀ actors₀ out₀ p₀ e₀ cells log records
+    store links rows lists actors out p e =
     length script - p
 
 loop-holds : tie.Need-loop-holds Inv-loop μ-loop
@@ -92,10 +128,10 @@ enum-known-read c = search needs
 
 step-requires : tie.Need-step-requires Inv-loop μ-loop
 step-requires c κs =
-    let args = c .before .before .before .before .before .before .before .before .before .before .before .before .before .before .before .before .before .before .before .args in
-    let loop = c .before .before .before .before .before .before .before .before .before .before .before .before .before .before .loop in
-    let read-call = c .before .before .before .before .before .before .before .before .before .before .read-call in
-    let read = c .before .before .before .before .before .before .before .before .read in
+    let args = c .before .before .before .before .before .before .before .before .before .before .before .before .before .before .before .before .before .before .before .before .args in
+    let loop = c .before .before .before .before .before .before .before .before .before .before .before .before .before .before .before .loop in
+    let read-call = c .before .before .before .before .before .before .before .before .before .before .before .read-call in
+    let read = c .before .before .before .before .before .before .before .before .before .read in
     let within = subst (InScript (args .script .now) (loop .p)) (read .given .1) (read-call .ensures .1) in
     (within .1, within .2, within .3)
 
@@ -104,21 +140,21 @@ pour-entry-requires c κs = search needs
 
 loop-less : tie.Need-loop-less Inv-loop μ-loop
 loop-less c =
-    let args = c .before .before .before .before .before .before .before .before .before .before .before .before .before .before .before .before .before .before .before .before .before .before .before .before .before .before .before .before .before .before .before .before .before .before .before .before .before .before .before .before .before .args in
-    let loop = c .before .before .before .before .before .before .before .before .before .before .before .before .before .before .before .before .before .before .before .before .before .before .before .before .before .before .before .before .before .before .before .before .before .before .before .before .loop in
-    let if2 = c .before .before .before .before .before .before .before .before .before .before .before .before .before .before .before .before .before .before .before .before .before .before .before .before .before .before .before .before .before .before .before .before .before .if2 in
-    let read-call = c .before .before .before .before .before .before .before .before .before .before .before .before .before .before .before .before .before .before .before .before .before .before .before .before .before .before .before .before .before .before .before .before .read-call in
-    let read = c .before .before .before .before .before .before .before .before .before .before .before .before .before .before .before .before .before .before .before .before .before .before .before .before .before .before .before .before .before .before .read in
+    let args = c .before .before .before .before .before .before .before .before .before .before .before .before .before .before .before .before .before .before .before .before .before .before .before .before .before .before .before .before .before .before .before .before .before .before .before .before .before .before .before .before .before .before .args in
+    let loop = c .before .before .before .before .before .before .before .before .before .before .before .before .before .before .before .before .before .before .before .before .before .before .before .before .before .before .before .before .before .before .before .before .before .before .before .before .before .loop in
+    let if2 = c .before .before .before .before .before .before .before .before .before .before .before .before .before .before .before .before .before .before .before .before .before .before .before .before .before .before .before .before .before .before .before .before .before .before .if2 in
+    let read-call = c .before .before .before .before .before .before .before .before .before .before .before .before .before .before .before .before .before .before .before .before .before .before .before .before .before .before .before .before .before .before .before .before .before .read-call in
+    let read = c .before .before .before .before .before .before .before .before .before .before .before .before .before .before .before .before .before .before .before .before .before .before .before .before .before .before .before .before .before .before .before .read in
     omega (arith, if2 .left, subst (InScript (args .script .now) (loop .p)) (read .given .1) (read-call .ensures .1) .0)
 
 loop-again : tie.Need-loop-again Inv-loop μ-loop
 loop-again c =
-    let args = c .before .before .before .before .before .before .before .before .before .before .before .before .before .before .before .before .before .before .before .before .before .before .before .before .before .before .before .before .before .before .before .before .before .before .before .before .before .before .before .before .before .args in
-    let loop = c .before .before .before .before .before .before .before .before .before .before .before .before .before .before .before .before .before .before .before .before .before .before .before .before .before .before .before .before .before .before .before .before .before .before .before .before .loop in
-    let if1 = c .before .before .before .before .before .before .before .before .before .before .before .before .before .before .before .before .before .before .before .before .before .before .before .before .before .before .before .before .before .before .before .before .before .before .if1 in
-    let if2 = c .before .before .before .before .before .before .before .before .before .before .before .before .before .before .before .before .before .before .before .before .before .before .before .before .before .before .before .before .before .before .before .before .before .if2 in
-    let read-call = c .before .before .before .before .before .before .before .before .before .before .before .before .before .before .before .before .before .before .before .before .before .before .before .before .before .before .before .before .before .before .before .before .read-call in
-    let read = c .before .before .before .before .before .before .before .before .before .before .before .before .before .before .before .before .before .before .before .before .before .before .before .before .before .before .before .before .before .before .read in
+    let args = c .before .before .before .before .before .before .before .before .before .before .before .before .before .before .before .before .before .before .before .before .before .before .before .before .before .before .before .before .before .before .before .before .before .before .before .before .before .before .before .before .before .before .args in
+    let loop = c .before .before .before .before .before .before .before .before .before .before .before .before .before .before .before .before .before .before .before .before .before .before .before .before .before .before .before .before .before .before .before .before .before .before .before .before .before .loop in
+    let if1 = c .before .before .before .before .before .before .before .before .before .before .before .before .before .before .before .before .before .before .before .before .before .before .before .before .before .before .before .before .before .before .before .before .before .before .before .if1 in
+    let if2 = c .before .before .before .before .before .before .before .before .before .before .before .before .before .before .before .before .before .before .before .before .before .before .before .before .before .before .before .before .before .before .before .before .before .before .if2 in
+    let read-call = c .before .before .before .before .before .before .before .before .before .before .before .before .before .before .before .before .before .before .before .before .before .before .before .before .before .before .before .before .before .before .before .before .before .read-call in
+    let read = c .before .before .before .before .before .before .before .before .before .before .before .before .before .before .before .before .before .before .before .before .before .before .before .before .before .before .before .before .before .before .before .read in
     let step = c .before .before .before .before .before .before .before .before .before .before .before .before .before .before .before .before .before .before .before .before .before .step in
     let pour-entry = c .before .before .pour-entry in
     (step .kept .1 .1 .1 .0 ∙ loop .inv .0, step .kept .1 .1 .1 .1 .0 ∙ loop .inv .1, step .kept .1 .1 .1 .1 .1 .0 ∙ loop .inv .2, step .kept .1 .1 .1 .1 .1 .1 .1 .0 ∙ loop .inv .3, step .kept .1 .1 .1 .1 .1 .1 .1 .1 .0 ∙ loop .inv .4, step .kept .1 .1 .1 .1 .1 .1 .1 .1 .1 .0 ∙ loop .inv .5, step .kept .1 .1 .1 .1 .1 .1 .1 .1 .1 .1 .0 ∙ loop .inv .6, pour-entry .kept .0 ∙ loop .inv .7, running-on (loop .inv .8) (if1 .taken) (if2 .left) (read .given .0 .0) (sym (read .given .1) ∙ read-call .ensures .0) (subst (InScript (args .script .now) (loop .p)) (read .given .1) (read-call .ensures .1) .0) (step .ensures) (pour-entry .ensures))

@@ -19,62 +19,62 @@ run-calls-requires c κs = search needs
 
 same-length : tie.Need-same-length
 same-length c =
-    let opened = c .before .before .before .before .before .before .before .before .before .before .before .before .before .before .before .before .before .before .before .before .before .before .before .before .before .before .before .before .before .before .before .before .before .before .before .before .before .before .before .before .before .before .before .before .before .«open» in
+    let opened = c .before .before .before .before .before .before .before .before .before .before .before .before .before .before .before .before .before .before .before .before .before .before .before .before .before .before .before .before .before .before .before .before .before .before .before .before .before .before .before .before .before .before .before .before .before .before .«open» in
     let run-calls = c .before .before .before .before .before .before .before .before .before .before .before .run-calls in
-    run-calls .kept .1 .1 .1 .1 .0 ∙ opened .kept .1 .1 .0
+    run-calls .kept .1 .1 .1 .1 .0 ∙ opened .kept .1 .1 .1 .0
 
 same-length-2 : tie.Need-same-length-2
 same-length-2 c =
-    let opened = c .before .before .before .before .before .before .before .before .before .before .before .before .before .before .before .before .before .before .before .before .before .before .before .before .before .before .before .before .before .before .before .before .before .before .before .before .before .before .before .before .before .before .before .before .before .«open» in
+    let opened = c .before .before .before .before .before .before .before .before .before .before .before .before .before .before .before .before .before .before .before .before .before .before .before .before .before .before .before .before .before .before .before .before .before .before .before .before .before .before .before .before .before .before .before .before .before .before .«open» in
     let run-calls = c .before .before .before .before .before .before .before .before .before .before .before .run-calls in
-    run-calls .kept .1 .1 .1 .1 .1 .0 ∙ opened .kept .1 .1 .1 .1 .1 .0
+    run-calls .kept .1 .1 .1 .1 .1 .0 ∙ opened .kept .1 .1 .1 .1 .1 .1 .0
 
 same-length-3 : tie.Need-same-length-3
 same-length-3 c =
-    let opened = c .before .before .before .before .before .before .before .before .before .before .before .before .before .before .before .before .before .before .before .before .before .before .before .before .before .before .before .before .before .before .before .before .before .before .before .before .before .before .before .before .before .before .before .before .before .«open» in
+    let opened = c .before .before .before .before .before .before .before .before .before .before .before .before .before .before .before .before .before .before .before .before .before .before .before .before .before .before .before .before .before .before .before .before .before .before .before .before .before .before .before .before .before .before .before .before .before .before .«open» in
     let run-calls = c .before .before .before .before .before .before .before .before .before .before .before .run-calls in
-    run-calls .kept .1 .1 .1 .1 .1 .1 .0 ∙ opened .kept .1 .1 .1 .1 .0
+    run-calls .kept .1 .1 .1 .1 .1 .1 .0 ∙ opened .kept .1 .1 .1 .1 .1 .0
 
 same-length-4 : tie.Need-same-length-4
 same-length-4 c =
-    let opened = c .before .before .before .before .before .before .before .before .before .before .before .before .before .before .before .before .before .before .before .before .before .before .before .before .before .before .before .before .before .before .before .before .before .before .before .before .before .before .before .before .before .before .before .before .before .«open» in
-    opened .kept .1 .1 .1 .1 .1 .1 .0
+    let opened = c .before .before .before .before .before .before .before .before .before .before .before .before .before .before .before .before .before .before .before .before .before .before .before .before .before .before .before .before .before .before .before .before .before .before .before .before .before .before .before .before .before .before .before .before .before .before .«open» in
+    opened .kept .1 .1 .1 .1 .1 .1 .1 .0
 
 same-length-5 : tie.Need-same-length-5
 same-length-5 c =
-    let opened = c .before .before .before .before .before .before .before .before .before .before .before .before .before .before .before .before .before .before .before .before .before .before .before .before .before .before .before .before .before .before .before .before .before .before .before .before .before .before .before .before .before .before .before .before .before .«open» in
+    let opened = c .before .before .before .before .before .before .before .before .before .before .before .before .before .before .before .before .before .before .before .before .before .before .before .before .before .before .before .before .before .before .before .before .before .before .before .before .before .before .before .before .before .before .before .before .before .before .«open» in
     let run-calls = c .before .before .before .before .before .before .before .before .before .before .before .run-calls in
-    run-calls .kept .1 .1 .1 .1 .1 .1 .1 .1 .0 ∙ opened .kept .1 .1 .1 .1 .1 .1 .1 .0
+    run-calls .kept .1 .1 .1 .1 .1 .1 .1 .1 .0 ∙ opened .kept .1 .1 .1 .1 .1 .1 .1 .1 .0
 
 same-length-6 : tie.Need-same-length-6
 same-length-6 c =
-    let opened = c .before .before .before .before .before .before .before .before .before .before .before .before .before .before .before .before .before .before .before .before .before .before .before .before .before .before .before .before .before .before .before .before .before .before .before .before .before .before .before .before .before .before .before .before .before .«open» in
+    let opened = c .before .before .before .before .before .before .before .before .before .before .before .before .before .before .before .before .before .before .before .before .before .before .before .before .before .before .before .before .before .before .before .before .before .before .before .before .before .before .before .before .before .before .before .before .before .before .«open» in
     let run-calls = c .before .before .before .before .before .before .before .before .before .before .before .run-calls in
-    run-calls .kept .1 .1 .1 .1 .1 .1 .1 .1 .1 .0 ∙ opened .kept .1 .1 .1 .1 .1 .1 .1 .1 .0
+    run-calls .kept .1 .1 .1 .1 .1 .1 .1 .1 .1 .0 ∙ opened .kept .1 .1 .1 .1 .1 .1 .1 .1 .1 .0
 
 same-length-7 : tie.Need-same-length-7
 same-length-7 c =
-    let opened = c .before .before .before .before .before .before .before .before .before .before .before .before .before .before .before .before .before .before .before .before .before .before .before .before .before .before .before .before .before .before .before .before .before .before .before .before .before .before .before .before .before .before .before .before .before .«open» in
+    let opened = c .before .before .before .before .before .before .before .before .before .before .before .before .before .before .before .before .before .before .before .before .before .before .before .before .before .before .before .before .before .before .before .before .before .before .before .before .before .before .before .before .before .before .before .before .before .before .«open» in
     let run-calls = c .before .before .before .before .before .before .before .before .before .before .before .run-calls in
-    run-calls .kept .1 .1 .1 .1 .1 .1 .1 .1 .1 .1 .0 ∙ opened .kept .1 .1 .1 .1 .1 .1 .1 .1 .1 .0
+    run-calls .kept .1 .1 .1 .1 .1 .1 .1 .1 .1 .1 .0 ∙ opened .kept .1 .1 .1 .1 .1 .1 .1 .1 .1 .1 .0
 
 same-length-8 : tie.Need-same-length-8
 same-length-8 c = c .before .before .before .before .before .before .before .before .before .before .before .run-calls .kept .1 .1 .1 .1 .1 .1 .1 .1 .1 .1 .1 .0
 
 same-length-9 : tie.Need-same-length-9
 same-length-9 c =
-    let pour-entry = c .before .before .before .before .before .before .before .before .before .before .before .before .before .before .before .before .before .before .before .before .before .before .before .before .before .pour-entry in
+    let pour-entry = c .before .before .before .before .before .before .before .before .before .before .before .before .before .before .before .before .before .before .before .before .before .before .before .before .before .before .pour-entry in
     let run-calls = c .before .before .before .before .before .before .before .before .before .before .before .run-calls in
     run-calls .kept .1 .1 .1 .1 .1 .1 .1 .1 .1 .1 .1 .1 .0 ∙ pour-entry .kept .0
 
 returns : tie.Need-returns
 returns c =
-    let opened = c .before .before .before .before .before .before .before .before .before .before .before .before .before .before .before .before .before .before .before .before .before .before .before .before .before .before .before .before .before .before .before .before .before .before .before .before .before .before .before .before .before .before .before .before .before .«open» in
-    let pour-entry = c .before .before .before .before .before .before .before .before .before .before .before .before .before .before .before .before .before .before .before .before .before .before .before .before .before .pour-entry in
-    let is-accepted = c .before .before .before .before .before .before .before .before .before .before .before .before .before .before .before .before .before .before .before .before .before .before .is-accepted in
-    let if1 = c .before .before .before .before .before .before .before .before .before .before .before .before .before .before .before .before .before .before .before .before .before .if1 in
+    let opened = c .before .before .before .before .before .before .before .before .before .before .before .before .before .before .before .before .before .before .before .before .before .before .before .before .before .before .before .before .before .before .before .before .before .before .before .before .before .before .before .before .before .before .before .before .before .before .«open» in
+    let pour-entry = c .before .before .before .before .before .before .before .before .before .before .before .before .before .before .before .before .before .before .before .before .before .before .before .before .before .before .pour-entry in
+    let is-accepted = c .before .before .before .before .before .before .before .before .before .before .before .before .before .before .before .before .before .before .before .before .before .before .before .is-accepted in
+    let if1 = c .before .before .before .before .before .before .before .before .before .before .before .before .before .before .before .before .before .before .before .before .before .before .if1 in
     let run-calls = c .before .before .before .before .before .before .before .before .before .before .before .run-calls in
-    opened-on _ _ _ _ (opened .ensures) (pour-entry .ensures) (sym (is-accepted .ensures) ∙ if1 .taken) (run-calls .ensures)
+    opened-on _ _ _ _ (opened .ensures) (pour-entry .ensures) (sym (is-accepted .ensures _ _ _) ∙ if1 .taken) (run-calls .ensures)
 
 same-length-10 : tie.Need-same-length-10
 same-length-10 c = search needs
@@ -109,7 +109,7 @@ returns-2 c =
     let pour-entry = c .before .before .before .before .pour-entry in
     let is-accepted = c .before .is-accepted in
     let if1 = c .if1 in
-    opened-refused _ _ _ _ (opened .ensures) (pour-entry .ensures) (sym (is-accepted .ensures) ∙ if1 .left)
+    opened-refused _ _ _ _ (opened .ensures) (pour-entry .ensures) (sym (is-accepted .ensures _ _ _) ∙ if1 .left)
 
 pub run-opened-spec : {M : Type 1} → statement M
 run-opened-spec =

@@ -89,7 +89,7 @@ same-length-5 c = c .before .before .before .before .before .before .before .adm
 returns : tie.Need-returns
 unfolding callOf
 returns c =
-    let kind = c .before .before .before .before .before .before .before .before .before .before .before .before .before .before .before .before .kind in
+    let kind = c .before .before .before .before .before .before .before .before .before .before .before .before .before .before .before .before .before .kind in
     let admit = c .before .before .before .before .before .before .before .admit in
     simp (kind .given .1) (admit .ensures _ _)
 
@@ -117,7 +117,7 @@ same-length-12 c = c .before .before .before .before .before .before .before .tu
 returns-2 : tie.Need-returns-2
 unfolding callOf
 returns-2 c =
-    let enum-told = c .before .before .before .before .before .before .before .before .before .before .before .before .before .before .before .enum-told in
+    let enum-told = c .before .before .before .before .before .before .before .before .before .before .before .before .before .before .before .before .enum-told in
     let turn = c .before .before .before .before .before .before .before .turn in
     simp (enum-told .given .1) (turn .ensures)
 
@@ -145,29 +145,17 @@ same-length-19 c = c .before .before .before .before .before .before .before .be
 returns-3 : tie.Need-returns-3
 unfolding callOf
 returns-3 c =
-    let kind2 = c .before .before .before .before .before .before .before .before .before .before .before .before .before .before .before .before .before .before .before .before .kind2 in
+    let kind2 = c .before .before .before .before .before .before .before .before .before .before .before .before .before .before .before .before .before .before .before .before .before .kind2 in
     let reply = c .before .before .before .before .before .before .before .before .before .reply in
     simp (kind2 .given .1) (reply .ensures)
 
-same-length-20 : tie.Need-same-length-20
-same-length-20 c = refl
-
-same-length-21 : tie.Need-same-length-21
-same-length-21 c = refl
-
 returns-4 : tie.Need-returns-4
 unfolding callOf
-returns-4 c = simp (c .before .before .before .enum-told2 .given .1) (c .sync .ensures _ _ _ _ _ _)
-
-same-length-22 : tie.Need-same-length-22
-same-length-22 c = refl
-
-same-length-23 : tie.Need-same-length-23
-same-length-23 c = refl
+returns-4 c = simp (c .before .before .enum-told2 .given .1) (c .sync .ensures _ _ _ _ _ _ _ _)
 
 returns-5 : tie.Need-returns-5
 unfolding callOf
-returns-5 c = simp (c .before .before .before .enum-told3 .given .1) (c .close .ensures _ _ _ _ _ _)
+returns-5 c = simp (c .before .before .enum-told3 .given .1) (c .close .ensures _ _ _ _ _ _ _ _)
 
 pub step-spec : {M : Type 1} → statement M
 step-spec =
@@ -217,9 +205,5 @@ step-spec =
     same-length-18
     same-length-19
     returns-3
-    same-length-20
-    same-length-21
     returns-4
-    same-length-22
-    same-length-23
     returns-5)

@@ -1,6 +1,6 @@
 -- `intake::intake` meets its contract: the batch begins where nothing may be taken in, there is no room or the inbox is empty; else one message moves. Assumes nothing.
-use borrow.Author.Tests.{eq-eqb, le-leb, lt-leb, ne-eqb}
 use Rattle.routing.specs.Intake.{intakeOf}
+use borrow.Author.Tests.{eq-eqb, le-leb, lt-leb, ne-eqb}
 use borrow.Author.Needs.{needs}
 use Rattle.routing.proofs.intake.intake.Statement.{statement}
 use Rattle.routing.proofs.intake.intake.Tie as tie
@@ -67,21 +67,25 @@ move-first-requires c κs = search needs
 less-requires : tie.Need-less-requires
 less-requires c κs = search needs
 
+intake-requires : tie.Need-intake-requires
+intake-requires c κs = search needs
+
 same-length-4 : tie.Need-same-length-4
 same-length-4 c = search needs
 
 returns-4 : tie.Need-returns-4
 unfolding intakeOf
 returns-4 c =
-    let h1 = ne-eqb _ _ (c .before .before .before .before .before .before .before .before .before .before .before .if1 .left) in
-    let e1 = c .before .before .before .before .before .before .before .before .before .length-of .ensures in
-    let e2 = c .before .before .before .before .before .before .before .before .sum .ensures in
-    let h2 = simp (e1, e2) at (lt-leb _ _ (c .before .before .before .before .before .before .before .if2 .left)) in
-    let e3 = c .before .before .before .before .before .length-of2 .ensures in
-    let h3 = simp (e3) at (ne-eqb _ _ (c .before .before .before .before .if3 .left)) in
-    let e4 = c .before .before .move-first .ensures in
-    let e5 = c .less .ensures in
-    simp (e4, e5, h1, h2, h3)
+    let h1 = ne-eqb _ _ (c .before .before .before .before .before .before .before .before .before .before .before .before .if1 .left) in
+    let e1 = c .before .before .before .before .before .before .before .before .before .before .length-of .ensures in
+    let e2 = c .before .before .before .before .before .before .before .before .before .sum .ensures in
+    let h2 = simp (e1, e2) at (lt-leb _ _ (c .before .before .before .before .before .before .before .before .if2 .left)) in
+    let e3 = c .before .before .before .before .before .before .length-of2 .ensures in
+    let h3 = simp (e3) at (ne-eqb _ _ (c .before .before .before .before .before .if3 .left)) in
+    let e4 = c .before .before .before .move-first .ensures in
+    let e5 = c .before .less .ensures in
+    let e6 = c .intake .ensures in
+    simp (e4, e5, e6, h1, h2, h3)
 
 pub intake-spec : {M : Type 1} → statement M
 intake-spec =
@@ -101,5 +105,6 @@ intake-spec =
     returns-3
     move-first-requires
     less-requires
+    intake-requires
     same-length-4
     returns-4)

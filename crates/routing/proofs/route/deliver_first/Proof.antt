@@ -1,7 +1,5 @@
 -- `route::deliver_first` meets its contract: the message moves to the mailbox, and its actor is woken. Assumes nothing.
-use Rattle.group.specs.Roster.{Keyed}
-use Rattle.routing.specs.Route.{Mailed, deliver}
-use mathlib.Core.Path.{ap}
+use Rattle.routing.specs.Route.{deliver}
 use borrow.Author.Needs.{needs}
 use Rattle.routing.proofs.route.deliver_first.Statement.{statement}
 use Rattle.routing.proofs.route.deliver_first.Tie as tie
@@ -18,6 +16,9 @@ wake-at-requires c κs = search needs
 less-requires : tie.Need-less-requires
 less-requires c κs = search needs
 
+route-requires : tie.Need-route-requires
+route-requires c κs = search needs
+
 same-length : tie.Need-same-length
 same-length c = search needs
 
@@ -30,15 +31,12 @@ same-length-3 c = search needs
 returns : tie.Need-returns
 unfolding deliver
 returns c =
-    let e1 = c .before .before .before .before .before .before .before .before .before .slot-at .ensures in
-    let e2 = c .before .before .before .before .before .before .before .deliver-to .ensures in
-    let e2-links = ap (λ (s : Mailed). s .links) e2 in
-    let e2-queued = ap (λ (s : Mailed). s .queued) e2 in
-    let e3 = c .before .before .before .wake-at .ensures in
-    let e3-keys = ap (λ (s : Keyed). s .keys) e3 in
-    let e3-actors = ap (λ (s : Keyed). s .actors) e3 in
-    let e4 = c .less .ensures in
-    simp (e1, e2-links, e2-queued, e3-keys, e3-actors, e4)
+    let e1 = c .before .before .before .before .before .before .before .before .before .before .slot-at .ensures in
+    let e2 = simp (e1) at (c .before .before .before .before .before .before .before .before .deliver-to .ensures) in
+    let e3 = c .before .before .before .before .wake-at .ensures in
+    let e4 = c .before .less .ensures in
+    let e5 = c .route .ensures in
+    simp (e1, ← e2, ← e3, e4, e5)
 
 pub deliver-first-spec : {M : Type 1} → statement M
 deliver-first-spec =
@@ -48,6 +46,7 @@ deliver-first-spec =
     deliver-to-requires
     wake-at-requires
     less-requires
+    route-requires
     same-length
     same-length-2
     same-length-3

@@ -36,17 +36,21 @@ returns c =
     let e3 = c .before .before .before .route-spawned .ensures in
     simp (h1, h2) e3
 
+route-boot-requires : tie.Need-route-boot-requires
+route-boot-requires c κs = search needs
+
 same-length-4 : tie.Need-same-length-4
 same-length-4 c = search needs
 
 returns-2 : tie.Need-returns-2
 unfolding routeNew
 returns-2 c =
-    let e1 = c .before .before .before .before .group-at .ensures in
-    let e2 = c .before .before .live-len .ensures in
-    let h1 = simp (e1, e2) at (lt-ltb _ _ (c .before .if1 .taken)) in
-    let h2 = simp (e1) at (c .if2 .left) in
-    simp (h1, h2)
+    let e1 = c .before .before .before .before .before .group-at .ensures in
+    let e2 = c .before .before .before .live-len .ensures in
+    let h1 = simp (e1, e2) at (lt-ltb _ _ (c .before .before .if1 .taken)) in
+    let h2 = simp (e1) at (c .before .if2 .left) in
+    let e3 = c .route-boot .ensures in
+    simp (e3, h1, h2)
 
 route-least-requires : tie.Need-route-least-requires
 route-least-requires c κs = search needs
@@ -81,6 +85,7 @@ route-new-spec =
     same-length-2
     same-length-3
     returns
+    route-boot-requires
     same-length-4
     returns-2
     route-least-requires

@@ -22,6 +22,9 @@ route-booted-requires-2 c κs = search needs
 enum-told-3 : tie.Need-enum-told-3
 enum-told-3 c = search needs
 
+route-boot-requires : tie.Need-route-boot-requires
+route-boot-requires c κs = search needs
+
 same-length : tie.Need-same-length
 same-length c = search needs
 
@@ -59,9 +62,10 @@ returns-2 c =
 returns-3 : tie.Need-returns-3
 unfolding routeReply
 returns-3 c =
-    let e1 = c .before .before .yes-in .ensures in
-    let h1 = simp (e1) at (c .enum-told3 .given .1) in
-    simp (h1)
+    let e1 = c .before .before .before .yes-in .ensures in
+    let h1 = simp (e1) at (c .before .enum-told3 .given .1) in
+    let e2 = c .route-boot .ensures in
+    simp (e2, h1)
 
 pub route-reply-spec : {M : Type 1} → statement M
 route-reply-spec =
@@ -73,6 +77,7 @@ route-reply-spec =
     enum-told-2
     route-booted-requires-2
     enum-told-3
+    route-boot-requires
     same-length
     same-length-2
     same-length-3

@@ -10,16 +10,20 @@ over-first-requires c κs = search needs
 less-requires : tie.Need-less-requires
 less-requires c κs = search needs
 
+route-requires : tie.Need-route-requires
+route-requires c κs = search needs
+
 same-length : tie.Need-same-length
 same-length c = search needs
 
 returns : tie.Need-returns
 unfolding undeliverable
 returns c =
-    let e1 = c .before .before .over-first .ensures in
-    let e2 = c .less .ensures in
-    simp (e1, e2)
+    let e1 = c .before .before .before .over-first .ensures in
+    let e2 = c .before .less .ensures in
+    let e3 = c .route .ensures in
+    simp (e1, e2, e3)
 
 pub undeliverable-first-spec : {M : Type 1} → statement M
 undeliverable-first-spec =
-    tie.close (tie.spec over-first-requires less-requires same-length returns)
+    tie.close (tie.spec over-first-requires less-requires route-requires same-length returns)

@@ -22,6 +22,9 @@ seed-booted-requires-2 c κs = search needs
 enum-told-3 : tie.Need-enum-told-3
 enum-told-3 c = search needs
 
+seed-boot-requires : tie.Need-seed-boot-requires
+seed-boot-requires c κs = search needs
+
 same-length : tie.Need-same-length
 same-length c = search needs
 
@@ -53,9 +56,10 @@ returns-2 c =
 returns-3 : tie.Need-returns-3
 unfolding seedReply
 returns-3 c =
-    let e1 = c .before .before .yes-in .ensures in
-    let h1 = simp (e1) at (c .enum-told3 .given .1) in
-    simp (h1)
+    let e1 = c .before .before .before .yes-in .ensures in
+    let h1 = simp (e1) at (c .before .enum-told3 .given .1) in
+    let e2 = c .seed-boot .ensures in
+    simp (e2, h1)
 
 pub seed-reply-spec : {M : Type 1} → statement M
 seed-reply-spec =
@@ -67,6 +71,7 @@ seed-reply-spec =
     enum-told-2
     seed-booted-requires-2
     enum-told-3
+    seed-boot-requires
     same-length
     same-length-2
     returns

@@ -1,5 +1,5 @@
--- `eval::dispatch_reply` meets its contract: each way out follows from what the calls ensured and the tests said. Mechanical
--- answers, as tools/answers.py writes them. Assumes nothing.
+-- `eval::dispatch_reply` meets its contract: each way out follows from what the calls ensured and the tests said.
+-- Assumes nothing.
 use Rattle.steps.specs.StepEval.{dispatchReply}
 use borrow.Author.Needs.{needs}
 use Rattle.steps.proofs.eval.dispatch_reply.Statement.{statement}
@@ -17,6 +17,9 @@ eval-dispatched-requires c κs = search needs
 enum-told : tie.Need-enum-told
 enum-told c = search needs
 
+asks-for-requires : tie.Need-asks-for-requires
+asks-for-requires c κs = search needs
+
 same-length : tie.Need-same-length
 same-length c = search needs
 
@@ -29,14 +32,15 @@ returns c =
     let e1 = c .before .before .before .before .before .before .before .before .count-in .ensures in
     let h1 = simp (e1) at (c .before .before .before .before .before .before .came .given .1) in
     let e2 = c .before .before .eval-dispatched .ensures in
-    simp (e1, e2, h1)
+    simp (h1) e2
 
 returns-2 : tie.Need-returns-2
 unfolding dispatchReply
 returns-2 c =
-    let e1 = c .before .before .count-in .ensures in
-    let h1 = simp (e1) at (c .enum-told .given .1) in
-    simp (e1, h1)
+    let e1 = c .before .before .before .count-in .ensures in
+    let h1 = simp (e1) at (c .before .enum-told .given .1) in
+    let e2 = c .asks-for .ensures in
+    simp (e2, h1)
 
 pub dispatch-reply-spec : {M : Type 1} → statement M
 dispatch-reply-spec =
@@ -46,6 +50,7 @@ dispatch-reply-spec =
     enum-known-came
     eval-dispatched-requires
     enum-told
+    asks-for-requires
     same-length
     same-length-2
     returns

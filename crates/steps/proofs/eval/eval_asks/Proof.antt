@@ -1,5 +1,5 @@
--- `eval::eval_asks` meets its contract: each way out follows from what the calls ensured and the tests said. Mechanical
--- answers, as tools/answers.py writes them. Assumes nothing.
+-- `eval::eval_asks` meets its contract: each way out follows from what the calls ensured and the tests said.
+-- Mechanical answers, as tools/answers.py writes them. Assumes nothing.
 use Rattle.steps.specs.StepEval.{evalAsks}
 use borrow.Author.Needs.{needs}
 use Rattle.steps.proofs.eval.eval_asks.Statement.{statement}
@@ -14,17 +14,23 @@ enum-told-2 c = search needs
 enum-told-3 : tie.Need-enum-told-3
 enum-told-3 c = search needs
 
-enum-known-ask : tie.Need-enum-known-ask
-enum-known-ask c = search needs
-
-eval-shown-requires : tie.Need-eval-shown-requires
-eval-shown-requires c κs = search needs
-
 enum-told-4 : tie.Need-enum-told-4
 enum-told-4 c = search needs
 
-enum-known-ask-2 : tie.Need-enum-known-ask-2
-enum-known-ask-2 c = search needs
+ask-run-requires : tie.Need-ask-run-requires
+ask-run-requires c κs = search needs
+
+enum-told-5 : tie.Need-enum-told-5
+enum-told-5 c = search needs
+
+ask-run-requires-2 : tie.Need-ask-run-requires-2
+ask-run-requires-2 c κs = search needs
+
+enum-told-6 : tie.Need-enum-told-6
+enum-told-6 c = search needs
+
+enum-told-7 : tie.Need-enum-told-7
+enum-told-7 c = search needs
 
 first-requires : tie.Need-first-requires
 first-requires c κs = search needs
@@ -56,20 +62,27 @@ returns-3 c =
 returns-4 : tie.Need-returns-4
 unfolding evalAsks
 returns-4 c =
-    let h1 = c .before .before .ask .given .1 in
-    let e1 = c .eval-shown .ensures in
+    let h1 = c .before .enum-told4 .given .1 in
+    let e1 = c .ask-run .ensures in
     simp (e1, h1)
 
 returns-5 : tie.Need-returns-5
 unfolding evalAsks
 returns-5 c =
-    let h1 = c .enum-told4 .given .1 in
-    simp (h1)
+    let h1 = c .before .enum-told5 .given .1 in
+    let e1 = c .ask-run2 .ensures in
+    simp (e1, h1)
 
 returns-6 : tie.Need-returns-6
 unfolding evalAsks
 returns-6 c =
-    let h1 = c .before .before .before .before .ask2 .given .1 in
+    let h1 = c .enum-told6 .given .1 in
+    simp (h1)
+
+returns-7 : tie.Need-returns-7
+unfolding evalAsks
+returns-7 c =
+    let h1 = c .before .before .before .enum-told7 .given .1 in
     let e1 = c .before .before .first .ensures in
     let e2 = c .before .caller-first .ensures in
     let e3 = c .ask-tell .ensures in
@@ -82,10 +95,12 @@ eval-asks-spec =
     enum-told
     enum-told-2
     enum-told-3
-    enum-known-ask
-    eval-shown-requires
     enum-told-4
-    enum-known-ask-2
+    ask-run-requires
+    enum-told-5
+    ask-run-requires-2
+    enum-told-6
+    enum-told-7
     first-requires
     caller-first-requires
     ask-tell-requires
@@ -94,4 +109,5 @@ eval-asks-spec =
     returns-3
     returns-4
     returns-5
-    returns-6)
+    returns-6
+    returns-7)

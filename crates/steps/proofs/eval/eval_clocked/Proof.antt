@@ -1,7 +1,7 @@
--- `eval::eval_clocked` meets its contract: each way out follows from what the calls ensured and the tests said. Mechanical
--- answers, as tools/answers.py writes them. Assumes nothing.
-use borrow.Author.Tests.{le-leb, lt-leb}
+-- `eval::eval_clocked` meets its contract: each way out follows from what the calls ensured and the tests said.
+-- Mechanical answers, as tools/answers.py writes them. Assumes nothing.
 use Rattle.steps.specs.StepEval.{evalClocked}
+use borrow.Author.Tests.{le-leb, lt-leb}
 use borrow.Author.Needs.{needs}
 use Rattle.steps.proofs.eval.eval_clocked.Statement.{statement}
 use Rattle.steps.proofs.eval.eval_clocked.Tie as tie
@@ -14,6 +14,9 @@ deadline-of-requires c κs = search needs
 
 eval-finish-requires : tie.Need-eval-finish-requires
 eval-finish-requires c κs = search needs
+
+asks-for-requires : tie.Need-asks-for-requires
+asks-for-requires c κs = search needs
 
 same-length : tie.Need-same-length
 same-length c = search needs
@@ -28,7 +31,7 @@ returns c =
     let e2 = c .before .before .before .before .before .before .deadline-of .ensures in
     let h1 = simp (e1, e2) at (le-leb _ _ (c .before .before .before .before .before .if1 .taken)) in
     let e3 = c .before .before .eval-finish .ensures in
-    simp (e1, e2, e3, h1)
+    simp (h1) e3
 
 same-length-3 : tie.Need-same-length-3
 same-length-3 c = search needs
@@ -36,10 +39,11 @@ same-length-3 c = search needs
 returns-2 : tie.Need-returns-2
 unfolding evalClocked
 returns-2 c =
-    let e1 = c .before .before .actor-at .ensures in
-    let e2 = c .before .deadline-of .ensures in
-    let h1 = simp (e1, e2) at (lt-leb _ _ (c .if1 .left)) in
-    simp (e1, e2, h1)
+    let e1 = c .before .before .before .actor-at .ensures in
+    let e2 = c .before .before .deadline-of .ensures in
+    let h1 = simp (e1, e2) at (lt-leb _ _ (c .before .if1 .left)) in
+    let e3 = c .asks-for .ensures in
+    simp (e3, h1)
 
 pub eval-clocked-spec : {M : Type 1} → statement M
 eval-clocked-spec =
@@ -48,6 +52,7 @@ eval-clocked-spec =
     actor-at-requires
     deadline-of-requires
     eval-finish-requires
+    asks-for-requires
     same-length
     same-length-2
     returns

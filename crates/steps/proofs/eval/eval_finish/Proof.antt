@@ -1,5 +1,5 @@
--- `eval::eval_finish` meets its contract: each way out follows from what the calls ensured and the tests said. Mechanical
--- answers, as tools/answers.py writes them. Assumes nothing.
+-- `eval::eval_finish` meets its contract: each way out follows from what the calls ensured and the tests said. Assumes
+-- nothing.
 use Rattle.steps.specs.StepEval.{evalFinish}
 use borrow.Author.Needs.{needs}
 use Rattle.steps.proofs.eval.eval_finish.Statement.{statement}
@@ -32,8 +32,10 @@ same-length-2 c = search needs
 returns : tie.Need-returns
 unfolding evalFinish
 returns c =
-    let e1 = c .before .before .before .before .before .before .before .before .before .before .before .before .before .actor-at .ensures in
-    let e2 = c .before .before .before .before .before .before .before .before .before .before .before .before .running .ensures in
+    let e1 = c .before .before .before .before .before .before .before .before .before .before
+    .before .before .before .actor-at .ensures in
+    let e2 = c .before .before .before .before .before .before .before .before .before .before
+    .before .before .running .ensures in
     let e3 = c .before .before .before .before .before .before .before .before .before .before .put-actor .ensures in
     let e4 = c .before .before .before .before .before .before .before .before .hand .ensures in
     let e5 = c .before .before .before .before .before .before .move-first .ensures in

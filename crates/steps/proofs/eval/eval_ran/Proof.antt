@@ -1,5 +1,5 @@
--- `eval::eval_ran` meets its contract: each way out follows from what the calls ensured and the tests said. Mechanical
--- answers, as tools/answers.py writes them. Assumes nothing.
+-- `eval::eval_ran` meets its contract: each way out follows from what the calls ensured and the tests said. Assumes
+-- nothing.
 use Rattle.steps.specs.StepEval.{evalRan}
 use borrow.Author.Needs.{needs}
 use Rattle.steps.proofs.eval.eval_ran.Statement.{statement}
@@ -20,6 +20,12 @@ eval-finish-requires-2 c κs = search needs
 enum-told-3 : tie.Need-enum-told-3
 enum-told-3 c = search needs
 
+yields-requires : tie.Need-yields-requires
+yields-requires c κs = search needs
+
+ends-requires : tie.Need-ends-requires
+ends-requires c κs = search needs
+
 enum-told-4 : tie.Need-enum-told-4
 enum-told-4 c = search needs
 
@@ -28,6 +34,9 @@ eval-finish-requires-3 c κs = search needs
 
 enum-told-5 : tie.Need-enum-told-5
 enum-told-5 c = search needs
+
+asks-for-requires : tie.Need-asks-for-requires
+asks-for-requires c κs = search needs
 
 enum-told-6 : tie.Need-enum-told-6
 enum-told-6 c = search needs
@@ -52,7 +61,7 @@ unfolding evalRan
 returns c =
     let h1 = c .before .before .before .before .before .enum-told .given .1 in
     let e1 = c .before .before .eval-finish .ensures in
-    simp (e1, h1)
+    simp (h1) e1
 
 same-length-3 : tie.Need-same-length-3
 same-length-3 c = search needs
@@ -65,13 +74,15 @@ unfolding evalRan
 returns-2 c =
     let h1 = c .before .before .before .before .before .enum-told2 .given .1 in
     let e1 = c .before .before .eval-finish2 .ensures in
-    simp (e1, h1)
+    simp (h1) e1
 
 returns-3 : tie.Need-returns-3
 unfolding evalRan
 returns-3 c =
-    let h1 = c .enum-told3 .given .1 in
-    simp (h1)
+    let h1 = c .before .before .enum-told3 .given .1 in
+    let e1 = c .before .yields .ensures .1 in
+    let e2 = c .ends .ensures in
+    simp (e1, e2, h1)
 
 same-length-5 : tie.Need-same-length-5
 same-length-5 c = search needs
@@ -84,13 +95,14 @@ unfolding evalRan
 returns-4 c =
     let h1 = c .before .before .before .before .before .enum-told4 .given .1 in
     let e1 = c .before .before .eval-finish3 .ensures in
-    simp (e1, h1)
+    simp (h1) e1
 
 returns-5 : tie.Need-returns-5
 unfolding evalRan
 returns-5 c =
-    let h1 = c .enum-told5 .given .1 in
-    simp (h1)
+    let h1 = c .before .enum-told5 .given .1 in
+    let e1 = c .asks-for .ensures in
+    simp (e1, h1)
 
 same-length-7 : tie.Need-same-length-7
 same-length-7 c = search needs
@@ -103,7 +115,7 @@ unfolding evalRan
 returns-6 c =
     let h1 = c .before .before .before .before .before .enum-told6 .given .1 in
     let e1 = c .before .before .eval-finish4 .ensures in
-    simp (e1, h1)
+    simp (h1) e1
 
 same-length-9 : tie.Need-same-length-9
 same-length-9 c = search needs
@@ -116,7 +128,7 @@ unfolding evalRan
 returns-7 c =
     let h1 = c .before .before .before .before .before .enum-told7 .given .1 in
     let e1 = c .before .before .eval-finish5 .ensures in
-    simp (e1, h1)
+    simp (h1) e1
 
 pub eval-ran-spec : {M : Type 1} → statement M
 eval-ran-spec =
@@ -127,9 +139,12 @@ eval-ran-spec =
     enum-told-2
     eval-finish-requires-2
     enum-told-3
+    yields-requires
+    ends-requires
     enum-told-4
     eval-finish-requires-3
     enum-told-5
+    asks-for-requires
     enum-told-6
     eval-finish-requires-4
     enum-told-7

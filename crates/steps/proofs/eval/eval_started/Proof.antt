@@ -1,5 +1,5 @@
--- `eval::eval_started` meets its contract: each way out follows from what the calls ensured and the tests said. Mechanical
--- answers, as tools/answers.py writes them. Assumes nothing.
+-- `eval::eval_started` meets its contract: each way out follows from what the calls ensured and the tests said.
+-- Mechanical answers, as tools/answers.py writes them. Assumes nothing.
 use Rattle.steps.specs.StepEval.{evalStarted}
 use borrow.Author.Needs.{needs}
 use Rattle.steps.proofs.eval.eval_started.Statement.{statement}
@@ -23,6 +23,9 @@ hand-requires c κs = search needs
 move-first-requires : tie.Need-move-first-requires
 move-first-requires c κs = search needs
 
+asks-for-requires : tie.Need-asks-for-requires
+asks-for-requires c κs = search needs
+
 same-length : tie.Need-same-length
 same-length c = search needs
 
@@ -32,13 +35,15 @@ same-length-2 c = search needs
 returns : tie.Need-returns
 unfolding evalStarted
 returns c =
-    let e1 = c .before .before .before .before .before .before .before .before .before .before .deadline .ensures in
-    let e2 = c .before .before .before .before .before .before .before .before .actor-at .ensures in
-    let e3 = c .before .before .before .before .before .before .before .running .ensures in
-    let e4 = c .before .before .before .before .before .put-actor .ensures in
-    let e5 = c .before .before .before .hand .ensures in
-    let e6 = c .before .move-first .ensures in
-    simp (e1, e2, e3, e4, e5, e6)
+    let e1 = c .before .before .before .before .before .before .before .before .before .before
+    .before .deadline .ensures in
+    let e2 = c .before .before .before .before .before .before .before .before .before .actor-at .ensures in
+    let e3 = c .before .before .before .before .before .before .before .before .running .ensures in
+    let e4 = c .before .before .before .before .before .before .put-actor .ensures in
+    let e5 = c .before .before .before .before .hand .ensures in
+    let e6 = c .before .before .move-first .ensures in
+    let e7 = c .asks-for .ensures in
+    simp (e1, e2, e3, e4, e5, e6, e7)
 
 pub eval-started-spec : {M : Type 1} → statement M
 eval-started-spec =
@@ -50,6 +55,7 @@ eval-started-spec =
     put-actor-requires
     hand-requires
     move-first-requires
+    asks-for-requires
     same-length
     same-length-2
     returns)

@@ -1,5 +1,6 @@
--- `fixed::fixed_start` meets its contract: each way out follows from what the calls ensured and the tests said. Mechanical
--- answers, as tools/answers.py writes them. Assumes nothing.
+-- `fixed::fixed_start` meets its contract: each way out follows from what the calls ensured and the tests said.
+-- Mechanical answers, as tools/answers.py writes them. Assumes nothing.
+use Rattle.steps.specs.Words.{fixedKindOf}
 use Rattle.steps.specs.StepFixed.{fixedStart}
 use borrow.Author.Needs.{needs}
 use Rattle.steps.proofs.fixed.fixed_start.Statement.{statement}
@@ -18,24 +19,24 @@ same-length : tie.Need-same-length
 same-length c = search needs
 
 returns : tie.Need-returns
-unfolding fixedStart
+unfolding fixedStart fixedKindOf
 returns c =
     let e1 = c .before .before .before .before .before .actor-at .ensures in
     let e2 = c .before .before .before .before .started .ensures in
     let e3 = c .before .before .put-actor .ensures in
-    let h1 = simp (e1, e2, e3) at (c .if1 .taken) in
+    let h1 = simp (e1) at (c .if1 .taken) in
     simp (e1, e2, e3, h1)
 
 same-length-2 : tie.Need-same-length-2
 same-length-2 c = search needs
 
 returns-2 : tie.Need-returns-2
-unfolding fixedStart
+unfolding fixedStart fixedKindOf
 returns-2 c =
     let e1 = c .before .before .before .before .before .actor-at .ensures in
     let e2 = c .before .before .before .before .started .ensures in
     let e3 = c .before .before .put-actor .ensures in
-    let h1 = simp (e1, e2, e3) at (c .if1 .left) in
+    let h1 = simp (e1) at (c .if1 .left) in
     simp (e1, e2, e3, h1)
 
 pub fixed-start-spec : {M : Type 1} → statement M

@@ -1,5 +1,5 @@
--- `fixed::push_reply` meets its contract: each way out follows from what the calls ensured and the tests said. Mechanical
--- answers, as tools/answers.py writes them. Assumes nothing.
+-- `fixed::push_reply` meets its contract: each way out follows from what the calls ensured and the tests said.
+-- Mechanical answers, as tools/answers.py writes them. Assumes nothing.
 use Rattle.steps.specs.StepFixed.{pushReply}
 use borrow.Author.Needs.{needs}
 use Rattle.steps.proofs.fixed.push_reply.Statement.{statement}
@@ -23,6 +23,9 @@ fixed-pushed-requires-2 c κs = search needs
 enum-told-3 : tie.Need-enum-told-3
 enum-told-3 c = search needs
 
+asks-requires : tie.Need-asks-requires
+asks-requires c κs = search needs
+
 same-length : tie.Need-same-length
 same-length c = search needs
 
@@ -35,7 +38,7 @@ returns c =
     let e1 = c .before .before .before .before .before .before .before .yes-in .ensures in
     let h1 = simp (e1) at (c .before .before .before .before .before .enum-told .given .1) in
     let e2 = c .before .before .fixed-pushed .ensures in
-    simp (e1, e2, h1)
+    simp (h1) e2
 
 same-length-3 : tie.Need-same-length-3
 same-length-3 c = search needs
@@ -49,14 +52,15 @@ returns-2 c =
     let e1 = c .before .before .before .before .before .before .before .yes-in .ensures in
     let h1 = simp (e1) at (c .before .before .before .before .before .enum-told2 .given .1) in
     let e2 = c .before .before .fixed-pushed2 .ensures in
-    simp (e1, e2, h1)
+    simp (h1) e2
 
 returns-3 : tie.Need-returns-3
 unfolding pushReply
 returns-3 c =
-    let e1 = c .before .before .yes-in .ensures in
-    let h1 = simp (e1) at (c .enum-told3 .given .1) in
-    simp (e1, h1)
+    let e1 = c .before .before .before .yes-in .ensures in
+    let h1 = simp (e1) at (c .before .enum-told3 .given .1) in
+    let e2 = c .asks .ensures in
+    simp (e2, h1)
 
 pub push-reply-spec : {M : Type 1} → statement M
 push-reply-spec =
@@ -68,6 +72,7 @@ push-reply-spec =
     enum-told-2
     fixed-pushed-requires-2
     enum-told-3
+    asks-requires
     same-length
     same-length-2
     returns

@@ -1,5 +1,5 @@
--- `fixed::run_reply` meets its contract: each way out follows from what the calls ensured and the tests said. Mechanical
--- answers, as tools/answers.py writes them. Assumes nothing.
+-- `fixed::run_reply` meets its contract: each way out follows from what the calls ensured and the tests said. Assumes
+-- nothing.
 use Rattle.steps.specs.StepFixed.{runReply}
 use borrow.Author.Needs.{needs}
 use Rattle.steps.proofs.fixed.run_reply.Statement.{statement}
@@ -17,6 +17,9 @@ fixed-ran-requires c κs = search needs
 enum-told : tie.Need-enum-told
 enum-told c = search needs
 
+asks-run-requires : tie.Need-asks-run-requires
+asks-run-requires c κs = search needs
+
 same-length : tie.Need-same-length
 same-length c = search needs
 
@@ -26,14 +29,15 @@ returns c =
     let e1 = c .before .before .before .before .before .before .ran-in .ensures in
     let h1 = simp (e1) at (c .before .before .before .before .came .given .1) in
     let e2 = c .before .fixed-ran .ensures in
-    simp (e1, e2, h1)
+    simp (h1) e2
 
 returns-2 : tie.Need-returns-2
 unfolding runReply
 returns-2 c =
-    let e1 = c .before .before .ran-in .ensures in
-    let h1 = simp (e1) at (c .enum-told .given .1) in
-    simp (e1, h1)
+    let e1 = c .before .before .before .ran-in .ensures in
+    let h1 = simp (e1) at (c .before .enum-told .given .1) in
+    let e2 = c .asks-run .ensures in
+    simp (e2, h1)
 
 pub run-reply-spec : {M : Type 1} → statement M
 run-reply-spec =
@@ -43,6 +47,7 @@ run-reply-spec =
     enum-known-came
     fixed-ran-requires
     enum-told
+    asks-run-requires
     same-length
     returns
     returns-2)

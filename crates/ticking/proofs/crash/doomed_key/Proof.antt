@@ -45,6 +45,9 @@ hand-requires c κs = search needs
 crashed-first-requires : tie.Need-crashed-first-requires
 crashed-first-requires c κs = search needs
 
+doomed-requires : tie.Need-doomed-requires
+doomed-requires c κs = search needs
+
 same-length : tie.Need-same-length
 same-length c = search needs
 
@@ -57,22 +60,23 @@ same-length-3 c = search needs
 returns : tie.Need-returns
 unfolding doomedKey
 returns c =
-    let e1 = c .before .before .before .before .before .before .before .before .before .before .before .before .before .before .before .before .before .before .before .before .slot-at .ensures in
-    let e2 = c .before .before .before .before .before .before .before .before .before .before .before .before .before .before .before .before .before .before .remove-key .ensures in
-    let e3 = c .before .before .before .before .before .before .before .before .before .before .before .before .before .before .before .before .mailbox .ensures in
-    let e4 = c .before .before .before .before .before .before .before .before .before .before .before .before .before .before .length-of .ensures in
-    let e5 = c .before .before .before .before .before .before .before .before .before .before .before .before .move-all .ensures in
-    let e6 = c .before .before .before .before .before .before .before .before .before .length-of2 .ensures in
-    let e7 = c .before .before .before .before .before .before .before .before .sum .ensures in
-    let e8 = c .before .before .before .before .before .before .before .less .ensures in
-    let e9 = c .before .before .before .before .before .before .sum2 .ensures in
-    let e10 = c .before .before .before .before .before .hand .ensures in
-    let e11 = c .before .before .crashed-first .ensures in
+    let e1 = c .before .before .before .before .before .before .before .before .before .before .before .before .before .before .before .before .before .before .before .before .before .slot-at .ensures in
+    let e2 = c .before .before .before .before .before .before .before .before .before .before .before .before .before .before .before .before .before .before .before .remove-key .ensures in
+    let e3 = c .before .before .before .before .before .before .before .before .before .before .before .before .before .before .before .before .before .mailbox .ensures in
+    let e4 = c .before .before .before .before .before .before .before .before .before .before .before .before .before .before .before .length-of .ensures in
+    let e5 = c .before .before .before .before .before .before .before .before .before .before .before .before .before .move-all .ensures in
+    let e6 = c .before .before .before .before .before .before .before .before .before .before .length-of2 .ensures in
+    let e7 = c .before .before .before .before .before .before .before .before .before .sum .ensures in
+    let e8 = c .before .before .before .before .before .before .before .before .less .ensures in
+    let e9 = c .before .before .before .before .before .before .before .sum2 .ensures in
+    let e10 = c .before .before .before .before .before .before .hand .ensures in
+    let e11 = c .before .before .before .crashed-first .ensures in
     let links = simp (e1, e3) at e5 in
     let hand = simp (e1) at e10 in
     let fewer = simp (e1, e3, e4, e6, e7, links) at e8 in
     let dying = rw (links, hand) at e11 in
-    simp (e2, fewer, e9) (ap (doomedFrom _ _ _ _) dying)
+    let m1 = c .doomed .ensures in
+    simp (m1, e2, fewer, e9) (ap (doomedFrom _ _ _ _) dying)
 
 pub doomed-key-spec : {M : Type 1} → statement M
 doomed-key-spec =
@@ -89,6 +93,7 @@ doomed-key-spec =
     sum-requires-2
     hand-requires
     crashed-first-requires
+    doomed-requires
     same-length
     same-length-2
     same-length-3

@@ -28,6 +28,9 @@ ready-after-requires c κs = search needs
 enum-told-3 : tie.Need-enum-told-3
 enum-told-3 c = search needs
 
+trap-requires : tie.Need-trap-requires
+trap-requires c κs = search needs
+
 same-length : tie.Need-same-length
 same-length c = search needs
 
@@ -52,9 +55,10 @@ returns-2 c =
 returns-3 : tie.Need-returns-3
 unfolding trapReply
 returns-3 c =
-    let e1 = c .before .before .yes-in .ensures in
-    let h1 = simp (e1) at (c .enum-told3 .given .1) in
-    simp (h1)
+    let e1 = c .before .before .before .yes-in .ensures in
+    let h1 = simp (e1) at (c .before .enum-told3 .given .1) in
+    let m1 = c .trap .ensures in
+    simp (m1, h1)
 
 pub trap-reply-spec : {M : Type 1} → statement M
 trap-reply-spec =
@@ -68,6 +72,7 @@ trap-reply-spec =
     enum-told-2
     ready-after-requires
     enum-told-3
+    trap-requires
     same-length
     returns
     returns-2

@@ -16,26 +16,34 @@ next-key-requires c κs = search needs
 enum-known-key : tie.Need-enum-known-key
 enum-known-key c = search needs
 
+trapped-requires : tie.Need-trapped-requires
+trapped-requires c κs = search needs
+
 enum-told : tie.Need-enum-told
 enum-told c = search needs
+
+doomed-requires : tie.Need-doomed-requires
+doomed-requires c κs = search needs
 
 returns : tie.Need-returns
 unfolding trappedNext
 returns c =
-    let e1 = c .before .before .before .before .before .slab-row .ensures in
-    let e2 = c .before .before .before .before .keys-at .ensures in
-    let e3 = c .before .before .before .next-key .ensures in
-    let h1 = simp (e1, e2, e3) at (c .before .key .given .1) in
-    simp (h1)
+    let e1 = c .before .before .before .before .before .before .slab-row .ensures in
+    let e2 = c .before .before .before .before .before .keys-at .ensures in
+    let e3 = c .before .before .before .before .next-key .ensures in
+    let h1 = simp (e1, e2, e3) at (c .before .before .key .given .1) in
+    let m1 = c .trapped .ensures in
+    simp (m1, h1)
 
 returns-2 : tie.Need-returns-2
 unfolding trappedNext
 returns-2 c =
-    let e1 = c .before .before .before .before .slab-row .ensures in
-    let e2 = c .before .before .before .keys-at .ensures in
-    let e3 = c .before .before .next-key .ensures in
-    let h1 = simp (e1, e2, e3) at (c .enum-told .given .1) in
-    simp (h1)
+    let e1 = c .before .before .before .before .before .slab-row .ensures in
+    let e2 = c .before .before .before .before .keys-at .ensures in
+    let e3 = c .before .before .before .next-key .ensures in
+    let h1 = simp (e1, e2, e3) at (c .before .enum-told .given .1) in
+    let m1 = c .doomed .ensures in
+    simp (m1, h1)
 
 pub trapped-next-spec : {M : Type 1} → statement M
 trapped-next-spec =
@@ -45,6 +53,8 @@ trapped-next-spec =
     keys-at-requires
     next-key-requires
     enum-known-key
+    trapped-requires
     enum-told
+    doomed-requires
     returns
     returns-2)

@@ -28,6 +28,9 @@ trapped-next-requires-2 c κs = search needs
 enum-told-3 : tie.Need-enum-told-3
 enum-told-3 c = search needs
 
+trapped-requires : tie.Need-trapped-requires
+trapped-requires c κs = search needs
+
 same-length : tie.Need-same-length
 same-length c = search needs
 
@@ -56,9 +59,10 @@ returns-2 c =
 returns-3 : tie.Need-returns-3
 unfolding trappedReply
 returns-3 c =
-    let e1 = c .before .before .before .yes-in .ensures in
-    let h1 = simp (e1) at (c .enum-told3 .given .1) in
-    simp (h1)
+    let e1 = c .before .before .before .before .yes-in .ensures in
+    let h1 = simp (e1) at (c .before .enum-told3 .given .1) in
+    let m1 = c .trapped .ensures in
+    simp (m1, h1)
 
 pub trapped-reply-spec : {M : Type 1} → statement M
 trapped-reply-spec =
@@ -72,6 +76,7 @@ trapped-reply-spec =
     enum-told-2
     trapped-next-requires-2
     enum-told-3
+    trapped-requires
     same-length
     returns
     same-length-2

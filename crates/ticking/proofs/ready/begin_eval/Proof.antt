@@ -20,10 +20,16 @@ same-length-2 c = search needs
 returns : tie.Need-returns
 unfolding beginEval
 returns c =
-    let e1 = c .before .before .before .eval-start .ensures in
+    let e1 = c .before .before .before .before .eval-start .ensures in
     let e2 = c .eval-after .ensures in
     simp (e2) (ap (startedEval _) e1)
 
 pub begin-eval-spec : {M : Type 1} → statement M
 begin-eval-spec =
-    tie.close (tie.spec eval-start-requires eval-after-requires same-length same-length-2 returns)
+    tie.close
+    (tie.spec
+    eval-start-requires
+    eval-after-requires
+    same-length
+    same-length-2
+    returns)

@@ -8,12 +8,23 @@ use Rattle.ticking.proofs.ready.begin_fixed.Tie as tie
 fixed-start-requires : tie.Need-fixed-start-requires
 fixed-start-requires c κs = search needs
 
+fixed-requires : tie.Need-fixed-requires
+fixed-requires c κs = search needs
+
 same-length : tie.Need-same-length
 same-length c = search needs
 
 returns : tie.Need-returns
 unfolding beginFixed
-returns c = ap (startedFixed _) (c .before .fixed-start .ensures)
+returns c =
+    let m1 = c .fixed .ensures in
+    simp (m1) (ap (startedFixed _) (c .before .before .fixed-start .ensures))
 
 pub begin-fixed-spec : {M : Type 1} → statement M
-begin-fixed-spec = tie.close (tie.spec fixed-start-requires same-length returns)
+begin-fixed-spec =
+    tie.close
+    (tie.spec
+    fixed-start-requires
+    fixed-requires
+    same-length
+    returns)

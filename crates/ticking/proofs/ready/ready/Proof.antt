@@ -9,12 +9,16 @@ use Rattle.ticking.proofs.ready.ready.Tie as tie
 next-group-requires : tie.Need-next-group-requires
 next-group-requires c κs = search needs
 
+wake-requires : tie.Need-wake-requires
+wake-requires c κs = search needs
+
 returns : tie.Need-returns
 unfolding readyOf
 returns c =
-    let e1 = c .before .next-group .ensures in
-    let h1 = eq-eqb _ _ (c .if1 .taken) in
-    simp (e1, h1)
+    let e1 = c .before .before .next-group .ensures in
+    let h1 = eq-eqb _ _ (c .before .if1 .taken) in
+    let m1 = c .wake .ensures in
+    simp (m1, e1, h1)
 
 ready-row-requires : tie.Need-ready-row-requires
 ready-row-requires c κs = search needs
@@ -42,6 +46,9 @@ ready-key-requires c κs = search needs
 
 enum-told : tie.Need-enum-told
 enum-told c = search needs
+
+wake-requires-2 : tie.Need-wake-requires-2
+wake-requires-2 c κs = search needs
 
 same-length : tie.Need-same-length
 same-length c = search needs
@@ -73,19 +80,21 @@ same-length-4 c = search needs
 returns-3 : tie.Need-returns-3
 unfolding readyOf
 returns-3 c =
-    let e1 = c .before .before .before .before .before .before .before .next-group .ensures in
-    let h1 = ne-eqb _ _ (c .before .before .before .before .before .before .if1 .left) in
-    let e2 = c .before .before .before .before .before .ready-row .ensures in
-    let e3 = c .before .before .before .keys-at .ensures in
-    let e4 = c .before .before .front .ensures in
-    let h2 = simp (e2, e3, e4) at (c .enum-told .given .1) in
-    simp (e1, h1, h2)
+    let e1 = c .before .before .before .before .before .before .before .before .next-group .ensures in
+    let h1 = ne-eqb _ _ (c .before .before .before .before .before .before .before .if1 .left) in
+    let e2 = c .before .before .before .before .before .before .ready-row .ensures in
+    let e3 = c .before .before .before .before .keys-at .ensures in
+    let e4 = c .before .before .before .front .ensures in
+    let h2 = simp (e2, e3, e4) at (c .before .enum-told .given .1) in
+    let m1 = c .wake2 .ensures in
+    simp (m1, e1, h1, h2)
 
 pub ready-spec : {M : Type 1} → statement M
 ready-spec =
     tie.close
     (tie.spec
     next-group-requires
+    wake-requires
     returns
     ready-row-requires
     keys-at-requires
@@ -96,6 +105,7 @@ ready-spec =
     less-requires
     ready-key-requires
     enum-told
+    wake-requires-2
     same-length
     same-length-2
     same-length-3

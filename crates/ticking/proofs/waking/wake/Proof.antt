@@ -5,18 +5,26 @@ use borrow.Author.Needs.{needs}
 use Rattle.ticking.proofs.waking.wake.Statement.{statement}
 use Rattle.ticking.proofs.waking.wake.Tie as tie
 
+rest-requires : tie.Need-rest-requires
+rest-requires c κs = search needs
+
 returns : tie.Need-returns
 unfolding wakeOf
 returns c =
-    let h1 = le-leb _ _ (c .if1 .taken) in
-    simp (h1)
+    let h1 = le-leb _ _ (c .before .if1 .taken) in
+    let m1 = c .rest .ensures in
+    simp (m1, h1)
+
+rest-requires-2 : tie.Need-rest-requires-2
+rest-requires-2 c κs = search needs
 
 returns-2 : tie.Need-returns-2
 unfolding wakeOf
 returns-2 c =
-    let h1 = lt-leb _ _ (c .before .if1 .left) in
-    let h2 = le-leb _ _ (c .if2 .taken) in
-    simp (h1, h2)
+    let h1 = lt-leb _ _ (c .before .before .if1 .left) in
+    let h2 = le-leb _ _ (c .before .if2 .taken) in
+    let m1 = c .rest2 .ensures in
+    simp (m1, h1, h2)
 
 waiting-row-requires : tie.Need-waiting-row-requires
 waiting-row-requires c κs = search needs
@@ -42,28 +50,34 @@ put-keys-requires-2 c κs = search needs
 at-most-64-requires : tie.Need-at-most-64-requires
 at-most-64-requires c κs = search needs
 
+wake-next-requires : tie.Need-wake-next-requires
+wake-next-requires c κs = search needs
+
 same-length : tie.Need-same-length
 same-length c = search needs
 
 returns-3 : tie.Need-returns-3
 unfolding wakeOf
 returns-3 c =
-    let h1 = lt-leb _ _ (c .before .before .before .before .before .before .before .before .before .before .before .before .before .if1 .left) in
-    let h2 = lt-leb _ _ (c .before .before .before .before .before .before .before .before .before .before .before .before .if2 .left) in
-    let e1 = c .before .before .before .before .before .before .before .before .before .before .before .waiting-row .ensures in
-    let e2 = c .before .before .before .before .before .before .before .before .before .keys-at .ensures in
-    let e3 = c .before .before .before .before .before .before .before .before .count .ensures in
-    let e4 = c .before .before .before .before .before .before .put-keys .ensures in
-    let e5 = c .before .before .before .before .empty .ensures in
-    let e6 = c .before .before .put-keys2 .ensures in
-    let e7 = c .at-most-64 .ensures in
-    simp (e1, e2, e3, e4, e5, e6, e7, h1, h2)
+    let h1 = lt-leb _ _ (c .before .before .before .before .before .before .before .before .before .before .before .before .before .before .if1 .left) in
+    let h2 = lt-leb _ _ (c .before .before .before .before .before .before .before .before .before .before .before .before .before .if2 .left) in
+    let e1 = c .before .before .before .before .before .before .before .before .before .before .before .before .waiting-row .ensures in
+    let e2 = c .before .before .before .before .before .before .before .before .before .before .keys-at .ensures in
+    let e3 = c .before .before .before .before .before .before .before .before .before .count .ensures in
+    let e4 = c .before .before .before .before .before .before .before .put-keys .ensures in
+    let e5 = c .before .before .before .before .before .empty .ensures in
+    let e6 = c .before .before .before .put-keys2 .ensures in
+    let e7 = c .before .at-most-64 .ensures in
+    let m1 = c .wake-next .ensures in
+    simp (m1, e1, e2, e3, e4, e5, e6, e7, h1, h2)
 
 pub wake-spec : {M : Type 1} → statement M
 wake-spec =
     tie.close
     (tie.spec
+    rest-requires
     returns
+    rest-requires-2
     returns-2
     waiting-row-requires
     keys-at-requires
@@ -73,5 +87,6 @@ wake-spec =
     empty-requires
     put-keys-requires-2
     at-most-64-requires
+    wake-next-requires
     same-length
     returns-3)

@@ -21,18 +21,22 @@ cast-n c = search needs
 at-most-64-requires : tie.Need-at-most-64-requires
 at-most-64-requires c κs = search needs
 
+ready-requires : tie.Need-ready-requires
+ready-requires c κs = search needs
+
 same-length : tie.Need-same-length
 same-length c = search needs
 
 returns : tie.Need-returns
 unfolding wakeNext
 returns c =
-    let e1 = c .before .before .before .before .ready-row .ensures in
-    let e2 = c .before .before .before .keys-at .ensures in
-    let e3 = c .before .before .count .ensures in
-    let e4 = c .before .at-most-64 .ensures in
-    let h1 = eq-eqb _ _ (c .if1 .taken) in
-    simp (e1, e2, e3, e4, h1)
+    let e1 = c .before .before .before .before .before .ready-row .ensures in
+    let e2 = c .before .before .before .before .keys-at .ensures in
+    let e3 = c .before .before .before .count .ensures in
+    let e4 = c .before .before .at-most-64 .ensures in
+    let h1 = eq-eqb _ _ (c .before .if1 .taken) in
+    let m1 = c .ready .ensures in
+    simp (m1, e1, e2, e3, e4, h1)
 
 keys-at-requires-2 : tie.Need-keys-at-requires-2
 keys-at-requires-2 c κs = search needs
@@ -57,6 +61,9 @@ wake-one-requires c κs = search needs
 
 enum-told : tie.Need-enum-told
 enum-told c = search needs
+
+ready-requires-2 : tie.Need-ready-requires-2
+ready-requires-2 c κs = search needs
 
 same-length-2 : tie.Need-same-length-2
 same-length-2 c = search needs
@@ -84,15 +91,16 @@ same-length-4 c = search needs
 returns-3 : tie.Need-returns-3
 unfolding wakeNext
 returns-3 c =
-    let e1 = c .before .before .before .before .before .before .before .before .before .ready-row .ensures in
-    let e2 = c .before .before .before .before .before .before .before .before .keys-at .ensures in
-    let e3 = c .before .before .before .before .before .before .before .count .ensures in
-    let e4 = c .before .before .before .before .before .before .at-most-64 .ensures in
-    let h1 = ne-eqb _ _ (c .before .before .before .before .before .if1 .left) in
-    let e5 = c .before .before .before .keys-at2 .ensures in
-    let e6 = c .before .before .front .ensures in
-    let h2 = simp (e5, e6) at (c .enum-told .given .1) in
-    simp (e1, e2, e3, e4, h1, h2)
+    let e1 = c .before .before .before .before .before .before .before .before .before .before .ready-row .ensures in
+    let e2 = c .before .before .before .before .before .before .before .before .before .keys-at .ensures in
+    let e3 = c .before .before .before .before .before .before .before .before .count .ensures in
+    let e4 = c .before .before .before .before .before .before .before .at-most-64 .ensures in
+    let h1 = ne-eqb _ _ (c .before .before .before .before .before .before .if1 .left) in
+    let e5 = c .before .before .before .before .keys-at2 .ensures in
+    let e6 = c .before .before .before .front .ensures in
+    let h2 = simp (e5, e6) at (c .before .enum-told .given .1) in
+    let m1 = c .ready2 .ensures in
+    simp (m1, e1, e2, e3, e4, h1, h2)
 
 pub wake-next-spec : {M : Type 1} → statement M
 wake-next-spec =
@@ -103,6 +111,7 @@ wake-next-spec =
     count-requires
     cast-n
     at-most-64-requires
+    ready-requires
     same-length
     returns
     keys-at-requires-2
@@ -113,6 +122,7 @@ wake-next-spec =
     less-requires
     wake-one-requires
     enum-told
+    ready-requires-2
     same-length-2
     same-length-3
     returns-2

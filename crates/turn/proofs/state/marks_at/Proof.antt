@@ -1,7 +1,11 @@
+-- `state::marks_at` meets its contract: by its calls and its tests. Assumes nothing.
 use Rattle.turn.specs.State.{marksAt}
 use borrow.Author.Needs.{needs}
 use Rattle.turn.proofs.state.marks_at.Statement.{statement}
 use Rattle.turn.proofs.state.marks_at.Tie as tie
+
+point-kind-requires : tie.Need-point-kind-requires
+point-kind-requires c κs = search needs
 
 enum-told : tie.Need-enum-told
 enum-told c = search needs
@@ -36,76 +40,98 @@ enum-told-10 c = search needs
 enum-told-11 : tie.Need-enum-told-11
 enum-told-11 c = search needs
 
+enum-told-12 : tie.Need-enum-told-12
+enum-told-12 c = search needs
+
 returns : tie.Need-returns
 unfolding marksAt
 returns c =
-    let h1 = c .enum-told .given .1 in
+    let e1 = c .before .before .point-kind .ensures in
+    let h1 = simp (e1) at (c .enum-told .given .1) in
     simp (h1)
 
 returns-2 : tie.Need-returns-2
 unfolding marksAt
 returns-2 c =
-    let h1 = c .enum-told2 .given .1 in
+    let e1 = c .before .before .point-kind .ensures in
+    let h1 = simp (e1) at (c .enum-told2 .given .1) in
     simp (h1)
 
 returns-3 : tie.Need-returns-3
 unfolding marksAt
 returns-3 c =
-    let h1 = c .enum-told3 .given .1 in
+    let e1 = c .before .before .point-kind .ensures in
+    let h1 = simp (e1) at (c .enum-told3 .given .1) in
     simp (h1)
 
 returns-4 : tie.Need-returns-4
 unfolding marksAt
 returns-4 c =
-    let h1 = c .enum-told4 .given .1 in
+    let e1 = c .before .before .point-kind .ensures in
+    let h1 = simp (e1) at (c .enum-told4 .given .1) in
     simp (h1)
 
 returns-5 : tie.Need-returns-5
 unfolding marksAt
 returns-5 c =
-    let h1 = c .enum-told5 .given .1 in
+    let e1 = c .before .before .point-kind .ensures in
+    let h1 = simp (e1) at (c .enum-told5 .given .1) in
     simp (h1)
 
 returns-6 : tie.Need-returns-6
 unfolding marksAt
 returns-6 c =
-    let h1 = c .enum-told6 .given .1 in
+    let e1 = c .before .before .point-kind .ensures in
+    let h1 = simp (e1) at (c .enum-told6 .given .1) in
     simp (h1)
 
 returns-7 : tie.Need-returns-7
 unfolding marksAt
 returns-7 c =
-    let h1 = c .enum-told7 .given .1 in
+    let e1 = c .before .before .point-kind .ensures in
+    let h1 = simp (e1) at (c .enum-told7 .given .1) in
     simp (h1)
 
 returns-8 : tie.Need-returns-8
 unfolding marksAt
 returns-8 c =
-    let h1 = c .enum-told8 .given .1 in
+    let e1 = c .before .before .point-kind .ensures in
+    let h1 = simp (e1) at (c .enum-told8 .given .1) in
     simp (h1)
 
 returns-9 : tie.Need-returns-9
 unfolding marksAt
 returns-9 c =
-    let h1 = c .enum-told9 .given .1 in
+    let e1 = c .before .before .point-kind .ensures in
+    let h1 = simp (e1) at (c .enum-told9 .given .1) in
     simp (h1)
 
 returns-10 : tie.Need-returns-10
 unfolding marksAt
 returns-10 c =
-    let h1 = c .enum-told10 .given .1 in
+    let e1 = c .before .before .point-kind .ensures in
+    let h1 = simp (e1) at (c .enum-told10 .given .1) in
     simp (h1)
 
 returns-11 : tie.Need-returns-11
 unfolding marksAt
 returns-11 c =
-    let h1 = c .enum-told11 .given .1 in
+    let e1 = c .before .before .point-kind .ensures in
+    let h1 = simp (e1) at (c .enum-told11 .given .1) in
+    simp (h1)
+
+returns-12 : tie.Need-returns-12
+unfolding marksAt
+returns-12 c =
+    let e1 = c .before .before .point-kind .ensures in
+    let h1 = simp (e1) at (c .enum-told12 .given .1) in
     simp (h1)
 
 pub marks-at-spec : {M : Type 1} → statement M
 marks-at-spec =
     tie.close
     (tie.spec
+    point-kind-requires
     enum-told
     enum-told-2
     enum-told-3
@@ -117,6 +143,7 @@ marks-at-spec =
     enum-told-9
     enum-told-10
     enum-told-11
+    enum-told-12
     returns
     returns-2
     returns-3
@@ -127,4 +154,5 @@ marks-at-spec =
     returns-8
     returns-9
     returns-10
-    returns-11)
+    returns-11
+    returns-12)

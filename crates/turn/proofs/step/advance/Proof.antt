@@ -1,6 +1,7 @@
 -- `step::advance` meets its contract: each step keeps the turn's end, by the definition's fuel, and lowers the weight. Assumes nothing.
 use mathlib.Core.Path.{_≡_, refl, sym, _∙_}
 use lib.ListN.{length}
+use Rattle.turn.specs.Words.{poolOf}
 use Rattle.turn.specs.Step.{advanced}
 use Rattle.turn.specs.Weight.{weightOf}
 use Rattle.turn.proofs.Advance.{fell, stepped, advanced-stop}
@@ -9,19 +10,39 @@ use Rattle.turn.proofs.step.advance.Statement.{statement}
 use Rattle.turn.proofs.step.advance.Tie as tie
 
 abbrev Inv-loop : tie.InvT-loop
-Inv-loop store groups log₀ records₀ links₀ rows₀ lists₀ actors₀ p₀ log records links rows lists actors p =
+Inv-loop cells₀ store groups log₀ records₀ links₀ rows₀ lists₀ actors₀ cells log records links rows lists actors =
     (length log ≡ length log₀) ×
     (length records ≡ length records₀) ×
     (length links ≡ length links₀) ×
     (length rows ≡ length rows₀) ×
     (length lists ≡ length lists₀) ×
     (length actors ≡ length actors₀) ×
-    (advanced (record { pool = p; bytes = log; records = records; store = store; groups = groups; links = links; rows = rows; keys = lists; actors = actors })
-    ≡ advanced (record { pool = p₀; bytes = log₀; records = records₀; store = store; groups = groups; links = links₀; rows = rows₀; keys = lists₀; actors = actors₀ }))
+    (advanced (record {
+      pool = poolOf cells;
+      bytes = log;
+      records = records;
+      store = store;
+      groups = groups;
+      links = links;
+      rows = rows;
+      keys = lists;
+      actors = actors;
+    })
+    ≡ advanced (record {
+      pool = poolOf cells₀;
+      bytes = log₀;
+      records = records₀;
+      store = store;
+      groups = groups;
+      links = links₀;
+      rows = rows₀;
+      keys = lists₀;
+      actors = actors₀;
+    }))
 
 abbrev μ-loop : tie.MeasureT-loop
-μ-loop store groups log₀ records₀ links₀ rows₀ lists₀ actors₀ p₀ log records links rows lists actors p =
-    weightOf (p .turn)
+μ-loop cells₀ store groups log₀ records₀ links₀ rows₀ lists₀ actors₀ cells log records links rows lists actors =
+    weightOf (poolOf cells .turn)
 
 loop-holds : tie.Need-loop-holds Inv-loop μ-loop
 loop-holds c = (refl, refl, refl, refl, refl, refl, refl)
@@ -34,14 +55,14 @@ step-requires c κs = search needs
 
 loop-less : tie.Need-loop-less Inv-loop μ-loop
 loop-less c =
-    let run = sym (c .before .before .before .before .before .before .before .before .before .before .before .before .before .before .before .running .ensures) ∙ c .before .before .before .before .before .before .before .before .before .before .before .before .before .before .if1 .taken in
+    let run = sym (c .before .before .before .before .before .before .before .before .before .before .before .before .before .before .before .before .running .ensures) ∙ c .before .before .before .before .before .before .before .before .before .before .before .before .before .before .before .if1 .taken in
     fell _ _ (c .before .before .before .before .before .before .before .step .ensures) run
 
 loop-again : tie.Need-loop-again Inv-loop μ-loop
 loop-again c =
-    let l = c .before .before .before .before .before .before .before .before .before .before .before .before .before .before .before .before .loop .inv in
+    let l = c .before .before .before .before .before .before .before .before .before .before .before .before .before .before .before .before .before .before .loop .inv in
     let kept = c .before .before .before .before .before .before .before .step .kept .1 .1 .1 in
-    let run = sym (c .before .before .before .before .before .before .before .before .before .before .before .before .before .before .before .running .ensures) ∙ c .before .before .before .before .before .before .before .before .before .before .before .before .before .before .if1 .taken in (
+    let run = sym (c .before .before .before .before .before .before .before .before .before .before .before .before .before .before .before .before .running .ensures) ∙ c .before .before .before .before .before .before .before .before .before .before .before .before .before .before .before .if1 .taken in (
       kept .0 ∙ l .0,
       kept .1 .0 ∙ l .1,
       kept .1 .1 .0 ∙ l .2,
@@ -52,27 +73,27 @@ loop-again c =
     )
 
 same-length : tie.Need-same-length Inv-loop μ-loop
-same-length c = c .before .before .loop .inv .0
+same-length c = c .before .before .before .loop .inv .0
 
 same-length-2 : tie.Need-same-length-2 Inv-loop μ-loop
-same-length-2 c = c .before .before .loop .inv .1
+same-length-2 c = c .before .before .before .loop .inv .1
 
 same-length-3 : tie.Need-same-length-3 Inv-loop μ-loop
-same-length-3 c = c .before .before .loop .inv .2
+same-length-3 c = c .before .before .before .loop .inv .2
 
 same-length-4 : tie.Need-same-length-4 Inv-loop μ-loop
-same-length-4 c = c .before .before .loop .inv .3
+same-length-4 c = c .before .before .before .loop .inv .3
 
 same-length-5 : tie.Need-same-length-5 Inv-loop μ-loop
-same-length-5 c = c .before .before .loop .inv .4
+same-length-5 c = c .before .before .before .loop .inv .4
 
 same-length-6 : tie.Need-same-length-6 Inv-loop μ-loop
-same-length-6 c = c .before .before .loop .inv .5
+same-length-6 c = c .before .before .before .loop .inv .5
 
 returns : tie.Need-returns Inv-loop μ-loop
 returns c =
     let stop = sym (c .before .running .ensures) ∙ c .if1 .left in
-    sym (advanced-stop _ stop) ∙ c .before .before .loop .inv .6
+    sym (advanced-stop _ stop) ∙ c .before .before .before .loop .inv .6
 
 pub advance-spec : {M : Type 1} → statement M
 advance-spec =

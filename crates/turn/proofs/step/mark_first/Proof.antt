@@ -1,6 +1,6 @@
 -- `step::mark_first` meets its contract: by its calls and its tests. Assumes nothing.
-use Rattle.turn.specs.Step.{markFirst}
 use Rattle.turn.specs.Step.{markLogged}
+use Rattle.turn.specs.Step.{markFirst}
 use borrow.Author.Needs.{needs}
 use Rattle.turn.proofs.step.mark_first.Statement.{statement}
 use Rattle.turn.proofs.step.mark_first.Tie as tie
@@ -20,14 +20,8 @@ move-first-requires c κs = search needs
 enum-known-id : tie.Need-enum-known-id
 enum-known-id c = search needs
 
-counters-of-requires : tie.Need-counters-of-requires
-counters-of-requires c κs = search needs
-
-mark-id-requires : tie.Need-mark-id-requires
-mark-id-requires c κs = search needs
-
-with-disk-requires : tie.Need-with-disk-requires
-with-disk-requires c κs = search needs
+mark-logged-requires : tie.Need-mark-logged-requires
+mark-logged-requires c κs = search needs
 
 enum-told : tie.Need-enum-told
 enum-told c = search needs
@@ -45,17 +39,15 @@ same-length-3 : tie.Need-same-length-3
 same-length-3 c = search needs
 
 returns : tie.Need-returns
-unfolding markFirst markLogged
+unfolding markFirst
 returns c store groups keys actors =
-    let e1 = c .before .before .before .before .before .before .before .before .before .before .before .before .before .before .before .before .before .before .before .first .ensures in
-    let h1 = simp (e1) at (c .before .before .before .before .before .before .before .before .before .before .before .before .before .before .before .before .before .e .given .1) in
-    let e2 = c .before .before .before .before .before .before .before .before .before .before .before .before .before .before .before .message-at .ensures in
-    let e3 = c .before .before .before .before .before .before .before .before .before .before .before .before .before .move-first .ensures in
-    let h2 = simp (e1, e2) at (c .before .before .before .before .before .before .before .before .before .before .id .given .1) in
-    let e4 = c .before .before .before .before .before .before .before .before .counters-of .ensures in
-    let e5 = simp (e1, e2, e4) at (c .before .before .before .before .before .mark-id .ensures) in
-    let e6 = c .with-disk .ensures in
-    simp (e1, e2, e3, e4, ← e5, e6, h1, h2)
+    let e1 = c .before .before .before .before .before .before .before .before .before .before .before .before .before .before .before .before .before .first .ensures in
+    let h1 = simp (e1) at (c .before .before .before .before .before .before .before .before .before .before .before .before .before .before .before .e .given .1) in
+    let e2 = c .before .before .before .before .before .before .before .before .before .before .before .before .before .message-at .ensures in
+    let e3 = c .before .before .before .before .before .before .before .before .before .before .before .move-first .ensures in
+    let h2 = simp (e1, e2) at (c .before .before .before .before .before .before .before .before .id .given .1) in
+    let e4 = c .before .before .before .mark-logged .ensures in
+    simp (e3, h1, h2) (e4 _ _ _ _ _ _)
 
 same-length-4 : tie.Need-same-length-4
 same-length-4 c = search needs
@@ -68,17 +60,17 @@ returns-2 c store groups keys actors =
     let e2 = c .before .before .before .before .before .message-at .ensures in
     let e3 = c .before .before .before .move-first .ensures in
     let h2 = simp (e1, e2) at (c .enum-told .given .1) in
-    simp (e1, e2, e3, h1, h2)
+    simp (e3, h1, h2)
 
 same-length-5 : tie.Need-same-length-5
 same-length-5 c = search needs
 
 returns-3 : tie.Need-returns-3
-unfolding markFirst markLogged
+unfolding markFirst
 returns-3 c store groups keys actors =
     let e1 = c .before .before .first .ensures in
     let h1 = simp (e1) at (c .enum-told2 .given .1) in
-    simp (e1, h1)
+    simp (h1)
 
 pub mark-first-spec : {M : Type 1} → statement M
 mark-first-spec =
@@ -89,9 +81,7 @@ mark-first-spec =
     message-at-requires
     move-first-requires
     enum-known-id
-    counters-of-requires
-    mark-id-requires
-    with-disk-requires
+    mark-logged-requires
     enum-told
     enum-told-2
     same-length

@@ -1,9 +1,16 @@
 -- `step::step` meets its contract: by where the turn stands, and by whether the marks put out an order. Assumes nothing.
-use Rattle.turn.specs.Step.{stepOf}
-use Rattle.turn.proofs.StepLaws.{step-goes, step-stops}
+use mathlib.Core.Path.{_∙_}
+use Rattle.group.proofs.WordLaws.{at-rest, at-asks, at-runs}
+use Rattle.turn.proofs.StepLaws.{step-rests, step-asks, step-goes, step-stops}
 use borrow.Author.Needs.{needs}
 use Rattle.turn.proofs.step.step.Statement.{statement}
 use Rattle.turn.proofs.step.step.Tie as tie
+
+where-in-requires : tie.Need-where-in-requires
+where-in-requires c κs = search needs
+
+at-kind-requires : tie.Need-at-kind-requires
+at-kind-requires c κs = search needs
 
 enum-told : tie.Need-enum-told
 enum-told c = search needs
@@ -11,8 +18,8 @@ enum-told c = search needs
 enum-told-2 : tie.Need-enum-told-2
 enum-told-2 c = search needs
 
-enum-known-at : tie.Need-enum-known-at
-enum-known-at c = search needs
+enum-told-3 : tie.Need-enum-told-3
+enum-told-3 c = search needs
 
 mark-at-requires : tie.Need-mark-at-requires
 mark-at-requires c κs = search needs
@@ -22,6 +29,12 @@ disk-free-requires c κs = search needs
 
 go-requires : tie.Need-go-requires
 go-requires c κs = search needs
+
+returns : tie.Need-returns
+returns c = step-rests _ (c .before .before .before .where-in .ensures ∙ at-rest _ (simp (c .before .before .at-kind .ensures) at (c .enum-told .given .1)))
+
+returns-2 : tie.Need-returns-2
+returns-2 c = step-asks _ _ (c .before .before .before .where-in .ensures ∙ at-asks _ (simp (c .before .before .at-kind .ensures) at (c .enum-told2 .given .1)))
 
 same-length : tie.Need-same-length
 same-length c = search needs
@@ -41,26 +54,11 @@ same-length-5 c = search needs
 same-length-6 : tie.Need-same-length-6
 same-length-6 c = search needs
 
-returns : tie.Need-returns
-returns c =
-    let h1 = c .before .before .before .before .before .before .before .before .before .before .before .before .before .before .before .before .before .before .before .before .before .at .given .1 in
-    let e1 = c .before .before .before .before .before .before .before .before .before .before .before .before .before .before .before .mark-at .ensures in
-    let e2 = c .before .before .before .before .before .before .before .before .before .before .disk-free .ensures in
-    let h2 = simp (e2) at (c .before .before .before .before .before .before .before .before .before .if1 .taken) in
-    let e3 = c .before .before .before .before .go .ensures in
-    step-goes _ _ h1 _ (e1 _ _ _ _) _ h2 (e3 _ _)
-
-returns-2 : tie.Need-returns-2
-unfolding stepOf
-returns-2 c =
-    let h1 = c .enum-told .given .1 in
-    simp (h1)
-
 returns-3 : tie.Need-returns-3
-unfolding stepOf
 returns-3 c =
-    let h1 = c .enum-told2 .given .1 in
-    simp (h1)
+    let stands = c .before .before .before .before .before .before .before .before .before .before .before .before .before .before .before .before .before .before .before .before .before .before .before .before .before .before .where-in .ensures ∙ at-runs _ (simp (c .before .before .before .before .before .before .before .before .before .before .before .before .before .before .before .before .before .before .before .before .before .before .before .before .before .at-kind .ensures) at (c .before .before .before .before .before .before .before .before .before .before .before .before .before .before .before .before .before .before .before .before .before .before .before .enum-told3 .given .1)) in
+    let free = simp (c .before .before .before .before .before .before .before .before .before .before .before .disk-free .ensures) at (c .before .before .before .before .before .before .before .before .before .before .if1 .taken) in
+    step-goes _ _ stands _ (c .before .before .before .before .before .before .before .before .before .before .before .before .before .before .before .before .before .mark-at .ensures _ _ _ _) _ free (c .before .before .before .before .go .ensures _ _)
 
 same-length-7 : tie.Need-same-length-7
 same-length-7 c = search needs
@@ -76,30 +74,30 @@ same-length-10 c = search needs
 
 returns-4 : tie.Need-returns-4
 returns-4 c =
-    let h1 = c .before .before .before .before .before .before .before .before .before .before .before .before .at .given .1 in
-    let e1 = c .before .before .before .before .before .before .mark-at .ensures in
-    let e2 = c .before .disk-free .ensures in
-    let h2 = simp (e2) at (c .if1 .left) in
-    step-stops _ _ h1 _ (e1 _ _ _ _) h2
+    let stands = c .before .before .before .before .before .before .before .before .before .before .before .before .before .before .before .before .where-in .ensures ∙ at-runs _ (simp (c .before .before .before .before .before .before .before .before .before .before .before .before .before .before .before .at-kind .ensures) at (c .before .before .before .before .before .before .before .before .before .before .before .before .before .enum-told3 .given .1)) in
+    let waits = simp (c .before .disk-free .ensures) at (c .if1 .left) in
+    step-stops _ _ stands _ (c .before .before .before .before .before .before .before .mark-at .ensures _ _ _ _) waits
 
 pub step-spec : {M : Type 1} → statement M
 step-spec =
     tie.close
     (tie.spec
+    where-in-requires
+    at-kind-requires
     enum-told
     enum-told-2
-    enum-known-at
+    enum-told-3
     mark-at-requires
     disk-free-requires
     go-requires
+    returns
+    returns-2
     same-length
     same-length-2
     same-length-3
     same-length-4
     same-length-5
     same-length-6
-    returns
-    returns-2
     returns-3
     same-length-7
     same-length-8

@@ -1,0 +1,13 @@
+-- `eval::ends` meets its contract: by its calls and its tests. Assumes nothing.
+use Rattle.steps.specs.Words.{evalNextOf}
+use mathlib.Core.Path.{refl}
+use Rattle.steps.proofs.eval.ends.Statement.{statement}
+use Rattle.steps.proofs.eval.ends.Tie as tie
+
+returns : tie.Need-returns
+unfolding evalNextOf
+returns c =
+    refl
+
+pub ends-spec : {M : Type 1} → statement M
+ends-spec = tie.close (tie.spec returns)

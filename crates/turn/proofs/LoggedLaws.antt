@@ -1,0 +1,43 @@
+-- What the log did and what was made of its answer are together what its call does, in words.
+use mathlib.Core.Path.{_≡_, ap, _∙_}
+use mathlib.Core.List.{List}
+use Prim.Native.Nat.{ℕ}
+use Rattle.lists.specs.Links.{Table}
+use Rattle.log.specs.declared.LogId.{LogId}
+use Rattle.log.specs.declared.Counters.{Counters}
+use Rattle.log.specs.declared.Due.{Due}
+use Rattle.log.specs.declared.SteppedDue.{SteppedDue}
+use Rattle.log.specs.declared.Answer.{Answer}
+use Rattle.log.specs.declared.Stepped.{Stepped}
+use Rattle.log.specs.Log.{state, DidAppend, DidMark, appendOf, markOf, syncOf}
+use Rattle.turn.specs.declared.logged.LogStep.{LogStep}
+use Rattle.turn.specs.declared.logged.LogAppend.{LogAppend}
+use Rattle.turn.specs.Words.{dueOf}
+use Rattle.turn.specs.Logged.{answerBy, steppedOf, steppedAs, appendedOf, appendedAs}
+
+pub appended-log : (bytes bytes' : List ℕ) (records records' : Table) (before : Counters) (name body : List ℕ)
+    (n : Counters) (a : Answer) (r : LogAppend)
+    → _≡_ {A = DidAppend} (record { wal = state bytes' records' n; answer = a })
+    (appendOf (state bytes records before) name body)
+    → appendedOf r ≡ appendedAs n a
+    → _≡_ {A = DidAppend}
+    (record { wal = state bytes' records' (r .counters); answer = answerBy (dueOf (r .due)) (r .refusal) })
+    (appendOf (state bytes records before) name body)
+appended-log bytes bytes' records records' before name body n a r did said =
+    ap (λ (x : Stepped). record { wal = state bytes' records' (x .counters); answer = x .answer }) said ∙ did
+
+pub marked-log : (bytes bytes' : List ℕ) (records records' : Table) (before : Counters) (limit : ℕ) (id : LogId)
+    (n : Counters) (d : Due) (r : LogStep)
+    → _≡_ {A = DidMark} (record { wal = state bytes' records' n; due = d })
+    (markOf limit (state bytes records before) (id .0))
+    → steppedOf r ≡ steppedAs n d
+    → _≡_ {A = DidMark} (record { wal = state bytes' records' (r .counters); due = dueOf (r .due) })
+    (markOf limit (state bytes records before) (id .0))
+marked-log bytes bytes' records records' before limit id n d r did said =
+    ap (λ (x : SteppedDue). record { wal = state bytes' records' (x .counters); due = x .due }) said ∙ did
+
+pub synced-log : (before n : Counters) (d : Due) (r : LogStep)
+    → _≡_ {A = SteppedDue} (record { counters = n; due = d }) (syncOf before)
+    → steppedOf r ≡ steppedAs n d
+    → _≡_ {A = SteppedDue} (record { counters = r .counters; due = dueOf (r .due) }) (syncOf before)
+synced-log before n d r did said = said ∙ did

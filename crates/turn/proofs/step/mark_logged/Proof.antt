@@ -1,0 +1,50 @@
+-- `step::mark_logged` meets its contract: by its calls and its tests. Assumes nothing.
+use Rattle.turn.specs.Step.{markLogged}
+use Rattle.turn.specs.Words.{whatOf}
+use borrow.Author.Needs.{needs}
+use Rattle.turn.proofs.step.mark_logged.Statement.{statement}
+use Rattle.turn.proofs.step.mark_logged.Tie as tie
+
+counters-requires : tie.Need-counters-requires
+counters-requires c κs = search needs
+
+compact-at-requires : tie.Need-compact-at-requires
+compact-at-requires c κs = search needs
+
+mark-requires : tie.Need-mark-requires
+mark-requires c κs = search needs
+
+waiting-requires : tie.Need-waiting-requires
+waiting-requires c κs = search needs
+
+set-log-requires : tie.Need-set-log-requires
+set-log-requires c κs = search needs
+
+same-length : tie.Need-same-length
+same-length c = search needs
+
+same-length-2 : tie.Need-same-length-2
+same-length-2 c = search needs
+
+returns : tie.Need-returns
+unfolding markLogged whatOf
+returns c store groups links rows keys actors =
+    let e1 = c .before .before .before .before .before .before .before .before .before .before .before .before .before .counters .ensures in
+    let e2 = c .before .before .before .before .before .before .before .before .before .before .before .compact-at .ensures in
+    let e3 = simp (e1, e2) at (c .before .before .before .before .before .before .before .before .mark .ensures) in
+    let e4 = c .before .before .waiting .ensures in
+    let e5 = c .set-log .ensures in
+    simp (e1, e2, ← e3, e4, e5)
+
+pub mark-logged-spec : {M : Type 1} → statement M
+mark-logged-spec =
+    tie.close
+    (tie.spec
+    counters-requires
+    compact-at-requires
+    mark-requires
+    waiting-requires
+    set-log-requires
+    same-length
+    same-length-2
+    returns)

@@ -1,0 +1,31 @@
+-- What the words of the log's answers mean.
+use Rattle.log.specs.declared.Counters.{Counters}
+use Rattle.log.specs.declared.Due.{Due}
+use Rattle.log.specs.declared.Due.the-variants as due
+use Rattle.log.specs.declared.SteppedDue.{SteppedDue}
+use Rattle.log.specs.declared.Refusal.{Refusal}
+use Rattle.log.specs.declared.Answer.{Answer}
+use Rattle.log.specs.declared.Answer.the-variants as answer
+use Rattle.log.specs.declared.Stepped.{Stepped}
+use Rattle.turn.specs.declared.logged.LogStep.{LogStep}
+use Rattle.turn.specs.declared.logged.LogAppend.{LogAppend}
+use Rattle.turn.specs.Words.{dueOf}
+
+-- with no order an append was turned away
+unfoldable pub answerBy : Due → Refusal → Answer
+answerBy (due.Ordered o) r = answer.Ordered o
+answerBy due.Nothing r = answer.Refused r
+
+-- after a mark or a sync
+abbrev pub steppedOf : LogStep → SteppedDue
+steppedOf w = record { counters = w .counters; due = dueOf (w .due) }
+
+abbrev pub steppedAs : Counters → Due → SteppedDue
+steppedAs n d = record { counters = n; due = d }
+
+-- after an append
+abbrev pub appendedOf : LogAppend → Stepped
+appendedOf w = record { counters = w .counters; answer = answerBy (dueOf (w .due)) (w .refusal) }
+
+abbrev pub appendedAs : Counters → Answer → Stepped
+appendedAs n a = record { counters = n; answer = a }
