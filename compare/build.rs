@@ -74,20 +74,21 @@ const SOURCES: &[Source] = &[
 
 fn main() {
     println!("cargo::rerun-if-changed=build.rs");
-    println!("cargo::rustc-check-cfg=cfg(oracle)");
+    println!("cargo::rustc-check-cfg=cfg(drive, oracle)");
     let here = PathBuf::from(env::var("CARGO_MANIFEST_DIR").unwrap());
     let out = PathBuf::from(env::var("OUT_DIR").unwrap());
     if env::var_os("CARGO_FEATURE_PORT").is_some() {
-        link_port(&here);
+        let folder = here.join(env::var("FELDWYGOR_LIB").unwrap_or("../target/staticlib".into()));
+        link_port(&folder);
+        link_drive(&folder);
     }
     if take_rust(&here, &out) && compile_slab(&out) {
         println!("cargo::rustc-cfg=oracle");
     }
 }
 
-fn link_port(here: &Path) {
+fn link_port(folder: &Path) {
     println!("cargo::rerun-if-env-changed=FELDWYGOR_LIB");
-    let folder = here.join(env::var("FELDWYGOR_LIB").unwrap_or("../target/staticlib".into()));
     let archive = folder.join("libreplay.a");
     println!("cargo::rerun-if-changed={}", archive.display());
     if !archive.exists() {
@@ -96,6 +97,16 @@ fn link_port(here: &Path) {
     }
     println!("cargo::rustc-link-search=native={}", folder.display());
     println!("cargo::rustc-link-lib=static=replay");
+}
+
+/// The calls one at a time, which `bench` alone measures; where they are not built, it says so.
+fn link_drive(folder: &Path) {
+    let archive = folder.join("libdrive.a");
+    println!("cargo::rerun-if-changed={}", archive.display());
+    if archive.exists() {
+        println!("cargo::rustc-link-lib=static=drive");
+        println!("cargo::rustc-cfg=drive");
+    }
 }
 
 /// True where the Rust is at hand and is what the swaps were written for.

@@ -157,7 +157,7 @@ def answer(function, place, options):
     for path, name, place in function.chain(place):
         own = function.records.get(place + '·own', {})
         if place in function.calls:
-            calls.append((name, place, f'{path} .{name} .ensures'))
+            calls.append((name.strip('«»'), place, f'{path} .{name} .ensures'))
         elif name.startswith('if') and len(own) == 1 and set(own) <= {'taken', 'left'}:
             (side, type), = own.items()
             facts.append((len(calls), test(f'{path} .{name} .{side}', side, type), function.made_of(type), name))

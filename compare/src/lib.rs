@@ -4,6 +4,7 @@
 //! must follow; `port` (the linked library, one function) must then give the same, and the Rust too.
 
 pub mod chains;
+pub mod drive;
 pub mod lent;
 pub mod limits;
 pub mod met;

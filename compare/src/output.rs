@@ -98,7 +98,8 @@ impl Answer {
         matches!(self, Answer::Append(..) | Answer::Replace(_) | Answer::Flush)
     }
 
-    fn read(kind: u64, a: u64, b: u64, c: u64) -> Option<Answer> {
+    /// The answer of these numbers.
+    pub fn read(kind: u64, a: u64, b: u64, c: u64) -> Option<Answer> {
         let flag = |number: u64| (number < 2).then_some(number == 1);
         let (group, key) = (a, b);
         let (answer, values) = match kind {

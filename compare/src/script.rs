@@ -1,8 +1,8 @@
 //! What one run of the port is given, as bytes (docs/PROTOCOL.md): settings, the file, then calls and replies in
 //! order.
 use crate::limits::{MESSAGES, NAME_MAX};
-use crate::model::pool::{Call, Reply, Settings, Status};
-use crate::tables;
+use crate::model::pool::{Call, GroupSetting, Reply, Settings, Status};
+use crate::tables::{self, GROUP};
 use crate::wire::{NUMBER, put};
 
 const VERSION: u64 = 1;
@@ -31,20 +31,9 @@ impl Script {
         for number in [VERSION, show, log_len as u64, store_len as u64, file.len() as u64] {
             put(&mut bytes, number);
         }
-        for number in [settings.max_actors, settings.inbox, settings.backlog, settings.compact_at] {
-            put(&mut bytes, number as u64);
-        }
-        put(&mut bytes, settings.tick_ns);
+        settings_numbers(settings).into_iter().for_each(|number| put(&mut bytes, number));
         put(&mut bytes, settings.groups.len() as u64);
-        for group in &settings.groups {
-            let name = &group.name;
-            for number in [group.replicas as u64, group.eval as u64, group.timeout, group.retry, name.len() as u64] {
-                put(&mut bytes, number);
-            }
-            for at in 0..NAME_MAX {
-                put(&mut bytes, name.get(at).copied().unwrap_or(0) as u64);
-            }
-        }
+        settings.groups.iter().flat_map(group_numbers).for_each(|number| put(&mut bytes, number));
         bytes.extend_from_slice(file);
         let mut script = Script { bytes, show, log_len, store_len, log_bound: file.len(), bound: NUMBER };
         script.bound += script.entry_bound();
@@ -113,8 +102,26 @@ impl Script {
     }
 }
 
+/// What is set besides the groups.
+pub fn settings_numbers(settings: &Settings) -> [u64; 5] {
+    let Settings { max_actors, inbox, backlog, compact_at, tick_ns, .. } = settings;
+    [*max_actors as u64, *inbox as u64, *backlog as u64, *compact_at as u64, *tick_ns]
+}
+
+/// The row of a group.
+pub fn group_numbers(group: &GroupSetting) -> [u64; GROUP] {
+    const BEFORE_NAME: usize = GROUP - NAME_MAX;
+    let GroupSetting { name, replicas, eval, timeout, retry } = group;
+    let mut row = [0; GROUP];
+    row[..BEFORE_NAME].copy_from_slice(&[*replicas as u64, *eval as u64, *timeout, *retry, name.len() as u64]);
+    for (cell, byte) in row[BEFORE_NAME..].iter_mut().zip(name) {
+        *cell = *byte as u64;
+    }
+    row
+}
+
 /// Kind, value, name and body of a reply.
-fn reply_numbers(reply: &Reply) -> (u64, u64, &[u8], &[u8]) {
+pub fn reply_numbers(reply: &Reply) -> (u64, u64, &[u8], &[u8]) {
     match reply {
         Reply::No => (0, 0, &[], &[]),
         Reply::Yes => (1, 0, &[], &[]),

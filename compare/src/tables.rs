@@ -8,14 +8,14 @@ use crate::wire::NUMBER;
 /// Rows of each table, and numbers of a row.
 const RECORDS: usize = MESSAGES;
 pub const RECORD: usize = 3;
-const GROUP: usize = 37;
+pub const GROUP: usize = 37;
 /// The lists of messages; as many rows of links.
 pub const LISTS: usize = 262;
 const LINKS: usize = LISTS;
 pub const LINK: usize = 4;
 pub const MESSAGE: usize = 7;
 /// A list of keys is bytes: how many, then the keys.
-const KEY_LISTS: usize = 34;
+pub const KEY_LISTS: usize = 34;
 pub const KEY_LIST: usize = 65;
 /// Actors of a group, and of all.
 pub const SLOTS_A_GROUP: usize = 16;

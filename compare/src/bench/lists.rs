@@ -37,26 +37,34 @@ impl Timed {
     }
 }
 
-/// Every list, in the order of the table.
-pub fn all() -> Vec<Timed> {
-    let mut all = Vec::new();
-    all.extend([1, 16, 256].map(served));
-    all.push(served_by_name());
-    all.push(evaluated());
-    all.extend([1, 16, 128].map(yielding));
-    all.extend([1, 16, 128].map(polled));
-    all.extend([0, 190].map(admitted));
-    all.push(looked_up());
-    all.extend([64, 256].map(marked));
-    all.extend([2, 100].map(rewritten));
-    all
-}
+/// What makes a list.
+pub type Maker = fn() -> Timed;
+
+/// Every list that both sides have, in the order of the table.
+pub const BOTH: [Maker; 18] = [
+    || served(1),
+    || served(16),
+    || served(256),
+    served_by_name,
+    evaluated,
+    || yielding(1),
+    || yielding(16),
+    || yielding(128),
+    || polled(1),
+    || polled(16),
+    || polled(128),
+    || admitted(0),
+    || admitted(190),
+    looked_up,
+    || marked(64),
+    || marked(256),
+    || rewritten(2),
+    || rewritten(100),
+];
 
 /// Calls that are refused, which the Rust does not have: what the port's reading and writing cost, and what the search
 /// for a group costs that is not there.
-pub fn refused() -> [Timed; 2] {
-    [turned_away(), mistyped()]
-}
+pub const REFUSED: [Maker; 2] = [turned_away, mistyped];
 
 fn turned_away() -> Timed {
     let mut making = begin(opening(vec![group("row", 1, false)], Vec::new()));

@@ -8,6 +8,14 @@ pub struct Row {
     /// The Rust may not be at hand, or may not have the call.
     pub rust: Option<f64>,
     pub writes: f64,
+    pub driven: Option<Driven>,
+}
+
+/// The port's times call by call, with its orders carried out on a file, and without.
+#[derive(Clone, Copy)]
+pub struct Driven {
+    pub writing: f64,
+    pub idle: f64,
 }
 
 /// One opening.
@@ -20,7 +28,7 @@ pub struct Opened {
 pub fn lists(rows: &[Row]) {
     println!("| ns a call | port | Rust | port ÷ Rust | of the Rust's, writes | port, a second | Rust, a second |");
     println!("|---|---:|---:|---:|---:|---:|---:|");
-    for Row { what, counted, port, rust, writes } in rows {
+    for Row { what, counted, port, rust, writes, .. } in rows {
         let each = |all: f64| all / *counted as f64;
         let rate = |all: f64| thousands((1e9 / each(all)) as u64);
         let (of_rust, ratio, writes, rust_rate) = match rust {
@@ -31,6 +39,22 @@ pub fn lists(rows: &[Row]) {
             None => ["–"; 4].map(String::from).into(),
         };
         println!("| {what} | {:.0} | {of_rust} | {ratio} | {writes} | {} | {rust_rate} |", each(*port), rate(*port));
+    }
+}
+
+/// The port call by call beside the Rust: with the same writes on both sides, and without any.
+pub fn driven(rows: &[Row]) {
+    println!("| ns a call | port, writing | Rust | port ÷ Rust | port, no writes | Rust, less writes | port ÷ Rust |");
+    println!("|---|---:|---:|---:|---:|---:|---:|");
+    for Row { what, counted, rust, writes, driven, .. } in rows {
+        let Some(driven) = driven else { continue };
+        let each = |all: f64| format!("{:.0}", all / *counted as f64);
+        let beside = |port: f64, rust: Option<f64>| match rust {
+            Some(rust) => format!("{} | {} | {:.2}", each(port), each(rust), port / rust),
+            None => format!("{} | – | –", each(port)),
+        };
+        let less = rust.map(|rust| rust - writes);
+        println!("| {what} | {} | {} |", beside(driven.writing, *rust), beside(driven.idle, less));
     }
 }
 

@@ -1,11 +1,10 @@
 //! The file operations of a list alone: what the Rust's time has in it, and what a host of the port does when it is
 //! handed an order. Made on the memory file system, as the Rust makes them.
 use super::clock::time;
+use super::disk::Disk;
 use super::lists::Timed;
 use crate::model::log::Order;
 use crate::model::pool::Call;
-use std::fs::{self, File, OpenOptions};
-use std::io::Write;
 use std::path::{Path, PathBuf};
 
 enum Operation {
@@ -39,29 +38,15 @@ impl Writes {
     }
 
     pub fn run(&mut self) -> f64 {
-        fs::write(&self.path, b"").unwrap();
-        let mut file = for_appending(&self.path);
-        let beside = self.path.with_extension("beside");
+        let mut disk = Disk::new(&self.path, b"");
         time(|| {
             for operation in &self.operations {
                 match operation {
-                    Operation::Append(bytes) => file.write_all(bytes).unwrap(),
-                    Operation::Flush => file.sync_data().unwrap(),
-                    Operation::Replace(bytes) => {
-                        let mut new = File::create(&beside).unwrap();
-                        new.write_all(bytes).unwrap();
-                        new.sync_all().unwrap();
-                        fs::rename(&beside, &self.path).unwrap();
-                        let folder = self.path.parent().unwrap();
-                        File::open(folder).and_then(|folder| folder.sync_all()).unwrap();
-                        file = for_appending(&self.path);
-                    }
+                    Operation::Append(bytes) => disk.append(bytes),
+                    Operation::Replace(bytes) => disk.replace(bytes),
+                    Operation::Flush => disk.flush(),
                 }
             }
         })
     }
-}
-
-fn for_appending(path: &Path) -> File {
-    OpenOptions::new().append(true).open(path).unwrap()
 }

@@ -1,8 +1,8 @@
 // The questions that a pool puts, and the replies to them, as enums. A reply is read by its kind: yes or no, a clock,
-// a count, a status. Whether a reply fits a question is `fits`: the kinds are the same, and a clock is below 2^63.
+// a count, a status. Which kind a question wants is `kindWanted` (specs/Questions); a clock must be below
+// 2^63.
 ghost use mathlib.Core.Path.{_≡_};
-ghost use Rattle.actor.specs.Questions.{slotOf, yesIn, clockIn, countIn, ranIn, isTold, kindOf, kindWanted};
-ghost use Rattle.actor.specs.Questions.{fitsOf};
+ghost use Rattle.actor.specs.Questions.{slotOf, yesIn, clockIn, countIn, ranIn, isTold, kindOf};
 use crate::message::CallerId;
 use lists::Found;
 use log::Order;
@@ -208,7 +208,7 @@ pub fn is_told(r: Reply) -> bool
 }
 
 // The kind of a reply as a number; 0 is that of a clock of 2^63 or more, which nothing wants.
-fn kind_of(r: Reply) -> u64
+pub fn kind_of(r: Reply) -> u64
     ensures { λ x. ⌜ x ≡ kindOf r ⌝ }
 {
     match r {
@@ -223,37 +223,4 @@ fn kind_of(r: Reply) -> u64
         Reply::Stored => 7,
         Reply::Failed => 7,
     }
-}
-
-// The kind of reply that a question wants.
-fn kind_wanted(q: Question) -> u64
-    ensures { λ x. ⌜ x ≡ kindWanted q ⌝ }
-{
-    match q {
-        Question::Boot(_) => 1,
-        Question::Clock => 2,
-        Question::Poll(_) => 3,
-        Question::Drain(_) => 3,
-        Question::Dispatch(_) => 3,
-        Question::Run {
-            who: _,
-            start: _,
-            message: _,
-        } => 4,
-        Question::Push { who: _, message: _ } => 1,
-        Question::Sends(_) => 5,
-        Question::Trap(_) => 1,
-        Question::Trapped(_) => 1,
-        Question::Tell(_, _) => 6,
-        Question::Store(_) => 7,
-    }
-}
-
-// Whether a reply fits a question.
-pub fn fits(q: Question, r: Reply) -> bool
-    ensures { λ x. ⌜ x ≡ fitsOf q r ⌝ }
-{
-    let wanted = kind_wanted(q);
-    let kind = kind_of(r);
-    if wanted == kind { true } else { false }
 }

@@ -4,13 +4,20 @@ use mathlib.Core.Bool.{Bool, true, false}
 use mathlib.Core.List.{List, [], _∷_, _++_}
 use Prim.Native.Nat.{ℕ, _≤_}
 use native.Mathlib.Omega.{arith}
+use lib.Dec.{eqb, leb}
 use Rattle.lists.specs.Links.{pick}
+use Rattle.actor.specs.declared.question.Asked.{Asked}
+use Rattle.actor.specs.declared.question.Asked.the-variants as asked
+use Rattle.actor.specs.declared.question.Reply.{Reply}
+use Rattle.actor.specs.declared.question.Reply.the-variants as reply
+use Rattle.actor.specs.Questions.{kindOf, fitsOf}
+use Rattle.turn.specs.Asks.{wantedBy}
 use Rattle.turn.specs.State.{State}
 use Rattle.front.specs.declared.answer.Refusal.{Refusal}
 use Rattle.front.specs.declared.refusals.Check.{Check}
 use Rattle.front.specs.declared.refusals.Check.the-variants as check
 use Rattle.front.specs.Answers.{Did, refused}
-use Rattle.front.specs.Refusals.{Line, judged, byTable}
+use Rattle.front.specs.Refusals.{Line, judged, byTable, fitsIn}
 
 module _ (s : State) (table : Check) (effect did : Did) (t : Check) (is : t ≡ table) where
   -- as the table says, t, it is refused with r
@@ -67,3 +74,26 @@ fine-clear [] says = omega arith
 fine-clear (l ∷ ls) says =
     let both = line-clear (l .holds) (l .refusal) (judged ls) says in
     (both .0, fine-clear ls (both .1))
+
+-- ---- whether a reply fits what is open: it is of the kind that is wanted, and where nothing is open no reply is
+
+no-reply : (r : Reply) → eqb 8 (kindOf r) ≡ false
+no-reply reply.Yes = refl
+no-reply reply.No = refl
+no-reply (reply.Clock ns) = go (leb ns 9223372036854775807)
+  where
+    go : (b : Bool) → eqb 8 (pick b 2 0) ≡ false
+    go true = refl
+    go false = refl
+no-reply (reply.Count n) = refl
+no-reply (reply.Ran s) = refl
+no-reply reply.Message = refl
+no-reply reply.End = refl
+no-reply reply.Told = refl
+no-reply reply.Stored = refl
+no-reply reply.Failed = refl
+
+pub fits-wanted : (a : Asked) (r : Reply) → eqb (wantedBy a) (kindOf r) ≡ fitsIn a r
+unfolding wantedBy fitsOf
+fits-wanted (asked.Open q) r = refl
+fits-wanted asked.Nothing r = no-reply r

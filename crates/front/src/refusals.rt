@@ -5,14 +5,13 @@ ghost use mathlib.Core.List.{List};
 ghost use Prim.Native.Nat.{ℕ};
 ghost use Rattle.lists.specs.Links.{Table};
 ghost use Rattle.group.specs.Words.{atOf};
+ghost use Rattle.turn.specs.Asks.{askedIn};
 ghost use Rattle.turn.specs.Words.{diskOf, poolOf};
 ghost use Rattle.front.specs.Refusals.{judged, isFailed, inTurn, tooLong, fitsIn, isMessage, tablesSized};
 ghost use Rattle.front.specs.Refusals.{openRefusalsFirst, admitRefusalsFirst, turnRefusals, replyRefusals};
 ghost use Rattle.front.specs.Refusals.{syncRefusals, sentRefusals};
-use crate::answer;
 use crate::answer::Refusal;
 use actor::question;
-use actor::question::Asked;
 use actor::question::Reply;
 use group::settings;
 use group::words;
@@ -20,6 +19,7 @@ use group::words::AtKind;
 use group::words::Where;
 use setup::settings as limits;
 use setup::settings::Settings;
+use turn::asks;
 use turn::state;
 use turn::state::DiskKind;
 use turn::state::DiskWords;
@@ -214,14 +214,15 @@ pub fn admit_check(
     }
 }
 
-// Whether a reply answers what is open.
-fn fits_in(asked: Asked, reply: Reply) -> bool
-    ensures { λ r. ⌜ r ≡ fitsIn asked reply ⌝ }
+// Whether a reply answers what is open: it is of the kind that is wanted.
+fn fits_in(disk: DiskWords, at: Where, links: &[[u64; 4]], rows: &[[u64; 7]], reply: Reply) -> bool
+    ensures { λ r. ⌜
+        r ≡ fitsIn (askedIn (diskOf disk) (atOf at) (now (links .entry)) (now (rows .entry))) reply
+        ⌝ }
 {
-    match asked {
-        Asked::Open(q) => question::fits(q, reply),
-        Asked::Nothing => false,
-    }
+    let wanted = asks::wanted_in(disk, at, links, rows);
+    let kind = question::kind_of(reply);
+    if wanted == kind { true } else { false }
 }
 
 // Whether a reply is a message that was sent.
@@ -288,8 +289,8 @@ pub fn reply_check(
     if failed {
         return Check::Refuse(Refusal::StoreFailed);
     }
-    let asked = answer::open_now(pool, links, rows);
-    let fits = fits_in(asked, reply);
+    let at = state::where_in(pool);
+    let fits = fits_in(disk, at, links, rows, reply);
     if !fits {
         return Check::Refuse(Refusal::NoFit);
     }

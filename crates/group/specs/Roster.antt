@@ -14,7 +14,6 @@ use Rattle.actor.specs.declared.state.Mode.the-variants as mode
 use Rattle.actor.specs.Questions.{slotOf}
 use Rattle.actor.specs.Actors.{actorAt, putActor, newActor, scheduledAs}
 use Rattle.steps.specs.Steps.{overFirst}
-use Rattle.group.specs.declared.roster.Popped.{Popped}
 use Rattle.group.specs.At.{whoOf}
 
 -- ---- the rows of the table of key lists: four for each of 8 groups, and two for the turn
@@ -108,6 +107,11 @@ spawnOf keys actors g eval = spawnBy keys actors g eval (vacantOf (keysAt keys (
 
 unfoldable pub idleKey : Table → Table → ℕ → ℕ → Bool
 idleKey keys actors g k = pick (liveOf keys g k) (actorAt actors (slotAt g k) .idle) false
+
+-- a list of keys, and the key that was popped from it
+pub record Popped : Type 0 where
+  pub row : List ℕ
+  pub key : Key
 
 -- the last of n keys of an idle list whose actor is still there and idle; it and those after it leave the list
 abbrev pub popped : List ℕ → Key → Popped

@@ -13,7 +13,6 @@ ghost use Rattle.group.specs.Roster.{
   spawnKey,
   spawnOf,
   idleKey,
-  popIdleRow,
   popIdleOf,
   betterOf,
   leastFrom,
@@ -21,7 +20,6 @@ ghost use Rattle.group.specs.Roster.{
   modeFor,
   liveLen,
 };
-ghost use Rattle.lists.specs.KeyLists.{keysAt, countOf};
 use crate::at;
 use actor::question;
 use actor::state;
@@ -75,9 +73,7 @@ pub fn slot_at(g: usize, key: u8) -> usize
 pub fn push_key(lists: &mut [[u8; 65]], row: usize, key: u8)
     ensures { λ r. ⌜ now (lists .exit) ≡ pushKey (now (lists .entry)) row key ⌝ }
 {
-    let held = keys::keys_at(lists, row);
-    let more = keys::push(held, key);
-    keys::put_keys(lists, row, more);
+    keys::push_at(lists, row, key);
 }
 
 // Whether the group has an actor of this key.
@@ -87,8 +83,7 @@ pub fn live(lists: &[[u8; 65]], g: usize, key: u8) -> bool
     let slot = slot_at(g, key);
     if slot < 128 {
         let row = slab_row(g);
-        let given = keys::keys_at(lists, row);
-        slab::contains(given, key)
+        slab::contains_at(lists, row, key)
     } else {
         false
     }
@@ -99,8 +94,7 @@ pub fn live_len(lists: &[[u8; 65]], g: usize) -> u8
     ensures { λ r. ⌜ r ≡ liveLen (now (lists .entry)) g ⌝ }
 {
     let row = slab_row(g);
-    let given = keys::keys_at(lists, row);
-    slab::len(given)
+    slab::len_at(lists, row)
 }
 
 // An actor is queued to run, once however often it is woken before its turn.
@@ -137,9 +131,7 @@ fn spawn_key(lists: &mut [[u8; 65]], actors: &mut [[u64; 12]], g: usize, key: u8
         ≡ spawnKey (now (lists .entry)) (now (actors .entry)) g key eval ⌝ }
 {
     let row = slab_row(g);
-    let given = keys::keys_at(lists, row);
-    let more = slab::insert(given);
-    keys::put_keys(lists, row, more);
+    slab::insert_at(lists, row);
     let mode = mode_for(eval);
     let a = state::new_actor(mode);
     let slot = slot_at(g, key);
@@ -154,8 +146,7 @@ pub fn spawn(lists: &mut [[u8; 65]], actors: &mut [[u64; 12]], g: usize, eval: b
         ≡ spawnOf (now (lists .entry)) (now (actors .entry)) g eval ⌝ }
 {
     let row = slab_row(g);
-    let given = keys::keys_at(lists, row);
-    match slab::vacant(given) {
+    match slab::vacant_at(lists, row) {
         Key::At(key) => {
             spawn_key(lists, actors, g, key, eval);
             Key::At(key)
@@ -178,54 +169,30 @@ fn idle_key(lists: &[[u8; 65]], actors: &[[u64; 12]], g: usize, key: u8) -> bool
     }
 }
 
-// A list of keys, and the key that was popped from it.
-pub struct Popped {
-    pub row: [u8; 65],
-    pub key: Key,
-}
-
-// The last key of an idle list whose actor is still there and idle; it and those after it leave the list.
-fn pop_idle_row(lists: &[[u8; 65]], actors: &[[u64; 12]], g: usize, held: [u8; 65]) -> Popped
-    ensures { λ r. ⌜ r ≡ popIdleRow (now (lists .entry)) (now (actors .entry)) g (countOf held) held ⌝ }
-{
-    let mut row = held;
-    let mut n = keys::count(held);
-    while 0 < n {
-        let came = keys::last(row);
-        let next = keys::pop_end(row);
-        row = next;
-        n -= 1;
-        match came {
-            Key::At(key) => {
-                let idle = idle_key(lists, actors, g, key);
-                if idle {
-                    return Popped {
-                        row,
-                        key: Key::At(key),
-                    };
-                }
-            }
-            Key::Nothing => {}
-        }
-    }
-    Popped {
-        row,
-        key: Key::Nothing,
-    }
-}
-
-// An idle actor of the group, taken from its idle list.
+// An idle actor of the group, taken from its idle list: the last whose actor is still there and idle. It and those
+// after it leave the list.
 pub fn pop_idle(lists: &mut [[u8; 65]], actors: &[[u64; 12]], g: usize) -> Key
     ensures { λ r.
         ⌜ record { keys = now (lists .exit); key = r }
         ≡ popIdleOf (now (lists .entry)) (now (actors .entry)) g ⌝ }
 {
     let row = idle_row(g);
-    let held = keys::keys_at(lists, row);
-    let popped = pop_idle_row(lists, actors, g, held);
-    let left = popped.row;
-    keys::put_keys(lists, row, left);
-    popped.key
+    let mut n = keys::count_at(lists, row);
+    while 0 < n {
+        let came = keys::last_at(lists, row);
+        keys::pop_end_at(lists, row);
+        n -= 1;
+        match came {
+            Key::At(key) => {
+                let idle = idle_key(lists, actors, g, key);
+                if idle {
+                    return Key::At(key);
+                }
+            }
+            Key::Nothing => {}
+        }
+    }
+    Key::Nothing
 }
 
 // The less loaded of an actor and the best so far, of equals the best so far.
@@ -253,11 +220,10 @@ pub fn least_loaded(lists: &[[u8; 65]], links: &[[u64; 4]], g: usize) -> Key
     ensures { λ r. ⌜ r ≡ leastOf (now (lists .entry)) (now (links .entry)) g ⌝ }
 {
     let row = slab_row(g);
-    let given = keys::keys_at(lists, row);
     let mut best = Key::Nothing;
     let mut key: u8 = 0;
     while key < 16 {
-        let there = slab::contains(given, key);
+        let there = slab::contains_at(lists, row, key);
         if there {
             let next = better(links, g, best, key);
             best = next;

@@ -21,11 +21,11 @@ use Rattle.actor.specs.declared.question.YesIn.the-variants as yes
 use Rattle.actor.specs.Questions.{yesIn}
 use Rattle.actor.specs.Messages.{messageAt}
 use Rattle.actor.specs.Actors.{actorAt, deliveredTo}
-use Rattle.group.specs.declared.roster.Popped.{Popped}
 use Rattle.group.specs.declared.settings.Named.{Named}
 use Rattle.group.specs.declared.settings.Named.the-variants as named
 use Rattle.group.specs.Settings.{groupAt, groupFor}
-use Rattle.group.specs.Roster.{slabRow, idleRow, slotAt, liveOf, liveLen, spawnOf, popIdleOf, popIdleRow, idleKey}
+use Rattle.group.specs.Roster.{slabRow, idleRow, slotAt, liveOf, liveLen, spawnOf, popIdleOf, Popped, popIdleRow}
+use Rattle.group.specs.Roster.{idleKey}
 use Rattle.group.specs.Roster.{leastOf, leastFrom, betterOf, loadOf}
 use Rattle.routing.specs.Seed.{Seeded, seedOf, seedBooted, seedBy, seedReply}
 use Rattle.routing.specs.Intake.{INBOX, PENDING, BATCH, Linked, batchOf, intakeOf}

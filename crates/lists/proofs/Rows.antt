@@ -12,7 +12,7 @@ use lib.Seq.{drop-cons, take-nil, drop-length}
 use Rattle.lists.specs.Links.{pick}
 use Rattle.lists.specs.declared.keys.Key.the-variants.{At, Nothing}
 use Rattle.lists.specs.Slabs.{containsOf, nextKey}
-use Rattle.lists.specs.KeyLists.{elem, movedLast, addAbsent, squeezeOf}
+use Rattle.lists.specs.KeyLists.{elem, movedLast, holdsOf, addAbsent, squeezeOf}
 
 -- ---- the shift
 
@@ -39,6 +39,13 @@ shift-end (x ∷ y ∷ r) zero a h = absurd (omega arith)
 shift-end (x ∷ []) (suc j) a h = refl
 shift-end (x ∷ y ∷ r) (suc j) a h = ap {B = List ℕ} (λ s. x ∷ s) (shift-end (y ∷ r) j a (omega arith))
 
+-- a row without a key has nothing to move
+pub shift-short : (l : List ℕ) (a : ℕ) → length l < 2 → movedLast l 1 a ≡ l
+unfolding movedLast
+shift-short [] a h = refl
+shift-short (x ∷ []) a h = refl
+shift-short (x ∷ y ∷ r) a h = absurd (omega arith)
+
 -- ---- the scan
 
 -- whether k stands among the cells from i to n
@@ -63,6 +70,12 @@ among-none c k n i out = let none : n + 1 - i ≡ 0 = omega arith in rw none
 pub among-end : (c : List ℕ) (k n i : ℕ) → i ≡ length c → among c k n i ≡ false
 unfolding elem
 among-end c k n i end = rw (end, drop-length c, take-nil)
+
+-- a row without a cell holds no key
+pub holds-none : (c : List ℕ) (k : ℕ) → length c ≡ 0 → holdsOf c k ≡ false
+unfolding holdsOf elem
+holds-none [] k none = refl
+holds-none (x ∷ c) k none = absurd (omega arith)
 
 -- ---- the squeeze
 

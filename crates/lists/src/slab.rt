@@ -1,22 +1,40 @@
 // The keys of a group's actors, at most 16, as slab 0.4 gives them: the last freed key first, else the next that never
-// was one. A row of 65 bytes: the free keys as a list of `keys`, last freed last, and in the last cell how many keys
-// were ever given. Its one invariant is `Sound` (specs/Slabs.antt): at most 16 keys were given, and the free ones are
-// different ones of them. `contains`, `remove` scan the free keys; `insert` and `len` take constant time; `next_key`
-// walks in rising key order. What each does to every key is said by the theorems of proofs/Slabs.antt:
-// `inserted-live`, `removed-dead`, `last-freed-first`, `next-least`.
+// was one. A row of 65 bytes of a table: the free keys as a list of `keys`, last freed last, and in the last cell how
+// many keys were ever given. Its one invariant is `Sound` (specs/Slabs.antt): at most 16 keys were given, and the free
+// ones are different ones of them. `contains_at`, `remove_at` scan the free keys; `insert_at` and `len_at` take constant
+// time; `next_key_at` walks in rising key order. What each does to every key is said by the theorems of
+// proofs/Slabs.antt: `inserted-live`, `removed-dead`, `last-freed-first`, `next-least`.
 ghost use mathlib.Core.Path.{_≡_};
 ghost use Prim.Native.Nat.{_-_};
-ghost use Rattle.lists.specs.Slabs.{containsOf, vacantOf, insertOf, removeOf, liveCount, nextKey};
+ghost use lib.ListN.{set};
+ghost use Rattle.lists.specs.KeyLists.{keysAt};
+ghost use Rattle.lists.specs.Slabs.{givenOf, containsOf, vacantOf, insertOf, removeOf, liveCount, nextKey};
 use crate::keys;
 use crate::keys::Key;
 
-// Whether an actor has this key.
-pub fn contains(slab: [u8; 65], key: u8) -> bool
-    ensures { λ r. ⌜ r ≡ containsOf slab key ⌝ }
+// How many keys were ever given.
+fn given_at(lists: &[[u8; 65]], i: usize) -> u8
+    ensures { λ r. ⌜ r ≡ givenOf (keysAt (now (lists .entry)) i) ⌝ }
 {
-    let given = slab[64];
+    if i < lists.len() { lists[i][64] } else { 0 }
+}
+
+// How many keys were given is stored.
+fn set_given_at(lists: &mut [[u8; 65]], i: usize, n: u8)
+    ensures { λ r. ⌜ now (lists .exit) ≡ set (now (lists .entry)) i (set (keysAt (now (lists .entry)) i) 64 n) ⌝ }
+{
+    if i < lists.len() {
+        lists[i][64] = n;
+    }
+}
+
+// Whether an actor has this key.
+pub fn contains_at(lists: &[[u8; 65]], i: usize, key: u8) -> bool
+    ensures { λ r. ⌜ r ≡ containsOf (keysAt (now (lists .entry)) i) key ⌝ }
+{
+    let given = given_at(lists, i);
     if key < given {
-        let free = keys::holds(slab, key);
+        let free = keys::holds_at(lists, i, key);
         if free { false } else { true }
     } else {
         false
@@ -24,65 +42,63 @@ pub fn contains(slab: [u8; 65], key: u8) -> bool
 }
 
 // The key that the next actor gets, where there is one.
-pub fn vacant(slab: [u8; 65]) -> Key
-    ensures { λ r. ⌜ r ≡ vacantOf slab ⌝ }
+pub fn vacant_at(lists: &[[u8; 65]], i: usize) -> Key
+    ensures { λ r. ⌜ r ≡ vacantOf (keysAt (now (lists .entry)) i) ⌝ }
 {
-    let freed = keys::count(slab);
+    let freed = keys::count_at(lists, i);
     if freed == 0 {
-        let given = slab[64];
+        let given = given_at(lists, i);
         if given < 16 {
             Key::At(given)
         } else {
             Key::Nothing
         }
     } else {
-        keys::last(slab)
+        keys::last_at(lists, i)
     }
 }
 
 // That key is taken.
-pub fn insert(slab: [u8; 65]) -> [u8; 65]
-    ensures { λ r. ⌜ r ≡ insertOf slab ⌝ }
+pub fn insert_at(lists: &mut [[u8; 65]], i: usize)
+    ensures { λ r. ⌜ now (lists .exit) ≡ set (now (lists .entry)) i (insertOf (keysAt (now (lists .entry)) i)) ⌝ }
 {
-    let freed = keys::count(slab);
+    let freed = keys::count_at(lists, i);
     if freed == 0 {
-        let given = slab[64];
+        let given = given_at(lists, i);
         if given < 16 {
-            let mut b = slab;
-            b[64] = given + 1;
-            b
-        } else {
-            slab
+            set_given_at(lists, i, given + 1);
         }
     } else {
-        keys::pop_end(slab)
+        keys::pop_end_at(lists, i);
     }
 }
 
 // A key is free again, where an actor has it.
-pub fn remove(slab: [u8; 65], key: u8) -> [u8; 65]
-    ensures { λ r. ⌜ r ≡ removeOf slab key ⌝ }
+pub fn remove_at(lists: &mut [[u8; 65]], i: usize, key: u8)
+    ensures { λ r. ⌜ now (lists .exit) ≡ set (now (lists .entry)) i (removeOf (keysAt (now (lists .entry)) i) key) ⌝ }
 {
-    let there = contains(slab, key);
-    if there { keys::append(slab, key) } else { slab }
+    let there = contains_at(lists, i, key);
+    if there {
+        keys::append_at(lists, i, key);
+    }
 }
 
 // How many actors there are.
-pub fn len(slab: [u8; 65]) -> u8
-    ensures { λ r. ⌜ r ≡ liveCount slab ⌝ }
+pub fn len_at(lists: &[[u8; 65]], i: usize) -> u8
+    ensures { λ r. ⌜ r ≡ liveCount (keysAt (now (lists .entry)) i) ⌝ }
 {
-    let given = slab[64];
-    let freed = keys::count(slab);
+    let given = given_at(lists, i);
+    let freed = keys::count_at(lists, i);
     if freed <= given { given - freed } else { 0 }
 }
 
 // The first key from `from` on that an actor has: a walk in rising key order.
-pub fn next_key(slab: [u8; 65], from: u8) -> Key
-    ensures { λ r. ⌜ r ≡ nextKey slab (16 - from) from ⌝ }
+pub fn next_key_at(lists: &[[u8; 65]], i: usize, from: u8) -> Key
+    ensures { λ r. ⌜ r ≡ nextKey (keysAt (now (lists .entry)) i) (16 - from) from ⌝ }
 {
     let mut key = from;
     while key < 16 {
-        let there = contains(slab, key);
+        let there = contains_at(lists, i, key);
         if there {
             return Key::At(key);
         }

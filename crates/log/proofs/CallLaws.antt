@@ -30,6 +30,7 @@ use Rattle.log.specs.Recovery.{appending, replacing, flushing, sent, eff
 use Rattle.log.proofs.OpeningLaws.{readLine-record, readLine-done, insert-last, image-snoc, and-left}
 use Rattle.log.proofs.Steps.{extended-stands, logged-stands, live-small, compacted-bytes, compacted-stands}
 use Rattle.log.proofs.Steps.{known-below, without-stands}
+use Rattle.log.proofs.SearchLaws.{open-finds}
 
 -- what a reader of the file would have: the messages, and the next id
 abbrev pub held : Wal → List Message → Read
@@ -281,7 +282,9 @@ module _ (w : Wal) (ms : List Message) (s : Stands w ms) where
 
   mark-acts : (compactAt id : ℕ) → Acts w ms (mark id) (byMark (markOf compactAt w id))
   unfolding markOf
-  mark-acts compactAt id = at (findRow 0 id (openRows w)) refl
+  mark-acts compactAt id =
+      subst (λ o. Acts w ms (mark id) (byMark (markFound compactAt w id o))) (sym (open-finds w ms s id))
+      (at (findRow 0 id (openRows w)) refl)
     where
       at : (o : Option ℕ) → findRow 0 id (openRows w) ≡ o
           → Acts w ms (mark id) (byMark (markFound compactAt w id (findRow 0 id (openRows w))))

@@ -12,6 +12,7 @@ pub mod TableLaws
 pub mod CompactLaws
 pub mod WalLaws
 pub mod RowLaws
+pub mod SearchLaws
 pub mod FieldLaws
 pub mod SizeLaws
 pub mod ScanLaws

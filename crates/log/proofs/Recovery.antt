@@ -15,7 +15,7 @@ use Rattle.text.proofs.WriteLaws.{drop-write}
 use Rattle.log.specs.declared.Order.{Order}
 use Rattle.log.specs.declared.Refusal.{Refusal}
 use Rattle.log.specs.Opening.{Read, Opening, refused, opened, opening, image}
-use Rattle.log.specs.Log.{Wal, openRows, newMessage, appendRefusal, appended, appendJudged, appendOf, findRow}
+use Rattle.log.specs.Log.{Wal, openRows, newMessage, appendRefusal, appended, appendJudged, appendOf, searchRow}
 use Rattle.log.specs.Log.{withoutRow, keeps, markedDone, markFound, markOf, syncOf}
 use Rattle.log.specs.Opened.{Opened, sized, openedBy, openJudged, openOf}
 use Rattle.log.specs.Recovery.{Call, append, mark, sync, ordered, orderedDue, bySync, didCall, Cut, Status}
@@ -202,7 +202,7 @@ call-idle compactAt w (append name body) = judged (appendRefusal w (newMessage w
     judged : (x : Option Refusal) → ordered (appendJudged w m x .answer) ≡ none → appendJudged w m x .wal ≡ w
     judged none q = put (leb (w .counters .size + length (recordLine m)) (length (w .bytes))) refl q
     judged (some r) q = refl
-call-idle compactAt w (mark id) = found (findRow 0 id (openRows w))
+call-idle compactAt w (mark id) = found (searchRow id (openRows w))
   where
     done : (v : Wal) (t : Bool) → keeps compactAt (length (v .bytes)) (v .counters .live) (v .counters .size + length
         (doneLine id)) ≡ t → orderedDue (markedDone compactAt v id .due) ≡ none → _≡_ {A = ℕ} 0 1

@@ -20,7 +20,8 @@ unfolding RowEnds.allTrue RowEnds.rowEnds RowEnds.sameBytes RowEnds.ids RowEnds.
     Opening.insert Opening.remove Opening.takeIn Opening.readLines Opening.readFile Opening.fits Opening.allFit
     Opening.judge Opening.opening Opening.image
     Log.extended Log.movable Log.squeezed Log.settled Log.compacted Log.withRecord Log.appendRefusal Log.appended
-    Log.appendOf Log.findRow Log.withoutRow Log.keeps Log.markedDone Log.markOf Log.syncOf Recovery.didCall
+    Log.appendOf Log.halved Log.searchRow Log.withoutRow Log.keeps Log.markedDone Log.markOf Log.syncOf
+    Recovery.didCall
 row-ends = refl
 
 pub refusals-hold : allTrue refusals ≡ true
@@ -33,7 +34,8 @@ unfolding RowEnds.allTrue RowEnds.refusals RowEnds.refusedBy RowEnds.answeredBy 
     Opening.insert Opening.remove Opening.takeIn Opening.readLines Opening.readFile Opening.fits Opening.allFit
     Opening.judge Opening.opening Opening.image
     Log.extended Log.movable Log.squeezed Log.settled Log.compacted Log.withRecord Log.appendRefusal Log.appended
-    Log.appendOf Log.findRow Log.withoutRow Log.keeps Log.markedDone Log.markOf Log.syncOf Recovery.didCall
+    Log.appendOf Log.halved Log.searchRow Log.withoutRow Log.keeps Log.markedDone Log.markOf Log.syncOf
+    Recovery.didCall
 refusals-hold = refl
 
 pub spellings-hold : allTrue spellings ≡ true

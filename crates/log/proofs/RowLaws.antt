@@ -49,7 +49,7 @@ rise-high (x ∷ rs) low high high' h r = (r .0, rise-high rs (suc (rowId x)) hi
 pub rise-wide : (rs : List (List ℕ)) (low high : ℕ) → high ≤ 2 ^ 64 → RowsRise low rs high → RowsRise 0 rs (2 ^ 64)
 rise-wide rs low high h r = rise-low rs low 0 (2 ^ 64) (omega arith) (rise-high rs low high (2 ^ 64) h r)
 
-rise-at : (rs : List (List ℕ)) (low high k : ℕ) → RowsRise low rs high → k < length rs → low ≤ rowId (getD rs k [])
+pub rise-at : (rs : List (List ℕ)) (low high k : ℕ) → RowsRise low rs high → k < length rs → low ≤ rowId (getD rs k [])
 rise-at [] low high k r h = absurd (omega arith)
 rise-at (x ∷ rs) low high zero r h = r .0
 rise-at (x ∷ rs) low high (suc k) r h = omega (arith, r .0, rise-at rs (suc (rowId x)) high k (r .1) (omega arith))

@@ -1,18 +1,16 @@
 -- Laws of the rows in use: the first `count` of a table, read by places.
 use mathlib.Core.Path.{_≡_, refl, ap, sym, _∙_}
 use mathlib.Core.Bool.{Bool, true, false}
-use mathlib.Core.Option.{none, some}
 use mathlib.Core.List.{List, [], _∷_, _++_}
 use Prim.Native.Nat.{ℕ, suc, _+_, _-_, _≤_, _<_}
 use native.Mathlib.Numerals.{add-one}
 use native.Mathlib.Omega.{arith}
-use borrow.Author.Tests.{eq-eqb, ne-eqb, le-leb, lt-leb, leb-true, leb-false}
-use lib.Dec.{eqb, leb}
+use borrow.Author.Tests.{le-leb, lt-leb, leb-true, leb-false}
+use lib.Dec.{leb}
 use lib.ListN.{length, take, drop, getD, length-take, drop-of-length-le}
 use lib.Seq.{drop-cons, getD-take, take-take}
 use Rattle.text.specs.Bytes.{write, part}
 use Rattle.text.proofs.WriteLaws.{take-written, part-take, length-part}
-use Rattle.log.specs.Log.{rowId, findRow}
 
 module _ {A : Type 0} (z : A) (rows : List A) (count i : ℕ) where
   pub next-row : i < count → i < length rows → drop i (take count rows) ≡ getD rows i z ∷ drop (i + 1)
@@ -54,21 +52,6 @@ put-in table i n e h l =
     ∙ (take-written table i (e ∷ part table i n) (omega arith)
     ∙ (ap (λ x. take i table ++ e ∷ x) (part-take table i n h (omega arith)) ∙ ap (λ x. x ++ e ∷ drop i (take n table))
     (sym (take-take i n table h))))
-
--- the search for an id
-module _ (i id : ℕ) (rs : List (List ℕ)) where
-  pub found-none : rs ≡ [] → findRow i id rs ≡ none
-  unfolding findRow
-  found-none e = rw e refl
-
-  pub found-here : (r : List ℕ) (more : List (List ℕ)) → rs ≡ r ∷ more → rowId r ≡ id → findRow i id rs ≡ some i
-  unfolding findRow
-  found-here r more e h = let t : eqb (rowId r) id ≡ true = eq-eqb (rowId r) id h in cc
-
-  pub found-later : (r : List ℕ) (more : List (List ℕ)) → rs ≡ r ∷ more → (rowId r ≡ id → ⊥) → findRow i id rs
-      ≡ findRow (i + 1) id more
-  unfolding findRow
-  found-later r more e h = let t : eqb (rowId r) id ≡ false = ne-eqb (rowId r) id h in rw add-one (cc)
 
 -- a sum compared without being made
 pub room-behind : (size n long : ℕ) → size ≤ long → leb n (long - size) ≡ leb (size + n) long

@@ -18,8 +18,8 @@ use Rattle.log.specs.declared.Due.the-variants as due
 use Rattle.log.specs.declared.SteppedDue.{SteppedDue}
 use Rattle.log.specs.declared.table.Found.the-variants.{At, Missing}
 use Rattle.log.specs.Log.{row, Wal, state, openRows, DidAppend, DidMark, turnedAway, extended, squeezed, settled}
-use Rattle.log.specs.Log.{compacted, withRecord, logged, newMessage, appendRefusal, appended, appendOf, findRow}
-use Rattle.log.specs.Log.{withoutRow, keeps, markedDone, markOf, syncOf}
+use Rattle.log.specs.Log.{compacted, withRecord, logged, newMessage, appendRefusal, appended, appendOf}
+use Rattle.log.specs.Log.{searchRow, withoutRow, keeps, markedDone, markOf, syncOf}
 use Rattle.log.specs.Table.{foundOf}
 use Rattle.log.specs.Opening.{fits}
 use Rattle.log.proofs.OpeningLaws.{and-left}
@@ -164,12 +164,12 @@ pub found-at : (i : ℕ) (o : Option ℕ) → At i ≡ foundOf o → o ≡ some 
 found-at i none e = let z : _≡_ {A = ℕ} 0 1 = cc in absurd (omega arith)
 found-at i (some j) e = cc
 
-pub mark-unknown : (limit : ℕ) (w : Wal) (id : ℕ) → findRow 0 id (openRows w) ≡ none
+pub mark-unknown : (limit : ℕ) (w : Wal) (id : ℕ) → searchRow id (openRows w) ≡ none
     → record { wal = w; due = due.Nothing } ≡ markOf limit w id
 unfolding markOf
 mark-unknown limit w id e = rw e refl
 
-pub mark-known : (limit : ℕ) (w : Wal) (id i : ℕ) → findRow 0 id (openRows w) ≡ some i
+pub mark-known : (limit : ℕ) (w : Wal) (id i : ℕ) → searchRow id (openRows w) ≡ some i
     → markedDone limit (withoutRow w i) id ≡ markOf limit w id
 unfolding markOf
 mark-known limit w id i e = rw e refl

@@ -4,7 +4,7 @@ use mathlib.Core.Bool.{Bool, true, false, _&&_}
 use mathlib.Core.Option.{Option, none, some}
 use mathlib.Core.List.{List, [], _∷_}
 use mathlib.Core.Path.{_≡_}
-use Prim.Native.Nat.{ℕ, suc, _+_, _-_, _*_, _^_, _≤_, _<_, max}
+use Prim.Native.Nat.{ℕ, zero, suc, _+_, _-_, _*_, _/_, _^_, _≤_, _<_, max}
 use lib.Dec.{eqb, leb, ltb}
 use lib.ListN.{length, take, getD, set}
 use Rattle.text.specs.Format.{Message, recordLine, doneLine}
@@ -193,6 +193,32 @@ unfoldable pub findRow : ℕ → ℕ → List (List ℕ) → Option ℕ
 findRow i id [] = none
 findRow i id (r ∷ rs) = elim (eqb (rowId r) id) [ true ↦ some i | false ↦ findRow (suc i) id rs ]
 
+-- the place in the middle of those from lo on and below hi
+abbrev pub middle : ℕ → ℕ → ℕ
+middle lo hi = lo + (hi - lo) / 2
+
+-- the place of an id's row, from place lo on and below place hi, searched by halving in at most n turns: the row in
+-- the middle has the id, or the search goes on behind it if its id is smaller, and before it if not
+unfoldable pub halved : ℕ → ℕ → List (List ℕ) → ℕ → ℕ → Option ℕ
+halved zero id rs lo hi = none
+halved (suc n) id rs lo hi = elim (ltb lo hi) [
+  | false ↦ none
+  | true ↦
+      elim (eqb (rowId (getD rs (middle lo hi) [])) id) [
+        | true ↦ some (middle lo hi)
+        | false ↦
+            elim (ltb (rowId (getD rs (middle lo hi) [])) id) [
+              | true ↦ halved n id rs (middle lo hi + 1) hi
+              | false ↦ halved n id rs lo (middle lo hi)
+            ]
+      ]
+]
+
+-- the place of an id's row, searched by halving. Of rows in rising id order it is what `findRow` finds (`search-finds`
+-- in proofs/SearchLaws); of other rows it may miss one.
+unfoldable pub searchRow : ℕ → List (List ℕ) → Option ℕ
+searchRow id rs = halved (length rs) id rs 0 (length rs)
+
 -- one open record less: its row is taken out, and the open records' length falls by the record's
 unfoldable pub withoutRow : Wal → ℕ → Wal
 withoutRow w i = record {
@@ -230,7 +256,7 @@ markFound compactAt w id (some i) = markedDone compactAt (withoutRow w i) id
 
 -- Mark: an id that is not open does nothing; else its message is done
 unfoldable pub markOf : ℕ → Wal → ℕ → DidMark
-markOf compactAt w id = markFound compactAt w id (findRow 0 id (openRows w))
+markOf compactAt w id = markFound compactAt w id (searchRow id (openRows w))
 
 -- Sync: a flush is ordered only where a record was appended since the last one
 unfoldable pub syncOf : Counters → SteppedDue

@@ -21,8 +21,8 @@ use crate::Refusal;
 use crate::Stepped;
 use crate::table::Found;
 use crate::table::close_row;
-use crate::table::find_row;
 use crate::table::open_row;
+use crate::table::search_row;
 use crate::table::set_row;
 use lines::Line;
 use lines::line_at;
@@ -159,7 +159,7 @@ fn take_row(rows: &mut [[u64; 3]], p: Pass, id: u64) -> Pass
     ensures same { λ r. ⌜ (r .hi ≡ p .hi) × (r .next ≡ p .next) ⌝ }
 {
     let count = p.count;
-    let Found::At(i) = find_row(rows, count, id) else {
+    let Found::At(i) = search_row(rows, count, id) else {
         return p;
     };
     close_row(rows, i, count);

@@ -5,7 +5,7 @@ ghost use mathlib.Core.List.{_∷_};
 ghost use Prim.Native.Nat.{_+_, _≤_, _<_};
 ghost use lib.ListN.{length, take, set};
 ghost use Rattle.text.specs.Bytes.{write, part};
-ghost use Rattle.log.specs.Log.{row, findRow};
+ghost use Rattle.log.specs.Log.{row, searchRow};
 ghost use Rattle.log.specs.Table.{foundOf};
 
 pub enum Found {
@@ -13,20 +13,26 @@ pub enum Found {
     Missing,
 }
 
-// The place of an id's row.
-pub(crate) fn find_row(rows: &[[u64; 3]], count: usize, id: u64) -> Found
-    ensures { λ r. ⌜ r ≡ foundOf (findRow 0 id (take count (now (rows .entry)))) ⌝ }
+// The place of an id's row. Ids rise, so it is searched by halving: of 256 rows at most 9 are read.
+pub(crate) fn search_row(rows: &[[u64; 3]], count: usize, id: u64) -> Found
+    ensures { λ r. ⌜ r ≡ foundOf (searchRow id (take count (now (rows .entry)))) ⌝ }
 {
-    let mut i: usize = 0;
-    while i < count {
-        if rows.len() <= i {
-            return Found::Missing;
+    let mut lo: usize = 0;
+    let mut hi = count;
+    if rows.len() < hi {
+        hi = rows.len();
+    }
+    while lo < hi {
+        let mid = lo + (hi - lo) / 2;
+        let here = rows[mid][0];
+        if here == id {
+            return Found::At(mid);
         }
-        let r = rows[i];
-        if r[0] == id {
-            return Found::At(i);
+        if here < id {
+            lo = mid + 1;
+        } else {
+            hi = mid;
         }
-        i += 1;
     }
     Found::Missing
 }

@@ -20,7 +20,7 @@ use crate::Stepped;
 use crate::SteppedDue;
 use crate::table::Found;
 use crate::table::close_row;
-use crate::table::find_row;
+use crate::table::search_row;
 use crate::table::set_row;
 use text::escape::Measure;
 use text::record::done_len;
@@ -331,7 +331,7 @@ fn mark_step(
 {
     let n = id.0;
     let count = counters.count;
-    let Found::At(i) = find_row(records, count, n) else {
+    let Found::At(i) = search_row(records, count, n) else {
         return SteppedDue {
             counters,
             due: Due::Nothing,

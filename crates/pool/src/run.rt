@@ -22,8 +22,7 @@ fn waiters(lists: &[[u8; 65]], groups: usize) -> bool
     while 0 < g {
         g -= 1;
         let row = roster::waiting_row(g);
-        let held = keys::keys_at(lists, row);
-        let n = keys::count(held);
+        let n = keys::count_at(lists, row);
         if 0 < n {
             return true;
         }

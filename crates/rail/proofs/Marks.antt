@@ -21,6 +21,7 @@ use Rattle.log.specs.Log.{markedDone, markOf}
 use Rattle.log.specs.Stands.{Stands, Tabled}
 use Rattle.log.specs.Recovery as disk
 use Rattle.log.proofs.WalLaws.{mark-known}
+use Rattle.log.proofs.SearchLaws.{open-finds}
 use Rattle.log.proofs.RecoveryLaws as log
 use Rattle.log.proofs.Recovery.{call-tail}
 use Rattle.handing.specs.Handing.{idsOf}
@@ -68,7 +69,7 @@ pub mark-goes : (limit : ℕ) (w : Wal) (ms : List Message) (x : ℕ) → Stands
 unfolding withoutRow
 mark-goes limit w ms x stands there =
     let found = row-found x (w .counters .size) (w .bytes) ms (openRows w) 0 0 (stands .tabled) there in
-    subst (GoesOut (w .counters .next)) (mark-known limit w x (found .0) (found .1))
+    subst (GoesOut (w .counters .next)) (mark-known limit w x (found .0) (open-finds w ms stands x ∙ found .1))
     (done-goes limit (withoutRow w (found .0)) x)
 
 -- the journal after it

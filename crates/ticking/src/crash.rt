@@ -114,8 +114,7 @@ fn trapped_next(lists: &[[u8; 65]], c: Cursor, from: u8) -> Where
     ensures { λ r. ⌜ atOf r ≡ trappedNext (now (lists .entry)) c from ⌝ }
 {
     let row = roster::slab_row(c.group);
-    let given = keys::keys_at(lists, row);
-    match slab::next_key(given, from) {
+    match slab::next_key_at(lists, row, from) {
         Key::At(key) => words::trapped(c, key),
         Key::Nothing => words::doomed(c, 16),
     }
@@ -128,8 +127,7 @@ pub fn trap_reply(lists: &mut [[u8; 65]], c: Cursor, reply: Reply) -> Where
     let came = question::yes_in(reply);
     match came {
         YesIn::Yes => {
-            let none = keys::empty();
-            keys::put_keys(lists, roster::DOOMED, none);
+            keys::clear_at(lists, roster::DOOMED);
             trapped_next(lists, c, 0)
         }
         YesIn::No => at::ready_after(c),
@@ -220,11 +218,9 @@ pub fn doomed(
             losses,
         };
     }
-    let held = keys::keys_at(lists, roster::DOOMED);
-    match keys::front(held) {
+    match keys::front_at(lists, roster::DOOMED) {
         Key::At(key) => {
-            let rest = keys::pop_front(held);
-            keys::put_keys(lists, roster::DOOMED, rest);
+            keys::pop_at(lists, roster::DOOMED);
             let fewer = lists::less(left, 1);
             doomed_key(groups, links, rows, lists, c, key, fewer, queued, losses)
         }

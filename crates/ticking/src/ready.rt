@@ -157,11 +157,9 @@ pub fn ready(
         };
     }
     let row = roster::ready_row(g);
-    let held = keys::keys_at(lists, row);
-    match keys::front(held) {
+    match keys::front_at(lists, row) {
         Key::At(key) => {
-            let rest = keys::pop_front(held);
-            keys::put_keys(lists, row, rest);
+            keys::pop_at(lists, row);
             let fewer = lists::less(pops, 1);
             let c = Cursor {
                 group: g,

@@ -45,9 +45,7 @@ pub(crate) fn remove_key(lists: &mut [[u8; 65]], g: usize, key: u8)
     ensures { λ r. ⌜ now (lists .exit) ≡ removeKey (now (lists .entry)) g key ⌝ }
 {
     let row = roster::slab_row(g);
-    let given = keys::keys_at(lists, row);
-    let fewer = slab::remove(given, key);
-    keys::put_keys(lists, row, fewer);
+    slab::remove_at(lists, row, key);
 }
 
 // The mailbox of an actor that is gone: back to pending if it ever took a message, else over. Queued changes as the

@@ -33,11 +33,8 @@ pub fn wake(lists: &mut [[u8; 65]], count: usize, g: usize, clock: u64) -> Where
         return words::rest();
     }
     let row = roster::waiting_row(g);
-    let waiting = keys::keys_at(lists, row);
-    let n = keys::count(waiting) as u64;
-    keys::put_keys(lists, roster::REST, waiting);
-    let none = keys::empty();
-    keys::put_keys(lists, row, none);
+    let n = keys::count_at(lists, row) as u64;
+    keys::move_at(lists, row, roster::REST);
     let left = at_most_64(n);
     words::wake_next(g, clock, left)
 }
@@ -132,17 +129,14 @@ pub fn wake_next(
         ⌜ record { keys = now (lists .exit); actors = now (actors .exit); at = atOf r }
         ≡ wakeNext (now (lists .entry)) (now (actors .entry)) g clock left ⌝ }
 {
-    let ready = keys::keys_at(lists, roster::ready_row(g));
-    let n = keys::count(ready) as u64;
+    let n = keys::count_at(lists, roster::ready_row(g)) as u64;
     let pops = at_most_64(n);
     if left == 0 {
         return words::ready(g, clock, pops);
     }
-    let rest = keys::keys_at(lists, roster::REST);
-    match keys::front(rest) {
+    match keys::front_at(lists, roster::REST) {
         Key::At(key) => {
-            let fewer = keys::pop_front(rest);
-            keys::put_keys(lists, roster::REST, fewer);
+            keys::pop_at(lists, roster::REST);
             let less = lists::less(left, 1);
             wake_one(lists, actors, g, key, clock, less)
         }

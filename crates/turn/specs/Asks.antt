@@ -1,8 +1,10 @@
 -- What is open: the order that waits, else the turn's question; after a failed order nothing.
+use Prim.Native.Nat.{ℕ}
 use Rattle.lists.specs.Links.{Table}
 use Rattle.actor.specs.declared.question.Question.the-variants as question
 use Rattle.actor.specs.declared.question.Asked.{Asked}
 use Rattle.actor.specs.declared.question.Asked.the-variants as asked
+use Rattle.actor.specs.Questions.{kindWanted}
 use Rattle.steps.specs.StepFixed.{fixedAsks}
 use Rattle.steps.specs.StepEval.{evalAsks}
 use Rattle.group.specs.declared.at.At.{At}
@@ -36,6 +38,11 @@ unfoldable pub askedIn : Disk → At → Table → Table → Asked
 askedIn disk.Free a t rows = askedAt a t rows
 askedIn (disk.Waits o w) a t rows = asked.Open (question.Store o)
 askedIn disk.Failed a t rows = asked.Nothing
+
+-- the kind of reply that is wanted (actor, specs/Questions); 8 where nothing is open, which is the kind of no reply
+unfoldable pub wantedBy : Asked → ℕ
+wantedBy (asked.Open q) = kindWanted q
+wantedBy asked.Nothing = 8
 
 abbrev pub openIn : State → Asked
 openIn s = askedIn (s .pool .turn .disk) (s .pool .turn .at) (s .links) (s .rows)

@@ -3,7 +3,7 @@ use crate::oracle::config::{Message, Reply as Caller};
 use crate::oracle::opening::{self, Opened};
 use crate::oracle::script;
 use crate::oracle::standins::mio::Waker;
-use compare::bench::clock::time;
+use compare::bench::clock::{counted, time};
 use compare::bench::lists::Timed;
 use compare::model::pool::{Call, Question, Reply, Settings};
 use compare::property::list::Opening;
@@ -58,16 +58,27 @@ impl Calls {
 
     /// The time of the timed calls, in nanoseconds.
     pub fn run(&mut self) -> f64 {
+        let (mut rust, steps) = self.set_up();
+        let taken = time(|| rust.steps(steps));
+        assert_eq!(script::rest(), 0, "every reply was asked for");
+        taken
+    }
+
+    /// The timed calls, for their instructions.
+    pub fn count(&mut self) {
+        let (mut rust, steps) = self.set_up();
+        counted(|| rust.steps(steps));
+    }
+
+    /// The Rust before the timed calls, with the replies to them at hand.
+    fn set_up(&self) -> (Rust, Vec<Step>) {
         fs::write(&self.path, &self.opening.file).unwrap();
         let mut rust = Rust::open(&self.opening.settings, &self.path);
         script::set(self.setup.1.clone());
         rust.steps(self.setup.0.clone());
         assert_eq!(script::rest(), 0, "every reply was asked for");
         script::set(self.timed.1.clone());
-        let steps = self.timed.0.clone();
-        let taken = time(|| rust.steps(steps));
-        assert_eq!(script::rest(), 0, "every reply was asked for");
-        taken
+        (rust, self.timed.0.clone())
     }
 }
 

@@ -1,27 +1,30 @@
--- `refusals::fits_in` meets its contract: by its calls and its tests. Assumes nothing.
+-- `refusals::fits_in` meets its contract: a reply fits where it is of the kind that is wanted. Assumes nothing.
+use mathlib.Core.Path.{sym, _∙_}
+use Rattle.front.proofs.RefusalLaws.{fits-wanted}
+use borrow.Author.Tests.{eq-eqb, ne-eqb}
 use borrow.Author.Needs.{needs}
 use Rattle.front.proofs.refusals.fits_in.Statement.{statement}
 use Rattle.front.proofs.refusals.fits_in.Tie as tie
 
-enum-known-asked : tie.Need-enum-known-asked
-enum-known-asked c = search needs
+wanted-in-requires : tie.Need-wanted-in-requires
+wanted-in-requires c κs = search needs
 
-fits-requires : tie.Need-fits-requires
-fits-requires c κs = search needs
-
-enum-told : tie.Need-enum-told
-enum-told c = search needs
+kind-of-requires : tie.Need-kind-of-requires
+kind-of-requires c κs = search needs
 
 returns : tie.Need-returns
 returns c =
-    let h1 = c .before .before .asked .given .1 in
-    let e1 = c .fits2 .ensures in
-    simp (h1) e1
+    let e1 = c .before .before .wanted-in .ensures in
+    let e2 = c .before .kind-of .ensures in
+    let h1 = simp (e1, e2) at (eq-eqb _ _ (c .if1 .taken)) in
+    sym h1 ∙ fits-wanted _ _
 
 returns-2 : tie.Need-returns-2
 returns-2 c =
-    let h1 = c .enum-told .given .1 in
-    simp (h1)
+    let e1 = c .before .before .wanted-in .ensures in
+    let e2 = c .before .kind-of .ensures in
+    let h1 = simp (e1, e2) at (ne-eqb _ _ (c .if1 .left)) in
+    sym h1 ∙ fits-wanted _ _
 
 pub fits-in-spec : {M : Type 1} → statement M
-fits-in-spec = tie.close (tie.spec enum-known-asked fits-requires enum-told returns returns-2)
+fits-in-spec = tie.close (tie.spec wanted-in-requires kind-of-requires returns returns-2)

@@ -19,8 +19,8 @@ returns c bytes records store groups keys actors =
     let h1 = simp (e1, e2) at (c .if1 .taken) in
     simp (e1, e2, h1)
 
-open-now-requires : tie.Need-open-now-requires
-open-now-requires c κs = search needs
+where-in-requires : tie.Need-where-in-requires
+where-in-requires c κs = search needs
 
 fits-in-requires : tie.Need-fits-in-requires
 fits-in-requires c κs = search needs
@@ -31,7 +31,7 @@ returns-2 c bytes records store groups keys actors =
     let e1 = c .before .before .before .before .before .disk-in .ensures in
     let e2 = c .before .before .before .before .is-failed .ensures in
     let h1 = simp (e1, e2) at (c .before .before .before .if1 .left) in
-    let e3 = c .before .before .open-now .ensures in
+    let e3 = c .before .before .where-in .ensures in
     let e4 = c .before .fits-in .ensures in
     let h2 = simp (e1, e2, e3, e4) at (c .if2 .taken) in
     simp (e1, e2, e3, e4, h1, h2)
@@ -48,7 +48,7 @@ returns-3 c bytes records store groups keys actors =
     let e1 = c .before .before .before .before .before .before .before .before .disk-in .ensures in
     let e2 = c .before .before .before .before .before .before .before .is-failed .ensures in
     let h1 = simp (e1, e2) at (c .before .before .before .before .before .before .if1 .left) in
-    let e3 = c .before .before .before .before .before .open-now .ensures in
+    let e3 = c .before .before .before .before .before .where-in .ensures in
     let e4 = c .before .before .before .before .fits-in .ensures in
     let h2 = simp (e1, e2, e3, e4) at (c .before .before .before .if2 .left) in
     let e5 = c .before .before .is-message .ensures in
@@ -62,7 +62,7 @@ returns-4 c bytes records store groups keys actors =
     let e1 = c .before .before .before .before .before .before .before .disk-in .ensures in
     let e2 = c .before .before .before .before .before .before .is-failed .ensures in
     let h1 = simp (e1, e2) at (c .before .before .before .before .before .if1 .left) in
-    let e3 = c .before .before .before .before .open-now .ensures in
+    let e3 = c .before .before .before .before .where-in .ensures in
     let e4 = c .before .before .before .fits-in .ensures in
     let h2 = simp (e1, e2, e3, e4) at (c .before .before .if2 .left) in
     let e5 = c .before .is-message .ensures in
@@ -76,7 +76,7 @@ reply-check-spec =
     disk-in-requires
     is-failed-requires
     returns
-    open-now-requires
+    where-in-requires
     fits-in-requires
     returns-2
     is-message-requires

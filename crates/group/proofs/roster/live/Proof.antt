@@ -11,21 +11,17 @@ slot-at-requires c κs = search needs
 slab-row-requires : tie.Need-slab-row-requires
 slab-row-requires c κs = search needs
 
-keys-at-requires : tie.Need-keys-at-requires
-keys-at-requires c κs = search needs
-
-contains-requires : tie.Need-contains-requires
-contains-requires c κs = search needs
+contains-at-requires : tie.Need-contains-at-requires
+contains-at-requires c κs = search needs
 
 returns : tie.Need-returns
 unfolding liveOf
 returns c =
-    let e1 = c .before .before .before .before .slot-at .ensures in
-    let h1 = simp (e1) at (lt-ltb _ _ (c .before .before .before .if1 .taken)) in
-    let e2 = c .before .before .slab-row .ensures in
-    let e3 = c .before .keys-at .ensures in
-    let e4 = c .contains .ensures in
-    simp (e2, e3, e4, h1)
+    let e1 = c .before .before .before .slot-at .ensures in
+    let h1 = simp (e1) at (lt-ltb _ _ (c .before .before .if1 .taken)) in
+    let e2 = c .before .slab-row .ensures in
+    let e3 = c .contains-at .ensures in
+    simp (e2, e3, h1)
 
 returns-2 : tie.Need-returns-2
 unfolding liveOf
@@ -36,11 +32,4 @@ returns-2 c =
 
 pub live-spec : {M : Type 1} → statement M
 live-spec =
-    tie.close
-    (tie.spec
-    slot-at-requires
-    slab-row-requires
-    keys-at-requires
-    contains-requires
-    returns
-    returns-2)
+    tie.close (tie.spec slot-at-requires slab-row-requires contains-at-requires returns returns-2)

@@ -1,40 +1,107 @@
--- `roster::pop_idle` meets its contract: what is left of the idle list is stored. Assumes nothing.
-use Rattle.group.specs.Roster.{popIdleOf}
+-- `roster::pop_idle` meets its contract: the keys that are left in the list give what the whole list does, and the table
+-- differs from that at the start only in the idle list, which does not say who is live. The measure is how many keys are
+-- left. Assumes nothing.
+use mathlib.Core.Path.{sym, ap, _∙_}
+use native.Mathlib.Omega.{arith}
+use lib.ListN.{length, length-set}
+use Rattle.group.proofs.Idle.{Taken, taken-start, Left, idle-none, idle-found, idle-passed, idle-blank}
 use borrow.Author.Needs.{needs}
 use Rattle.group.proofs.roster.pop_idle.Statement.{statement}
 use Rattle.group.proofs.roster.pop_idle.Tie as tie
 
-idle-row-requires : tie.Need-idle-row-requires
+abbrev Inv-loop : tie.InvT-loop
+Inv-loop lists₀ actors g row n₀ lists n = Taken lists₀ lists row n × Left lists₀ lists actors g row n
+
+abbrev μ-loop : tie.MeasureT-loop
+μ-loop lists₀ actors g row n₀ lists n = n
+
+idle-row-requires : tie.Need-idle-row-requires Inv-loop μ-loop
 idle-row-requires c κs = search needs
 
-keys-at-requires : tie.Need-keys-at-requires
-keys-at-requires c κs = search needs
+count-at-requires : tie.Need-count-at-requires Inv-loop μ-loop
+count-at-requires c κs = search needs
 
-pop-idle-row-requires : tie.Need-pop-idle-row-requires
-pop-idle-row-requires c κs = search needs
+loop-holds : tie.Need-loop-holds Inv-loop μ-loop
+loop-holds c = (rw (c .count-at .ensures) (taken-start _ _), rw (c .count-at .ensures))
 
-put-keys-requires : tie.Need-put-keys-requires
-put-keys-requires c κs = search needs
+last-at-requires : tie.Need-last-at-requires Inv-loop μ-loop
+last-at-requires c κs = search needs
 
-same-length : tie.Need-same-length
-same-length c = search needs
+pop-end-at-requires : tie.Need-pop-end-at-requires Inv-loop μ-loop
+pop-end-at-requires c κs = search needs
 
-returns : tie.Need-returns
-unfolding popIdleOf
+sub-n : tie.Need-sub-n Inv-loop μ-loop
+sub-n c = search needs
+
+enum-known-came : tie.Need-enum-known-came Inv-loop μ-loop
+enum-known-came c = search needs
+
+idle-key-requires : tie.Need-idle-key-requires Inv-loop μ-loop
+idle-key-requires c κs = search needs
+
+same-length : tie.Need-same-length Inv-loop μ-loop
+same-length c =
+    let l = c .before .before .before .before .before .before .before .before .before .before .before .before .loop in
+    (ap length (c .before .before .before .before .before .before .before .pop-end-at .ensures) ∙ simp length-set) ∙ (ap length (l .inv .0 .0) ∙ simp length-set)
+
+returns : tie.Need-returns Inv-loop μ-loop
 returns c =
-    let e1 = c .before .before .before .before .before .before .before .before .idle-row .ensures in
-    let e2 = c .before .before .before .before .before .before .keys-at .ensures in
-    let e3 = c .before .before .before .before .pop-idle-row .ensures in
-    let e4 = c .before .put-keys .ensures in
-    simp (e1, e2, e3, e4)
+    let l = c .before .before .before .before .before .before .before .before .before .before .before .before .loop in
+    let came = sym (c .before .before .before .before .before .before .before .before .before .last-at .ensures) ∙ c .before .before .before .before .came .given .1 in
+    idle-found _ (l .lists) _ _ _ _ (l .n) (c .before .before .before .before .before .before .before .before .before .before .before .before .before .before .before .idle-row .ensures) (l .inv .0) (l .inv .1) (c .before .before .before .before .before .before .before .before .before .before .before .loop-test .taken)
+    (c .before .before .before .before .before .before .before .pop-end-at .ensures) _ came (sym (c .before .idle-key .ensures) ∙ c .if1 .taken)
+
+loop-less : tie.Need-loop-less Inv-loop μ-loop
+loop-less c = omega arith
+
+loop-again : tie.Need-loop-again Inv-loop μ-loop
+loop-again c =
+    let l = c .before .before .before .before .before .before .before .before .before .before .before .before .loop in
+    let came = sym (c .before .before .before .before .before .before .before .before .before .last-at .ensures) ∙ c .before .before .before .before .came .given .1 in
+    idle-passed _ (l .lists) _ _ _ _ (l .n) (c .before .before .before .before .before .before .before .before .before .before .before .before .before .before .before .idle-row .ensures) (l .inv .0) (l .inv .1) (c .before .before .before .before .before .before .before .before .before .before .before .loop-test .taken)
+    (c .before .before .before .before .before .before .before .pop-end-at .ensures) _ came (sym (c .before .idle-key .ensures) ∙ c .if1 .left)
+
+enum-told : tie.Need-enum-told Inv-loop μ-loop
+enum-told c = search needs
+
+loop-less-2 : tie.Need-loop-less-2 Inv-loop μ-loop
+loop-less-2 c = omega arith
+
+loop-again-2 : tie.Need-loop-again-2 Inv-loop μ-loop
+loop-again-2 c =
+    let l = c .before .before .before .before .before .before .before .before .loop in
+    let came = sym (c .before .before .before .before .before .last-at .ensures) ∙ c .enum-told .given .1 in
+    idle-blank _ (l .lists) _ _ _ _ (l .n) (c .before .before .before .before .before .before .before .before .before .before .before .idle-row .ensures) (l .inv .0) (l .inv .1) (c .before .before .before .before .before .before .before .loop-test .taken)
+    (c .before .before .before .pop-end-at .ensures) came
+
+same-length-2 : tie.Need-same-length-2 Inv-loop μ-loop
+same-length-2 c = ap length (c .before .loop .inv .0 .0) ∙ simp length-set
+
+returns-2 : tie.Need-returns-2 Inv-loop μ-loop
+returns-2 c =
+    let l = c .before .loop in
+    idle-none _ (l .lists) _ _ _ (l .n) (c .before .before .before .before .idle-row .ensures) (l .inv .0) (l .inv .1) (c .loop-test .left)
 
 pub pop-idle-spec : {M : Type 1} → statement M
 pop-idle-spec =
     tie.close
     (tie.spec
+    Inv-loop
+    μ-loop
     idle-row-requires
-    keys-at-requires
-    pop-idle-row-requires
-    put-keys-requires
+    count-at-requires
+    loop-holds
+    last-at-requires
+    pop-end-at-requires
+    sub-n
+    enum-known-came
+    idle-key-requires
     same-length
-    returns)
+    returns
+    loop-less
+    loop-again
+    enum-told
+    loop-less-2
+    loop-again-2
+    same-length-2
+    returns-2)

@@ -8,11 +8,8 @@ use Rattle.group.proofs.roster.spawn.Tie as tie
 slab-row-requires : tie.Need-slab-row-requires
 slab-row-requires c κs = search needs
 
-keys-at-requires : tie.Need-keys-at-requires
-keys-at-requires c κs = search needs
-
-vacant-requires : tie.Need-vacant-requires
-vacant-requires c κs = search needs
+vacant-at-requires : tie.Need-vacant-at-requires
+vacant-at-requires c κs = search needs
 
 enum-known-key : tie.Need-enum-known-key
 enum-known-key c = search needs
@@ -32,14 +29,13 @@ same-length-2 c = search needs
 returns : tie.Need-returns
 unfolding spawnOf
 returns c =
-    let e1 = c .before .before .before .before .before .before .before .before .before .before .before .slab-row .ensures in
-    let e2 = c .before .before .before .before .before .before .before .before .before .keys-at .ensures in
-    let e3 = c .before .before .before .before .before .before .before .before .vacant .ensures in
-    let h1 = simp (e1, e2, e3) at (c .before .before .before .before .before .before .key .given .1) in
-    let e4 = c .before .before .spawn-key .ensures in
-    let e4-keys = ap (λ (s : Keyed). s .keys) e4 in
-    let e4-actors = ap (λ (s : Keyed). s .actors) e4 in
-    simp (e4-keys, e4-actors, h1)
+    let e1 = c .before .before .before .before .before .before .before .before .before .before .slab-row .ensures in
+    let e2 = c .before .before .before .before .before .before .before .before .vacant-at .ensures in
+    let h1 = simp (e1, e2) at (c .before .before .before .before .before .before .key .given .1) in
+    let e3 = c .before .before .spawn-key .ensures in
+    let e3-keys = ap (λ (s : Keyed). s .keys) e3 in
+    let e3-actors = ap (λ (s : Keyed). s .actors) e3 in
+    simp (e3-keys, e3-actors, h1)
 
 same-length-3 : tie.Need-same-length-3
 same-length-3 c = search needs
@@ -47,10 +43,9 @@ same-length-3 c = search needs
 returns-2 : tie.Need-returns-2
 unfolding spawnOf
 returns-2 c =
-    let e1 = c .before .before .before .before .before .slab-row .ensures in
-    let e2 = c .before .before .before .keys-at .ensures in
-    let e3 = c .before .before .vacant .ensures in
-    let h1 = simp (e1, e2, e3) at (c .enum-told .given .1) in
+    let e1 = c .before .before .before .before .slab-row .ensures in
+    let e2 = c .before .before .vacant-at .ensures in
+    let h1 = simp (e1, e2) at (c .enum-told .given .1) in
     simp (h1)
 
 pub spawn-spec : {M : Type 1} → statement M
@@ -58,8 +53,7 @@ spawn-spec =
     tie.close
     (tie.spec
     slab-row-requires
-    keys-at-requires
-    vacant-requires
+    vacant-at-requires
     enum-known-key
     spawn-key-requires
     enum-told

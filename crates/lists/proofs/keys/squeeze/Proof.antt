@@ -1,4 +1,5 @@
--- `keys::squeeze` meets its contract: squeezing what is left into the row so far gives the same at every turn. The measure is what is left. Assumes nothing.
+-- `keys::squeeze` meets its contract: squeezing what is left into the row so far gives the same at every turn. The
+-- measure is what is left. Assumes nothing.
 use mathlib.Core.Path.{_≡_, refl, sym, ap, _∙_}
 use mathlib.Core.List.{List}
 use Prim.Native.Nat.{ℕ, _≤_, _-_, _+_}

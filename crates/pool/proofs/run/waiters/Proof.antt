@@ -23,19 +23,15 @@ sub-g c = search needs
 waiting-row-requires : tie.Need-waiting-row-requires Inv-loop μ-loop
 waiting-row-requires c κs = search needs
 
-keys-at-requires : tie.Need-keys-at-requires Inv-loop μ-loop
-keys-at-requires c κs = search needs
-
-count-requires : tie.Need-count-requires Inv-loop μ-loop
-count-requires c κs = search needs
+count-at-requires : tie.Need-count-at-requires Inv-loop μ-loop
+count-at-requires c κs = search needs
 
 returns : tie.Need-returns Inv-loop μ-loop
 returns c =
-    let l = c .before .before .before .before .before .loop in
-    let e1 = c .before .before .before .waiting-row .ensures in
-    let e2 = c .before .before .keys-at .ensures in
-    let e3 = c .before .count .ensures in
-    let some = simp (e3, e2, e1) at (lt-ltb _ _ (c .if1 .taken)) in
+    let l = c .before .before .before .before .loop in
+    let e1 = c .before .before .waiting-row .ensures in
+    let e2 = c .before .count-at .ensures in
+    let some = simp (e2, e1) at (lt-ltb _ _ (c .if1 .taken)) in
     sym (l .inv ∙ (waiters-more _ (l .g) (omega arith) ∙ rw some))
 
 loop-less : tie.Need-loop-less Inv-loop μ-loop
@@ -43,11 +39,10 @@ loop-less c = omega arith
 
 loop-again : tie.Need-loop-again Inv-loop μ-loop
 loop-again c =
-    let l = c .before .before .before .before .before .loop in
-    let e1 = c .before .before .before .waiting-row .ensures in
-    let e2 = c .before .before .keys-at .ensures in
-    let e3 = c .before .count .ensures in
-    let none = simp (e3, e2, e1) at (le-ltb _ _ (c .if1 .left)) in
+    let l = c .before .before .before .before .loop in
+    let e1 = c .before .before .waiting-row .ensures in
+    let e2 = c .before .count-at .ensures in
+    let none = simp (e2, e1) at (le-ltb _ _ (c .if1 .left)) in
     l .inv ∙ (waiters-more _ (l .g) (omega arith) ∙ rw none)
 
 returns-2 : tie.Need-returns-2 Inv-loop μ-loop
@@ -64,8 +59,7 @@ waiters-spec =
     loop-holds
     sub-g
     waiting-row-requires
-    keys-at-requires
-    count-requires
+    count-at-requires
     returns
     loop-less
     loop-again

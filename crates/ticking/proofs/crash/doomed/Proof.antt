@@ -1,7 +1,7 @@
 -- `crash::doomed` meets its contract: by whether one is left to retire; the next key leaves the list of the trapped before its actor is retired. Assumes nothing.
-use mathlib.Core.Path.{_∙_}
 use Rattle.ticking.specs.Crash.{doomedOf}
 use borrow.Author.Tests.{eq-eqb, ne-eqb}
+use mathlib.Core.Path.{_∙_}
 use borrow.Author.Needs.{needs}
 use Rattle.ticking.proofs.crash.doomed.Statement.{statement}
 use Rattle.ticking.proofs.crash.doomed.Tie as tie
@@ -16,20 +16,14 @@ returns c =
     let h1 = eq-eqb _ _ (c .if1 .taken) in
     simp (e1, h1)
 
-keys-at-requires : tie.Need-keys-at-requires
-keys-at-requires c κs = search needs
-
-front-requires : tie.Need-front-requires
-front-requires c κs = search needs
+front-at-requires : tie.Need-front-at-requires
+front-at-requires c κs = search needs
 
 enum-known-key : tie.Need-enum-known-key
 enum-known-key c = search needs
 
-pop-front-requires : tie.Need-pop-front-requires
-pop-front-requires c κs = search needs
-
-put-keys-requires : tie.Need-put-keys-requires
-put-keys-requires c κs = search needs
+pop-at-requires : tie.Need-pop-at-requires
+pop-at-requires c κs = search needs
 
 less-requires : tie.Need-less-requires
 less-requires c κs = search needs
@@ -52,16 +46,9 @@ same-length-3 c = search needs
 returns-2 : tie.Need-returns-2
 unfolding doomedOf
 returns-2 c =
-    let h1 = ne-eqb _ _ (c .before .before .before .before .before .before .before .before .before .before .before .before .before .before .before .before .before .before .if1 .left) in
-    let e1 = c .before .before .before .before .before .before .before .before .before .before .before .before .before .before .before .before .keys-at .ensures in
-    let e2 = c .before .before .before .before .before .before .before .before .before .before .before .before .before .before .before .front .ensures in
-    let h2 = simp (e1, e2) at (c .before .before .before .before .before .before .before .before .before .before .before .before .before .key .given .1) in
-    let e3 = c .before .before .before .before .before .before .before .before .before .before .before .pop-front .ensures in
-    let e4 = c .before .before .before .before .before .before .before .before .before .put-keys .ensures in
-    let e5 = c .before .before .before .before .before .before .before .less .ensures in
-    let e6 = c .before .before .before .doomed-key .ensures in
-    let keys = simp (e1, e3) at e4 in
-    e6 ∙ rw (keys, e5, h1, h2)
+    let h1 = ne-eqb _ _ (c .before .before .before .before .before .before .before .before .before .before .before .before .before .before .before .before .if1 .left) in
+    let h2 = simp (c .before .before .before .before .before .before .before .before .before .before .before .before .before .before .front-at .ensures) at (c .before .before .before .before .before .before .before .before .before .before .before .before .key .given .1) in
+    c .before .before .before .doomed-key .ensures ∙ rw (c .before .before .before .before .before .before .before .before .before .pop-at .ensures, c .before .before .before .before .before .before .before .less .ensures, h1, h2)
 
 same-length-4 : tie.Need-same-length-4
 same-length-4 c = search needs
@@ -69,12 +56,11 @@ same-length-4 c = search needs
 returns-3 : tie.Need-returns-3
 unfolding doomedOf
 returns-3 c =
-    let e1 = c .before .before .before .before .before .before .ready-after .ensures in
-    let h1 = ne-eqb _ _ (c .before .before .before .before .before .if1 .left) in
-    let e2 = c .before .before .before .keys-at .ensures in
-    let e3 = c .before .before .front .ensures in
-    let h2 = simp (e2, e3) at (c .enum-told .given .1) in
-    simp (e1, h1, h2)
+    let e1 = c .before .before .before .before .before .ready-after .ensures in
+    let h1 = ne-eqb _ _ (c .before .before .before .before .if1 .left) in
+    let e2 = c .before .before .front-at .ensures in
+    let h2 = simp (e2) at (c .enum-told .given .1) in
+    simp (e1, e2, h1, h2)
 
 pub doomed-spec : {M : Type 1} → statement M
 doomed-spec =
@@ -82,11 +68,9 @@ doomed-spec =
     (tie.spec
     ready-after-requires
     returns
-    keys-at-requires
-    front-requires
+    front-at-requires
     enum-known-key
-    pop-front-requires
-    put-keys-requires
+    pop-at-requires
     less-requires
     doomed-key-requires
     enum-told

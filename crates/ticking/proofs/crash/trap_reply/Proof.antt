@@ -10,11 +10,8 @@ yes-in-requires c κs = search needs
 enum-told : tie.Need-enum-told
 enum-told c = search needs
 
-empty-requires : tie.Need-empty-requires
-empty-requires c κs = search needs
-
-put-keys-requires : tie.Need-put-keys-requires
-put-keys-requires c κs = search needs
+clear-at-requires : tie.Need-clear-at-requires
+clear-at-requires c κs = search needs
 
 trapped-next-requires : tie.Need-trapped-next-requires
 trapped-next-requires c κs = search needs
@@ -37,12 +34,11 @@ same-length c = search needs
 returns : tie.Need-returns
 unfolding trapReply
 returns c =
-    let e1 = c .before .before .before .before .before .before .before .before .yes-in .ensures in
-    let h1 = simp (e1) at (c .before .before .before .before .before .before .enum-told .given .1) in
-    let e2 = c .before .before .before .before .before .empty .ensures in
-    let e3 = c .before .before .before .put-keys .ensures in
-    let e4 = c .trapped-next .ensures in
-    simp (e2, e3, e4, h1)
+    let e1 = c .before .before .before .before .before .before .before .yes-in .ensures in
+    let h1 = simp (e1) at (c .before .before .before .before .before .enum-told .given .1) in
+    let e2 = c .before .before .before .clear-at .ensures in
+    let e3 = c .trapped-next .ensures in
+    simp (e2, e3, h1)
 
 returns-2 : tie.Need-returns-2
 unfolding trapReply
@@ -57,8 +53,8 @@ unfolding trapReply
 returns-3 c =
     let e1 = c .before .before .before .yes-in .ensures in
     let h1 = simp (e1) at (c .before .enum-told3 .given .1) in
-    let m1 = c .trap .ensures in
-    simp (m1, h1)
+    let e2 = c .trap .ensures in
+    simp (e2, h1)
 
 pub trap-reply-spec : {M : Type 1} → statement M
 trap-reply-spec =
@@ -66,8 +62,7 @@ trap-reply-spec =
     (tie.spec
     yes-in-requires
     enum-told
-    empty-requires
-    put-keys-requires
+    clear-at-requires
     trapped-next-requires
     enum-told-2
     ready-after-requires

@@ -7,14 +7,8 @@ use Rattle.ticking.proofs.settle.remove_key.Tie as tie
 slab-row-requires : tie.Need-slab-row-requires
 slab-row-requires c κs = search needs
 
-keys-at-requires : tie.Need-keys-at-requires
-keys-at-requires c κs = search needs
-
-remove-requires : tie.Need-remove-requires
-remove-requires c κs = search needs
-
-put-keys-requires : tie.Need-put-keys-requires
-put-keys-requires c κs = search needs
+remove-at-requires : tie.Need-remove-at-requires
+remove-at-requires c κs = search needs
 
 same-length : tie.Need-same-length
 same-length c = search needs
@@ -22,19 +16,9 @@ same-length c = search needs
 returns : tie.Need-returns
 unfolding removeKey
 returns c =
-    let e1 = c .before .before .before .before .before .before .slab-row .ensures in
-    let e2 = c .before .before .before .before .keys-at .ensures in
-    let e3 = c .before .before .before .remove .ensures in
-    let e4 = c .before .put-keys .ensures in
-    simp (e1, e2, e3, e4)
+    let e1 = c .before .before .before .slab-row .ensures in
+    let e2 = c .before .remove-at .ensures in
+    simp (e1, e2)
 
 pub remove-key-spec : {M : Type 1} → statement M
-remove-key-spec =
-    tie.close
-    (tie.spec
-    slab-row-requires
-    keys-at-requires
-    remove-requires
-    put-keys-requires
-    same-length
-    returns)
+remove-key-spec = tie.close (tie.spec slab-row-requires remove-at-requires same-length returns)

@@ -12,8 +12,8 @@ returns : tie.Need-returns
 unfolding wakeOf
 returns c =
     let h1 = le-leb _ _ (c .before .if1 .taken) in
-    let m1 = c .rest .ensures in
-    simp (m1, h1)
+    let e1 = c .rest .ensures in
+    simp (e1, h1)
 
 rest-requires-2 : tie.Need-rest-requires-2
 rest-requires-2 c κs = search needs
@@ -23,29 +23,20 @@ unfolding wakeOf
 returns-2 c =
     let h1 = lt-leb _ _ (c .before .before .if1 .left) in
     let h2 = le-leb _ _ (c .before .if2 .taken) in
-    let m1 = c .rest2 .ensures in
-    simp (m1, h1, h2)
+    let e1 = c .rest2 .ensures in
+    simp (e1, h1, h2)
 
 waiting-row-requires : tie.Need-waiting-row-requires
 waiting-row-requires c κs = search needs
 
-keys-at-requires : tie.Need-keys-at-requires
-keys-at-requires c κs = search needs
-
-count-requires : tie.Need-count-requires
-count-requires c κs = search needs
+count-at-requires : tie.Need-count-at-requires
+count-at-requires c κs = search needs
 
 cast-n : tie.Need-cast-n
 cast-n c = search needs
 
-put-keys-requires : tie.Need-put-keys-requires
-put-keys-requires c κs = search needs
-
-empty-requires : tie.Need-empty-requires
-empty-requires c κs = search needs
-
-put-keys-requires-2 : tie.Need-put-keys-requires-2
-put-keys-requires-2 c κs = search needs
+move-at-requires : tie.Need-move-at-requires
+move-at-requires c κs = search needs
 
 at-most-64-requires : tie.Need-at-most-64-requires
 at-most-64-requires c κs = search needs
@@ -59,17 +50,14 @@ same-length c = search needs
 returns-3 : tie.Need-returns-3
 unfolding wakeOf
 returns-3 c =
-    let h1 = lt-leb _ _ (c .before .before .before .before .before .before .before .before .before .before .before .before .before .before .if1 .left) in
-    let h2 = lt-leb _ _ (c .before .before .before .before .before .before .before .before .before .before .before .before .before .if2 .left) in
-    let e1 = c .before .before .before .before .before .before .before .before .before .before .before .before .waiting-row .ensures in
-    let e2 = c .before .before .before .before .before .before .before .before .before .before .keys-at .ensures in
-    let e3 = c .before .before .before .before .before .before .before .before .before .count .ensures in
-    let e4 = c .before .before .before .before .before .before .before .put-keys .ensures in
-    let e5 = c .before .before .before .before .before .empty .ensures in
-    let e6 = c .before .before .before .put-keys2 .ensures in
-    let e7 = c .before .at-most-64 .ensures in
-    let m1 = c .wake-next .ensures in
-    simp (m1, e1, e2, e3, e4, e5, e6, e7, h1, h2)
+    let h1 = lt-leb _ _ (c .before .before .before .before .before .before .before .before .before .if1 .left) in
+    let h2 = lt-leb _ _ (c .before .before .before .before .before .before .before .before .if2 .left) in
+    let e1 = c .before .before .before .before .before .before .before .waiting-row .ensures in
+    let e2 = c .before .before .before .before .before .count-at .ensures in
+    let e3 = c .before .before .before .move-at .ensures in
+    let e4 = c .before .at-most-64 .ensures in
+    let e5 = c .wake-next .ensures in
+    simp (e1, e2, e3, e4, e5, h1, h2)
 
 pub wake-spec : {M : Type 1} → statement M
 wake-spec =
@@ -80,12 +68,9 @@ wake-spec =
     rest-requires-2
     returns-2
     waiting-row-requires
-    keys-at-requires
-    count-requires
+    count-at-requires
     cast-n
-    put-keys-requires
-    empty-requires
-    put-keys-requires-2
+    move-at-requires
     at-most-64-requires
     wake-next-requires
     same-length

@@ -1,0 +1,44 @@
+-- By the numbers, in order.
+use borrow.Author.Tests.{ne-eqb}
+use Rattle.drive.specs.Drive.{statusIn}
+use Rattle.drive.proofs.status_in.Statement.{statement}
+use Rattle.drive.proofs.status_in.Tie as tie
+
+returns : tie.Need-returns
+unfolding statusIn
+returns c = rw (c .if1 .taken)
+
+returns-2 : tie.Need-returns-2
+unfolding statusIn
+returns-2 c = rw (c .if2 .taken)
+
+returns-3 : tie.Need-returns-3
+unfolding statusIn
+returns-3 c = rw (c .if3 .taken)
+
+returns-4 : tie.Need-returns-4
+unfolding statusIn
+returns-4 c = rw (c .if4 .taken)
+
+returns-5 : tie.Need-returns-5
+unfolding statusIn
+returns-5 c = rw (c .if5 .taken)
+
+returns-6 : tie.Need-returns-6
+unfolding statusIn
+returns-6 c = rw (c .if6 .taken)
+
+returns-7 : tie.Need-returns-7
+unfolding statusIn
+returns-7 c =
+    simp (
+      ne-eqb _ _ (c .before .before .before .before .before .if1 .left),
+      ne-eqb _ _ (c .before .before .before .before .if2 .left),
+      ne-eqb _ _ (c .before .before .before .if3 .left),
+      ne-eqb _ _ (c .before .before .if4 .left),
+      ne-eqb _ _ (c .before .if5 .left),
+      ne-eqb _ _ (c .if6 .left),
+    )
+
+pub status-in-spec : {M : Type 1} → statement M
+status-in-spec = tie.close (tie.spec returns returns-2 returns-3 returns-4 returns-5 returns-6 returns-7)

@@ -1,0 +1,67 @@
+-- `keys::last_at` meets its contract: inside the table by its count, and past its end an empty row has no key.
+-- Assumes nothing.
+use borrow.Author.Tests.{eq-eqb, ne-eqb, lt-ltb, le-ltb}
+use borrow.Author.Needs.{needs}
+use Rattle.lists.proofs.Tables.{row-in, row-out}
+use Rattle.lists.proofs.keys.last_at.Statement.{statement}
+use Rattle.lists.proofs.keys.last_at.Tie as tie
+
+mul-n : tie.Need-mul-n
+mul-n c = search needs
+
+index-1-n : tie.Need-index-1-n
+index-1-n c = search needs
+
+index-2-n : tie.Need-index-2-n
+index-2-n c = search needs
+
+returns : tie.Need-returns
+returns c =
+    let row = row-in (c .before .before .before .args .lists .now) (c .before .before .before .args .i) (c .before .before .if1 .taken) in
+    let h1 = eq-eqb _ _ (rw row at (c .if2 .taken)) in
+    rw h1
+
+cast-at : tie.Need-cast-at
+cast-at c = search needs
+
+mul-t13 : tie.Need-mul-t13
+mul-t13 c = search needs
+
+index-1-t17 : tie.Need-index-1-t17
+index-1-t17 c = search needs
+
+index-2-t17 : tie.Need-index-2-t17
+index-2-t17 c = search needs
+
+returns-2 : tie.Need-returns-2
+returns-2 c =
+    let row = row-in (c .before .before .before .before .before .args .lists .now) (c .before .before .before .before .before .args .i) (c .before .before .before .before .if1 .taken) in
+    let h1 = ne-eqb _ _ (rw row at (c .before .before .if2 .left)) in
+    let h2 = lt-ltb _ _ (rw row at (c .before .if3 .taken)) in
+    rw (row, h1, h2)
+
+returns-3 : tie.Need-returns-3
+returns-3 c =
+    let row = row-in (c .before .before .before .before .args .lists .now) (c .before .before .before .before .args .i) (c .before .before .before .if1 .taken) in
+    let h1 = ne-eqb _ _ (rw row at (c .before .if2 .left)) in
+    let h2 = le-ltb _ _ (rw row at (c .if3 .left)) in
+    rw (h1, h2)
+
+returns-4 : tie.Need-returns-4
+returns-4 c = rw (row-out (c .before .args .lists .now) (c .before .args .i) (c .if1 .left))
+
+pub last-at-spec : {M : Type 1} → statement M
+last-at-spec =
+    tie.close
+    (tie.spec
+    mul-n
+    index-1-n
+    index-2-n
+    returns
+    cast-at
+    mul-t13
+    index-1-t17
+    index-2-t17
+    returns-2
+    returns-3
+    returns-4)
