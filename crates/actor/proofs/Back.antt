@@ -1,6 +1,5 @@
 -- What is written to a table is read back, and every other row is as it was. Assumes nothing.
 use mathlib.Core.Path.{_≡_, refl, ap, _∙_}
-use mathlib.Core.Bool.{Bool, true, false}
 use mathlib.Core.Logic.{_≢_}
 use mathlib.Core.List.{List, []}
 use Prim.Native.Nat.{ℕ, _<_}
@@ -11,17 +10,11 @@ use Rattle.actor.specs.declared.message.Caller.the-variants.{From, Nobod
 use Rattle.actor.specs.declared.message.Logged.{Logged}
 use Rattle.actor.specs.declared.message.Logged.the-variants.{As, Never}
 use Rattle.actor.specs.declared.message.Message.{Message}
-use Rattle.actor.specs.declared.state.Mode.{Mode}
-use Rattle.actor.specs.declared.state.Mode.the-variants as mode
-use Rattle.actor.specs.declared.state.Wake.{Wake}
-use Rattle.actor.specs.declared.state.Wake.the-variants as wake
-use Rattle.actor.specs.declared.state.EvalRun.{EvalRun}
-use Rattle.actor.specs.declared.state.EvalRun.the-variants as run
 use Rattle.actor.specs.declared.state.Actor.{Actor}
 use Rattle.actor.specs.Messages.{callerOf, callerTag, callerNumber, loggedOf, loggedTag, loggedNumber, messageOf}
 use Rattle.actor.specs.Messages.{messageCells, messageAt, putMessage}
-use Rattle.actor.specs.Actors.{modeOf, modeCell, flagOf, flagCell, wakeOf, wakeTag, wakeNumber, runOf, runTag}
-use Rattle.actor.specs.Actors.{runNumber, actorOf, actorCells, actorAt, putActor}
+use Rattle.actor.specs.Actors.{actorOf, actorOnto, actorAt, putActor}
+use Rattle.actor.proofs.Onto.{onto-back}
 
 -- ---- a message's row
 
@@ -47,43 +40,12 @@ module _ (rows : List (List ℕ)) (e : ℕ) (m : Message) where
 
 -- ---- an actor's state
 
-mode-back : (m : Mode) → modeOf (modeCell m) ≡ m
-mode-back mode.Fixed = refl
-mode-back mode.Eval = refl
-
-flag-back : (b : Bool) → flagOf (flagCell b) ≡ b
-flag-back true = refl
-flag-back false = refl
-
-wake-back : (w : Wake) → wakeOf (wakeTag w) (wakeNumber w) ≡ w
-wake-back (wake.At ns) = refl
-wake-back wake.Never = refl
-
-run-back : (r : EvalRun) → runOf (runTag r) (runNumber r) ≡ r
-run-back (run.Until ns) = refl
-run-back run.Nothing = refl
-
-pub actor-back : (a : Actor) → actorOf (actorCells a) ≡ a
-unfolding actorOf actorCells
-actor-back a =
-    rw (
-      mode-back (a .mode),
-      flag-back (a .started),
-      flag-back (a .ran),
-      flag-back (a .idle),
-      flag-back (a .runnable),
-      flag-back (a .scheduled),
-      flag-back (a .blocked),
-      flag-back (a .consumed),
-      wake-back (a .«wake_at»),
-      run-back (a .run),
-    )
-
 module _ (l : List (List ℕ)) (slot : ℕ) (a : Actor) where
   pub actor-put : slot < length l → actorAt (putActor l slot a) slot ≡ a
   unfolding actorAt putActor
-  actor-put slot-is = ap actorOf (getD-set-same l slot (actorCells a) [] slot-is) ∙ actor-back a
+  actor-put slot-is =
+      ap actorOf (getD-set-same l slot (actorOnto (getD l slot []) a) [] slot-is) ∙ onto-back (getD l slot []) a
 
   pub actor-other : (j : ℕ) → j ≢ slot → actorAt (putActor l slot a) j ≡ actorAt l j
   unfolding actorAt putActor
-  actor-other j other = ap actorOf (getD-set-other l slot j (actorCells a) [] other)
+  actor-other j other = ap actorOf (getD-set-other l slot j (actorOnto (getD l slot []) a) [] other)

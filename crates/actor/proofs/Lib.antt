@@ -1,2 +1,3 @@
 -- Laws of a message's row and of an actor's state.
+pub mod Onto
 pub mod Back

@@ -73,11 +73,73 @@ actorCells a =
     ∷ flagCell (a .blocked) ∷ flagCell (a .consumed) ∷ wakeTag (a .«wake_at») ∷ wakeNumber (a .«wake_at») ∷ runTag
     (a .run) ∷ runNumber (a .run) ∷ []
 
+-- ---- cells over those of an earlier row: a cell is written only where its meaning changes
+
+abbrev pub flagOnto : ℕ → Bool → ℕ
+flagOnto n true = pick (eqb n 0) 1 n
+flagOnto n false = 0
+
+abbrev pub modeOnto : ℕ → Mode → ℕ
+modeOnto n mode.Fixed = 0
+modeOnto n mode.Eval = flagOnto n true
+
+-- the number of what is not there: as it was where nothing was there before
+abbrev pub keptNumber : ℕ → ℕ → ℕ
+keptNumber tag n = pick (eqb tag 0) n 0
+
+abbrev pub wakeTagOnto : ℕ → Wake → ℕ
+wakeTagOnto tag (wake.At ns) = flagOnto tag true
+wakeTagOnto tag wake.Never = 0
+
+abbrev pub wakeNumberOnto : ℕ → ℕ → Wake → ℕ
+wakeNumberOnto tag n (wake.At ns) = ns
+wakeNumberOnto tag n wake.Never = keptNumber tag n
+
+abbrev pub runTagOnto : ℕ → EvalRun → ℕ
+runTagOnto tag (run.Until ns) = flagOnto tag true
+runTagOnto tag run.Nothing = 0
+
+abbrev pub runNumberOnto : ℕ → ℕ → EvalRun → ℕ
+runNumberOnto tag n (run.Until ns) = ns
+runNumberOnto tag n run.Nothing = keptNumber tag n
+
+unfoldable pub actorOnto : List ℕ → Actor → List ℕ
+actorOnto c a =
+    modeOnto (getD c 0 0) (a .mode) ∷ flagOnto (getD c 1 0) (a .started) ∷ flagOnto (getD c 2 0) (a .ran) ∷
+    flagOnto (getD c 3 0) (a .idle)
+    ∷ flagOnto (getD c 4 0) (a .runnable) ∷ flagOnto (getD c 5 0) (a .scheduled) ∷ flagOnto (getD c 6 0) (a .blocked) ∷
+    flagOnto (getD c 7 0) (a .consumed)
+    ∷ wakeTagOnto (getD c 8 0) (a .«wake_at») ∷ wakeNumberOnto (getD c 8 0) (getD c 9 0) (a .«wake_at») ∷
+    runTagOnto (getD c 10 0) (a .run)
+    ∷ runNumberOnto (getD c 10 0) (getD c 11 0) (a .run) ∷ []
+
+-- a flag of a row is set
+abbrev pub flagged : List ℕ → ℕ → List ℕ
+flagged c i = set c i (flagOnto (getD c i 0) true)
+
+-- a tag says that there is a number, and a cell which; or that there is none
+abbrev pub numbered : List ℕ → ℕ → ℕ → ℕ → List ℕ
+numbered c i at n = set (flagged c i) at n
+
+abbrev pub unnumbered : List ℕ → ℕ → ℕ → List ℕ
+unnumbered c i at = set (set c i 0) at (keptNumber (getD c i 0) (getD c at 0))
+
+-- the row of an actor that waits, and of one whose wait ended
+abbrev pub blockedCells : List ℕ → Wake → List ℕ
+blockedCells c (wake.At ns) = numbered (flagged c 6) 8 9 ns
+blockedCells c wake.Never = unnumbered (flagged c 6) 8 9
+
+abbrev pub wokenCells : List ℕ → List ℕ
+wokenCells c = unnumbered (set (flagged c 4) 6 0) 8 9
+
+-- ---- the table
+
 unfoldable pub actorAt : List (List ℕ) → ℕ → Actor
 actorAt l k = actorOf (getD l k [])
 
+-- A flag that is as it was keeps its number, so that a change of one flag is a change of one cell, of any row.
 unfoldable pub putActor : List (List ℕ) → ℕ → Actor → List (List ℕ)
-putActor l k a = set l k (actorCells a)
+putActor l k a = set l k (actorOnto (getD l k []) a)
 
 -- ---- changes
 

@@ -1,12 +1,15 @@
 // The state of an actor: how it runs (fixed or eval), and plain fields. What it has in its mailbox and in its hands
-// are lists of the crate `lists`.
+// are lists of the crate `lists`. It is read as a whole and changed where it lies, in its row of twelve cells: a
+// change stores the cells whose meaning it changes. The definitions are exact for every row; that what is put is read
+// back is `actor-put` (proofs/Back.antt).
 ghost use mathlib.Core.Path.{_≡_};
 ghost use mathlib.Core.List.{[]};
 ghost use mathlib.Core.Bool.{Bool};
-ghost use Rattle.actor.specs.Actors.{modeOf, modeCell, flagOf, flagCell, wakeOf, wakeTag, wakeNumber, runOf};
-ghost use Rattle.actor.specs.Actors.{runTag, runNumber, actorOf, actorCells, actorAt, putActor, newActor};
-ghost use Rattle.actor.specs.Actors.{deliveredTo, scheduledAs, beganStep, startedAs, idledAs, consumedAs};
-ghost use Rattle.actor.specs.Actors.{runningTo, blockedTo, yieldedAs, wokenAs, deadlineOf, hasRun};
+ghost use lib.ListN.{set};
+ghost use Rattle.actor.specs.Actors.{modeOf, flagOf, wakeOf, runOf, actorOf, modeOnto, keptNumber, flagged};
+ghost use Rattle.actor.specs.Actors.{numbered, unnumbered, blockedCells, wokenCells, actorAt, putActor};
+ghost use Rattle.actor.specs.Actors.{newActor, deliveredTo, scheduledAs, beganStep, startedAs, idledAs};
+ghost use Rattle.actor.specs.Actors.{consumedAs, runningTo, blockedTo, yieldedAs, wokenAs, deadlineOf, hasRun};
 
 // A fixed program that loops over receive(), or an evaluator of one message at a time.
 pub enum Mode {
@@ -52,49 +55,16 @@ fn mode_of(n: u64) -> Mode
     if n == 0 { Mode::Fixed } else { Mode::Eval }
 }
 
-fn mode_cell(m: Mode) -> u64
-    ensures { λ r. ⌜ r ≡ modeCell m ⌝ }
-{
-    match m {
-        Mode::Fixed => 0,
-        Mode::Eval => 1,
-    }
-}
-
 fn flag_of(n: u64) -> bool
     ensures { λ r. ⌜ r ≡ flagOf n ⌝ }
 {
     if n == 0 { false } else { true }
 }
 
-fn flag_cell(b: bool) -> u64
-    ensures { λ r. ⌜ r ≡ flagCell b ⌝ }
-{
-    if b { 1 } else { 0 }
-}
-
 fn wake_of(tag: u64, ns: u64) -> Wake
     ensures { λ r. ⌜ r ≡ wakeOf tag ns ⌝ }
 {
     if tag == 0 { Wake::Never } else { Wake::At(ns) }
-}
-
-fn wake_tag(w: Wake) -> u64
-    ensures { λ r. ⌜ r ≡ wakeTag w ⌝ }
-{
-    match w {
-        Wake::At(_) => 1,
-        Wake::Never => 0,
-    }
-}
-
-fn wake_number(w: Wake) -> u64
-    ensures { λ r. ⌜ r ≡ wakeNumber w ⌝ }
-{
-    match w {
-        Wake::At(ns) => ns,
-        Wake::Never => 0,
-    }
 }
 
 fn run_of(tag: u64, ns: u64) -> EvalRun
@@ -104,24 +74,6 @@ fn run_of(tag: u64, ns: u64) -> EvalRun
         EvalRun::Nothing
     } else {
         EvalRun::Until(ns)
-    }
-}
-
-fn run_tag(r: EvalRun) -> u64
-    ensures { λ x. ⌜ x ≡ runTag r ⌝ }
-{
-    match r {
-        EvalRun::Until(_) => 1,
-        EvalRun::Nothing => 0,
-    }
-}
-
-fn run_number(r: EvalRun) -> u64
-    ensures { λ x. ⌜ x ≡ runNumber r ⌝ }
-{
-    match r {
-        EvalRun::Until(ns) => ns,
-        EvalRun::Nothing => 0,
     }
 }
 
@@ -152,29 +104,8 @@ pub fn actor_of(c: [u64; 12]) -> Actor
     }
 }
 
-pub fn actor_cells(a: Actor) -> [u64; 12]
-    ensures { λ r. ⌜ r ≡ actorCells a ⌝ }
-{
-    let mode = a.mode;
-    let wake_at = a.wake_at;
-    let run = a.run;
-    let c0 = mode_cell(mode);
-    let c1 = flag_cell(a.started);
-    let c2 = flag_cell(a.ran);
-    let c3 = flag_cell(a.idle);
-    let c4 = flag_cell(a.runnable);
-    let c5 = flag_cell(a.scheduled);
-    let c6 = flag_cell(a.blocked);
-    let c7 = flag_cell(a.consumed);
-    let c8 = wake_tag(wake_at);
-    let c9 = wake_number(wake_at);
-    let c10 = run_tag(run);
-    let c11 = run_number(run);
-    [c0, c1, c2, c3, c4, c5, c6, c7, c8, c9, c10, c11]
-}
-
 // An actor that has never been stepped.
-pub fn new_actor(mode: Mode) -> Actor
+fn new_actor(mode: Mode) -> Actor
     ensures { λ r. ⌜ r ≡ newActor mode ⌝ }
 {
     let wake_at = Wake::Never;
@@ -206,139 +137,223 @@ pub fn actor_at(actors: &[[u64; 12]], slot: usize) -> Actor
     }
 }
 
-// A row of the table is stored; past its end nothing is.
-pub fn put_actor(actors: &mut [[u64; 12]], slot: usize, a: Actor)
-    ensures { λ r. ⌜ now (actors .exit) ≡ putActor (now (actors .entry)) slot a ⌝ }
+// ---- cells of one row: a cell is written only where its meaning changes
+
+// A cell of a row is stored.
+fn put_cell(row: &mut [u64], i: usize, n: u64)
+    ensures { λ r. ⌜ now (row .exit) ≡ set (now (row .entry)) i n ⌝ }
 {
-    let c = actor_cells(a);
+    if i < row.len() {
+        row[i] = n;
+    }
+}
+
+// A flag of a row is set.
+fn raise(row: &mut [u64], i: usize)
+    ensures { λ r. ⌜ now (row .exit) ≡ flagged (now (row .entry)) i ⌝ }
+{
+    if i < row.len() {
+        let n = row[i];
+        if n == 0 {
+            row[i] = 1;
+        }
+    }
+}
+
+// The tag at `i` says that there is a number, and the cell `at` which.
+fn put_number(row: &mut [u64], i: usize, at: usize, n: u64)
+    ensures { λ r. ⌜ now (row .exit) ≡ numbered (now (row .entry)) i at n ⌝ }
+{
+    raise(row, i);
+    put_cell(row, at, n);
+}
+
+// The tag at `i` says that there is no number; the one that was there is gone.
+fn clear_number(row: &mut [u64], i: usize, at: usize)
+    ensures { λ r. ⌜ now (row .exit) ≡ unnumbered (now (row .entry)) i at ⌝ }
+{
+    if i < row.len() {
+        let tag = row[i];
+        if tag == 0 {
+            return;
+        }
+        row[i] = 0;
+        put_cell(row, at, 0);
+    }
+}
+
+fn mode_onto(n: u64, m: Mode) -> u64
+    ensures { λ r. ⌜ r ≡ modeOnto n m ⌝ }
+{
+    match m {
+        Mode::Fixed => 0,
+        Mode::Eval => { if n == 0 { 1 } else { n } }
+    }
+}
+
+fn kept_number(tag: u64, n: u64) -> u64
+    ensures { λ r. ⌜ r ≡ keptNumber tag n ⌝ }
+{
+    if tag == 0 { n } else { 0 }
+}
+
+// ---- changes of an actor where it lies; past the table's end nothing is stored
+
+// An actor that has never been stepped takes the slot.
+pub fn new_at(actors: &mut [[u64; 12]], slot: usize, mode: Mode)
+    ensures { λ r. ⌜ now (actors .exit) ≡ putActor (now (actors .entry)) slot (newActor mode) ⌝ }
+{
     if slot < actors.len() {
-        actors[slot] = c;
+        let c = actors[slot];
+        let m = mode_onto(c[0], mode);
+        let ns = kept_number(c[8], c[9]);
+        let until = kept_number(c[10], c[11]);
+        actors[slot] = [m, 0, 0, 0, 0, 0, 0, 0, 0, ns, 0, until];
     }
 }
 
 // A message came to its mailbox: it is idle no more.
-pub fn delivered(a: Actor) -> Actor
-    ensures { λ r. ⌜ r ≡ deliveredTo a ⌝ }
+pub fn delivered_at(actors: &mut [[u64; 12]], slot: usize)
+    ensures { λ r.
+        ⌜ now (actors .exit)
+        ≡ putActor (now (actors .entry)) slot (deliveredTo (actorAt (now (actors .entry)) slot)) ⌝ }
 {
-    let mut b = a;
-    b.idle = false;
-    b
+    if slot < actors.len() {
+        put_cell(&mut actors[slot], 3, 0);
+    }
 }
 
 // In the ready list, or not.
-pub fn scheduled(a: Actor, there: bool) -> Actor
-    ensures { λ r. ⌜ r ≡ scheduledAs a there ⌝ }
+pub fn scheduled_at(actors: &mut [[u64; 12]], slot: usize, there: bool)
+    ensures { λ r.
+        ⌜ now (actors .exit)
+        ≡ putActor (now (actors .entry)) slot (scheduledAs (actorAt (now (actors .entry)) slot) there) ⌝ }
 {
-    let mut b = a;
-    b.scheduled = there;
-    b
+    if slot < actors.len() {
+        if there {
+            raise(&mut actors[slot], 5);
+        } else {
+            put_cell(&mut actors[slot], 5, 0);
+        }
+    }
+}
+
+// The cells of a step that begins.
+fn begin_row(row: &mut [u64])
+    ensures { λ r. ⌜ now (row .exit) ≡ set (flagged (now (row .entry)) 2) 4 0 ⌝ }
+{
+    raise(row, 2);
+    put_cell(row, 4, 0);
 }
 
 // A step begins.
-pub fn began(a: Actor) -> Actor
-    ensures { λ r. ⌜ r ≡ beganStep a ⌝ }
+pub fn began_at(actors: &mut [[u64; 12]], slot: usize)
+    ensures { λ r.
+        ⌜ now (actors .exit)
+        ≡ putActor (now (actors .entry)) slot (beganStep (actorAt (now (actors .entry)) slot)) ⌝ }
 {
-    let mut b = a;
-    b.ran = true;
-    b.runnable = false;
-    b
+    if slot < actors.len() {
+        begin_row(&mut actors[slot]);
+    }
 }
 
 // Its program was started.
-pub fn started(a: Actor) -> Actor
-    ensures { λ r. ⌜ r ≡ startedAs a ⌝ }
+pub fn started_at(actors: &mut [[u64; 12]], slot: usize)
+    ensures { λ r.
+        ⌜ now (actors .exit)
+        ≡ putActor (now (actors .entry)) slot (startedAs (actorAt (now (actors .entry)) slot)) ⌝ }
 {
-    let mut b = a;
-    b.started = true;
-    b
+    if slot < actors.len() {
+        raise(&mut actors[slot], 1);
+    }
 }
 
 // Parked in receive() with nothing to take.
-pub fn idled(a: Actor) -> Actor
-    ensures { λ r. ⌜ r ≡ idledAs a ⌝ }
+pub fn idled_at(actors: &mut [[u64; 12]], slot: usize)
+    ensures { λ r.
+        ⌜ now (actors .exit)
+        ≡ putActor (now (actors .entry)) slot (idledAs (actorAt (now (actors .entry)) slot)) ⌝ }
 {
-    let mut b = a;
-    b.idle = true;
-    b
+    if slot < actors.len() {
+        raise(&mut actors[slot], 3);
+    }
 }
 
 // It took a message.
-pub fn consumed(a: Actor) -> Actor
-    ensures { λ r. ⌜ r ≡ consumedAs a ⌝ }
+pub fn consumed_at(actors: &mut [[u64; 12]], slot: usize)
+    ensures { λ r.
+        ⌜ now (actors .exit)
+        ≡ putActor (now (actors .entry)) slot (consumedAs (actorAt (now (actors .entry)) slot)) ⌝ }
 {
-    let mut b = a;
-    b.consumed = true;
-    b
+    if slot < actors.len() {
+        raise(&mut actors[slot], 7);
+    }
 }
 
 // It handed the thread on, and runs again.
-pub fn yielded(a: Actor) -> Actor
-    ensures { λ r. ⌜ r ≡ yieldedAs a ⌝ }
+pub fn yielded_at(actors: &mut [[u64; 12]], slot: usize)
+    ensures { λ r.
+        ⌜ now (actors .exit)
+        ≡ putActor (now (actors .entry)) slot (yieldedAs (actorAt (now (actors .entry)) slot)) ⌝ }
 {
-    let mut b = a;
-    b.runnable = true;
-    b
+    if slot < actors.len() {
+        raise(&mut actors[slot], 4);
+    }
 }
 
 // Its run is this one, or over.
-pub fn running(a: Actor, run: EvalRun) -> Actor
-    ensures { λ r. ⌜ r ≡ runningTo a run ⌝ }
+pub fn running_at(actors: &mut [[u64; 12]], slot: usize, run: EvalRun)
+    ensures { λ r.
+        ⌜ now (actors .exit)
+        ≡ putActor (now (actors .entry)) slot (runningTo (actorAt (now (actors .entry)) slot) run) ⌝ }
 {
-    let mode = a.mode;
-    let wake_at = a.wake_at;
-    Actor {
-        mode,
-        started: a.started,
-        ran: a.ran,
-        idle: a.idle,
-        runnable: a.runnable,
-        scheduled: a.scheduled,
-        blocked: a.blocked,
-        consumed: a.consumed,
-        wake_at,
-        run,
+    if slot < actors.len() {
+        match run {
+            EvalRun::Until(ns) => put_number(&mut actors[slot], 10, 11, ns),
+            EvalRun::Nothing => clear_number(&mut actors[slot], 10, 11),
+        }
+    }
+}
+
+// The cells of an actor that waits until then, or for ever.
+fn block_row(row: &mut [u64], until: Wake)
+    ensures { λ r. ⌜ now (row .exit) ≡ blockedCells (now (row .entry)) until ⌝ }
+{
+    raise(row, 6);
+    match until {
+        Wake::At(ns) => put_number(row, 8, 9, ns),
+        Wake::Never => clear_number(row, 8, 9),
     }
 }
 
 // Parked on a host call, woken at the latest at `until`.
-pub fn blocked(a: Actor, until: Wake) -> Actor
-    ensures { λ r. ⌜ r ≡ blockedTo a until ⌝ }
+pub fn blocked_at(actors: &mut [[u64; 12]], slot: usize, until: Wake)
+    ensures { λ r.
+        ⌜ now (actors .exit)
+        ≡ putActor (now (actors .entry)) slot (blockedTo (actorAt (now (actors .entry)) slot) until) ⌝ }
 {
-    let mode = a.mode;
-    let run = a.run;
-    let wake_at = until;
-    Actor {
-        mode,
-        started: a.started,
-        ran: a.ran,
-        idle: a.idle,
-        runnable: a.runnable,
-        scheduled: a.scheduled,
-        blocked: true,
-        consumed: a.consumed,
-        wake_at,
-        run,
+    if slot < actors.len() {
+        block_row(&mut actors[slot], until);
     }
 }
 
-// Its wait ended.
-pub fn woken(a: Actor) -> Actor
-    ensures { λ r. ⌜ r ≡ wokenAs a ⌝ }
+// The cells of an actor whose wait ended.
+fn wake_row(row: &mut [u64])
+    ensures { λ r. ⌜ now (row .exit) ≡ wokenCells (now (row .entry)) ⌝ }
 {
-    let mode = a.mode;
-    let run = a.run;
-    let wake_at = Wake::Never;
-    Actor {
-        mode,
-        started: a.started,
-        ran: a.ran,
-        idle: a.idle,
-        runnable: true,
-        scheduled: a.scheduled,
-        blocked: false,
-        consumed: a.consumed,
-        wake_at,
-        run,
+    raise(row, 4);
+    put_cell(row, 6, 0);
+    clear_number(row, 8, 9);
+}
+
+// Its wait ended.
+pub fn woken_at(actors: &mut [[u64; 12]], slot: usize)
+    ensures { λ r.
+        ⌜ now (actors .exit)
+        ≡ putActor (now (actors .entry)) slot (wokenAs (actorAt (now (actors .entry)) slot)) ⌝ }
+{
+    if slot < actors.len() {
+        wake_row(&mut actors[slot]);
     }
 }
 

@@ -31,7 +31,8 @@ use Rattle.front.specs.declared.refusals.Check.the-variants as check
 use Rattle.front.specs.Answers.{Did, logRefusal, refused}
 use Rattle.front.specs.Refusals.{Lent, fileIn, logSized, judged, byTable, openRefusalsFirst, openRefusalsLogged}
 use Rattle.front.proofs.RefusalLaws.{first-refuses, first-fine}
-use Rattle.door.specs.Open.{limitsFrom, Tables, Found, Filled, filledBy, noLeft, unopened, openedBy, openEffect, openOf}
+use Rattle.door.specs.Open.{limitsFrom, Tables, Found, Filled, filledBy, noLeft, unopened, openedBy}
+use Rattle.door.specs.Open.{openEffect, openOf}
 
 -- the tables filled one by one, with the pool and the answer
 pub filled : (f : Found) (o : Order) (t : Tables) (groups links rows keys : Table) (p : Pool) (a : Answer)

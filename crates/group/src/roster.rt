@@ -111,8 +111,7 @@ pub fn schedule(lists: &mut [[u8; 65]], actors: &mut [[u64; 12]], g: usize, key:
         if before {
             return;
         }
-        let b = state::scheduled(a, true);
-        state::put_actor(actors, slot, b);
+        state::scheduled_at(actors, slot, true);
         let row = ready_row(g);
         push_key(lists, row, key);
     }
@@ -133,9 +132,8 @@ fn spawn_key(lists: &mut [[u8; 65]], actors: &mut [[u64; 12]], g: usize, key: u8
     let row = slab_row(g);
     slab::insert_at(lists, row);
     let mode = mode_for(eval);
-    let a = state::new_actor(mode);
     let slot = slot_at(g, key);
-    state::put_actor(actors, slot, a);
+    state::new_at(actors, slot, mode);
     schedule(lists, actors, g, key);
 }
 

@@ -56,9 +56,7 @@ fn wake_at(lists: &mut [[u8; 65]], actors: &mut [[u64; 12]], g: usize, key: u8)
         ≡ wakeAt (now (lists .entry)) (now (actors .entry)) g key ⌝ }
 {
     let slot = roster::slot_at(g, key);
-    let a = state::actor_at(actors, slot);
-    let b = state::delivered(a);
-    state::put_actor(actors, slot, b);
+    state::delivered_at(actors, slot);
     roster::schedule(lists, actors, g, key);
 }
 
@@ -85,7 +83,12 @@ fn deliver_first(
     left: u64,
 ) -> Routed
     ensures { λ r.
-        ⌜ record { links = now (links .exit); keys = now (lists .exit); actors = now (actors .exit); routed = routedOf r }
+        ⌜ record {
+          links = now (links .exit);
+          keys = now (lists .exit);
+          actors = now (actors .exit);
+          routed = routedOf r;
+        }
         ≡ deliver (now (links .entry)) (now (lists .entry)) (now (actors .entry)) g key queued left ⌝ }
 {
     let slot = roster::slot_at(g, key);
@@ -108,7 +111,12 @@ fn deliver_key(
     left: u64,
 ) -> Routed
     ensures { λ r.
-        ⌜ record { links = now (links .exit); keys = now (lists .exit); actors = now (actors .exit); routed = routedOf r }
+        ⌜ record {
+          links = now (links .exit);
+          keys = now (lists .exit);
+          actors = now (actors .exit);
+          routed = routedOf r;
+        }
         ≡ deliverKey (now (links .entry)) (now (rows .entry)) (now (lists .entry)) (now (actors .entry)) g key
         queued left ⌝ }
 {
@@ -132,7 +140,12 @@ fn route_least(
     left: u64,
 ) -> Routed
     ensures { λ r.
-        ⌜ record { links = now (links .exit); keys = now (lists .exit); actors = now (actors .exit); routed = routedOf r }
+        ⌜ record {
+          links = now (links .exit);
+          keys = now (lists .exit);
+          actors = now (actors .exit);
+          routed = routedOf r;
+        }
         ≡ routeLeast (now (links .entry)) (now (rows .entry)) (now (lists .entry)) (now (actors .entry)) g
         queued left ⌝ }
 {
@@ -152,7 +165,12 @@ fn route_spawned(
     left: u64,
 ) -> Routed
     ensures { λ r.
-        ⌜ record { links = now (links .exit); keys = now (lists .exit); actors = now (actors .exit); routed = routedOf r }
+        ⌜ record {
+          links = now (links .exit);
+          keys = now (lists .exit);
+          actors = now (actors .exit);
+          routed = routedOf r;
+        }
         ≡ routeSpawned (now (links .entry)) (now (rows .entry)) (now (lists .entry)) (now (actors .entry)) g
         eval queued left ⌝ }
 {
@@ -174,7 +192,12 @@ fn route_new(
     left: u64,
 ) -> Routed
     ensures { λ r.
-        ⌜ record { links = now (links .exit); keys = now (lists .exit); actors = now (actors .exit); routed = routedOf r }
+        ⌜ record {
+          links = now (links .exit);
+          keys = now (lists .exit);
+          actors = now (actors .exit);
+          routed = routedOf r;
+        }
         ≡ routeNew (now (groups .entry)) (now (links .entry)) (now (rows .entry)) (now (lists .entry))
         (now (actors .entry)) g queued left ⌝ }
 {
@@ -204,7 +227,12 @@ fn route_to(
     left: u64,
 ) -> Routed
     ensures { λ r.
-        ⌜ record { links = now (links .exit); keys = now (lists .exit); actors = now (actors .exit); routed = routedOf r }
+        ⌜ record {
+          links = now (links .exit);
+          keys = now (lists .exit);
+          actors = now (actors .exit);
+          routed = routedOf r;
+        }
         ≡ routeTo (now (groups .entry)) (now (links .entry)) (now (rows .entry)) (now (lists .entry))
         (now (actors .entry)) g queued left ⌝ }
 {
@@ -228,7 +256,12 @@ fn route_one(
     left: u64,
 ) -> Routed
     ensures { λ r.
-        ⌜ record { links = now (links .exit); keys = now (lists .exit); actors = now (actors .exit); routed = routedOf r }
+        ⌜ record {
+          links = now (links .exit);
+          keys = now (lists .exit);
+          actors = now (actors .exit);
+          routed = routedOf r;
+        }
         ≡ routeOne (now (groups .entry)) count (now (store .entry)) (now (links .entry)) (now (rows .entry))
         (now (lists .entry)) (now (actors .entry)) entry queued left ⌝ }
 {
@@ -256,7 +289,12 @@ pub fn route(
     left: u64,
 ) -> Routed
     ensures { λ r.
-        ⌜ record { links = now (links .exit); keys = now (lists .exit); actors = now (actors .exit); routed = routedOf r }
+        ⌜ record {
+          links = now (links .exit);
+          keys = now (lists .exit);
+          actors = now (actors .exit);
+          routed = routedOf r;
+        }
         ≡ routeOf (now (groups .entry)) count (now (store .entry)) (now (links .entry)) (now (rows .entry))
         (now (lists .entry)) (now (actors .entry)) queued left ⌝ }
 {
@@ -296,7 +334,12 @@ fn route_booted(
     booted: bool,
 ) -> Routed
     ensures { λ r.
-        ⌜ record { links = now (links .exit); keys = now (lists .exit); actors = now (actors .exit); routed = routedOf r }
+        ⌜ record {
+          links = now (links .exit);
+          keys = now (lists .exit);
+          actors = now (actors .exit);
+          routed = routedOf r;
+        }
         ≡ routeBooted (now (links .entry)) (now (rows .entry)) (now (lists .entry)) (now (actors .entry)) g
         queued left booted ⌝ }
 {
@@ -318,7 +361,12 @@ pub fn route_reply(
     reply: Reply,
 ) -> Routed
     ensures { λ r.
-        ⌜ record { links = now (links .exit); keys = now (lists .exit); actors = now (actors .exit); routed = routedOf r }
+        ⌜ record {
+          links = now (links .exit);
+          keys = now (lists .exit);
+          actors = now (actors .exit);
+          routed = routedOf r;
+        }
         ≡ routeReply (now (links .entry)) (now (rows .entry)) (now (lists .entry)) (now (actors .entry)) g
         queued left reply ⌝ }
 {

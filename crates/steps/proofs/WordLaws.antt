@@ -1,5 +1,5 @@
--- The number of a question or an outcome means that question or outcome, and no question has the number of a step's end.
--- An end that is neither done nor failed is parked; as an eval actor's those two are a yield. Assumes nothing.
+-- The number of a question or an outcome means that question or outcome, and no question has the number of a step's
+-- end. An end that is neither done nor failed is parked; as an eval actor's those two are a yield. Assumes nothing.
 use mathlib.Core.Path.{_≡_, refl}
 use mathlib.Core.Bool.{false}
 use lib.Dec.{eqb}

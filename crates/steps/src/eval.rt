@@ -355,10 +355,8 @@ fn eval_finish(
         ⌜ record { links = now (links .exit); actors = now (actors .exit); next = evalNextOf r }
         ≡ evalFinish (now (links .entry)) (now (rows .entry)) (now (actors .entry)) slot outcome ⌝ }
 {
-    let a = state::actor_at(actors, slot);
     let none = EvalRun::Nothing;
-    let b = state::running(a, none);
-    state::put_actor(actors, slot, b);
+    state::running_at(actors, slot, none);
     let hand = lists::hand(slot);
     lists::move_first(links, hand, lists::HAND);
     eval_tell(links, rows, actors, slot, outcome)
@@ -420,9 +418,7 @@ pub fn eval_started(
 {
     let until = deadline(clock, limit);
     let run = EvalRun::Until(until);
-    let a = state::actor_at(actors, slot);
-    let b = state::running(a, run);
-    state::put_actor(actors, slot, b);
+    state::running_at(actors, slot, run);
     let hand = lists::hand(slot);
     lists::move_first(links, lists::HAND, hand);
     asks_for(EvalKind::Start)

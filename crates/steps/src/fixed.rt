@@ -150,18 +150,20 @@ fn ends(step: StepWords) -> FixedWords
 
 // A step begins: the program is started the first time, and else resumed. The number of the question.
 pub fn fixed_start(actors: &mut [[u64; 12]], slot: usize) -> u64
-    ensures { λ r. ⌜ record { actors = now (actors .exit); ask = fixedAskOf (fixedKindOf r) } ≡ fixedStart (now (actors .entry)) slot ⌝ }
+    ensures { λ r.
+        ⌜ record { actors = now (actors .exit); ask = fixedAskOf (fixedKindOf r) }
+        ≡ fixedStart (now (actors .entry)) slot ⌝ }
 {
     let a = state::actor_at(actors, slot);
     let before = a.started;
-    let b = state::started(a);
-    state::put_actor(actors, slot, b);
+    state::started_at(actors, slot);
     if before { RESUME } else { START }
 }
 
 // It raised: the message that it was at goes to the step's hand.
 fn fixed_failed(links: &mut [[u64; 4]], slot: usize) -> FixedWords
-    ensures { λ r. ⌜ record { links = now (links .exit); next = fixedNextOf r } ≡ fixedFailed (now (links .entry)) slot ⌝ }
+    ensures { λ r.
+        ⌜ record { links = now (links .exit); next = fixedNextOf r } ≡ fixedFailed (now (links .entry)) slot ⌝ }
 {
     let hand = lists::hand(slot);
     lists::move_first(links, hand, lists::HAND);
@@ -254,9 +256,7 @@ pub fn fixed_pushed(
         ≡ fixedPushed (now (links .entry)) (now (actors .entry)) slot queued taken ⌝ }
 {
     if taken {
-        let a = state::actor_at(actors, slot);
-        let b = state::consumed(a);
-        state::put_actor(actors, slot, b);
+        state::consumed_at(actors, slot);
         let hand = lists::hand(slot);
         lists::move_first(links, lists::HAND, hand);
         let next = asks(FixedKind::Resume);
@@ -351,7 +351,9 @@ fn push_reply(
 
 // The reply to Dispatch; one that does not fit changes nothing.
 fn dispatch_reply(links: &mut [[u64; 4]], slot: usize, reply: Reply) -> FixedWords
-    ensures { λ r. ⌜ record { links = now (links .exit); next = fixedNextOf r } ≡ dispatchReply (now (links .entry)) slot reply ⌝ }
+    ensures { λ r.
+        ⌜ record { links = now (links .exit); next = fixedNextOf r }
+        ≡ dispatchReply (now (links .entry)) slot reply ⌝ }
 {
     let came = question::count_in(reply);
     match came {
@@ -372,7 +374,8 @@ pub fn step_fixed(
 ) -> FixedStep
     ensures { λ r.
         ⌜ record { links = now (links .exit); actors = now (actors .exit); step = fixedStepOf r }
-        ≡ stepFixed (now (links .entry)) (now (rows .entry)) (now (actors .entry)) slot queued (fixedAskOf ask) reply ⌝ }
+        ≡ stepFixed (now (links .entry)) (now (rows .entry)) (now (actors .entry)) slot queued (fixedAskOf ask)
+        reply ⌝ }
 {
     match ask {
         FixedKind::Start => {

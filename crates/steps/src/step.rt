@@ -9,7 +9,8 @@ use actor::state;
 use actor::state::Wake;
 use lists::Found;
 
-// How a step ended is handed on as words (`StepWords`), without payloads. `Parked`, `Step` and `End` are what they mean.
+// How a step ended is handed on as words (`StepWords`), without payloads. `Parked`, `Step` and `End` are what they
+// mean.
 
 // How a step left an actor that goes on. A step of an eval actor always ends so.
 pub enum Parked {
@@ -231,9 +232,7 @@ pub fn over_first(links: &mut [[u64; 4]], rows: &[[u64; 7]], from: usize)
 pub fn idle_at(actors: &mut [[u64; 12]], slot: usize)
     ensures { λ r. ⌜ now (actors .exit) ≡ idledAt (now (actors .entry)) slot ⌝ }
 {
-    let a = state::actor_at(actors, slot);
-    let b = state::idled(a);
-    state::put_actor(actors, slot, b);
+    state::idled_at(actors, slot);
 }
 
 // The first message of the mailbox goes to the step's hand; where there is none the actor is idle.

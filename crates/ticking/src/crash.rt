@@ -144,7 +144,8 @@ fn next_asked(key: u8) -> u8
 
 // The reply to Trapped; one that does not fit changes nothing.
 pub fn trapped_reply(lists: &mut [[u8; 65]], c: Cursor, key: u8, reply: Reply) -> Where
-    ensures { λ r. ⌜ record { keys = now (lists .exit); at = atOf r } ≡ trappedReply (now (lists .entry)) c key reply ⌝ }
+    ensures { λ r.
+        ⌜ record { keys = now (lists .exit); at = atOf r } ≡ trappedReply (now (lists .entry)) c key reply ⌝ }
 {
     let came = question::yes_in(reply);
     let after = next_asked(key);

@@ -79,8 +79,7 @@ fn begin_step(
 {
     let a = state::actor_at(actors, slot);
     let mode = a.mode;
-    let b = state::began(a);
-    state::put_actor(actors, slot, b);
+    state::began_at(actors, slot);
     match mode {
         Mode::Fixed => {
             let at = begin_fixed(actors, c, slot);
@@ -114,8 +113,7 @@ fn ready_key(
         let a = state::actor_at(actors, slot);
         let waiting = lists::length_of(links, lists::mailbox(slot));
         let done = rests(a, waiting);
-        let b = state::scheduled(a, false);
-        state::put_actor(actors, slot, b);
+        state::scheduled_at(actors, slot, false);
         if done {
             return Begun {
                 at: next,

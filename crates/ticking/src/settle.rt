@@ -2,7 +2,8 @@
 ghost use mathlib.Core.Path.{_≡_};
 ghost use Rattle.steps.specs.Words.{parkedOf, stepOf};
 ghost use Rattle.group.specs.Words.{atOf};
-ghost use Rattle.ticking.specs.Settle.{stepEnd, removeKey, letGo, releaseOf, blockAt, yieldAt, parkAt, settleOf, settledOf};
+ghost use Rattle.ticking.specs.Settle.{stepEnd, removeKey, letGo, releaseOf, blockAt, yieldAt, parkAt};
+ghost use Rattle.ticking.specs.Settle.{settleOf, settledOf};
 use actor::state;
 use actor::state::Wake;
 use group::at;
@@ -103,9 +104,7 @@ fn block_at(lists: &mut [[u8; 65]], actors: &mut [[u64; 12]], c: Cursor, until: 
         ≡ blockAt (now (lists .entry)) (now (actors .entry)) c until ⌝ }
 {
     let slot = roster::slot_at(c.group, c.key);
-    let a = state::actor_at(actors, slot);
-    let b = state::blocked(a, until);
-    state::put_actor(actors, slot, b);
+    state::blocked_at(actors, slot, until);
     let row = roster::waiting_row(c.group);
     roster::push_key(lists, row, c.key);
 }
@@ -117,9 +116,7 @@ fn yield_at(lists: &mut [[u8; 65]], actors: &mut [[u64; 12]], c: Cursor)
         ≡ yieldAt (now (lists .entry)) (now (actors .entry)) c ⌝ }
 {
     let slot = roster::slot_at(c.group, c.key);
-    let a = state::actor_at(actors, slot);
-    let b = state::yielded(a);
-    state::put_actor(actors, slot, b);
+    state::yielded_at(actors, slot);
     roster::schedule(lists, actors, c.group, c.key);
 }
 
@@ -152,7 +149,12 @@ pub fn settle(
     queued: u64,
 ) -> Settled
     ensures { λ r.
-        ⌜ record { links = now (links .exit); keys = now (lists .exit); actors = now (actors .exit); settled = settledOf r }
+        ⌜ record {
+          links = now (links .exit);
+          keys = now (lists .exit);
+          actors = now (actors .exit);
+          settled = settledOf r;
+        }
         ≡ settleOf (now (links .entry)) (now (rows .entry)) (now (lists .entry)) (now (actors .entry)) c
         (stepOf step) queued ⌝ }
 {

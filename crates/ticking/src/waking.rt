@@ -72,8 +72,7 @@ fn woken_to(lists: &mut [[u8; 65]], actors: &mut [[u64; 12]], g: usize, key: u8,
     let a = state::actor_at(actors, slot);
     let idle = a.idle;
     if awake {
-        let b = state::woken(a);
-        state::put_actor(actors, slot, b);
+        state::woken_at(actors, slot);
         roster::schedule(lists, actors, g, key);
         return;
     }

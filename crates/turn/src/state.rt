@@ -6,7 +6,8 @@ ghost use mathlib.Core.Path.{_≡_};
 ghost use Rattle.group.specs.Words.{atOf, pointOf};
 ghost use Rattle.turn.specs.Words.{flagOf, orderOf, dueOf, isDue, diskKindOf};
 ghost use Rattle.turn.specs.Words.{orderIn, whatOf, diskOf, poolOf};
-ghost use Rattle.turn.specs.State.{diskFor, withDisk, stoodAt, queuedAt, steppedAt, lostAt, begunAt, closedPool, newPool};
+ghost use Rattle.turn.specs.State.{diskFor, withDisk, stoodAt, queuedAt, steppedAt, lostAt, begunAt};
+ghost use Rattle.turn.specs.State.{closedPool, newPool};
 ghost use Rattle.turn.specs.State.{isFree, marksAt, runningOf};
 use group::words;
 use group::words::AtKind;
@@ -369,7 +370,9 @@ pub fn seeded(pool: &[u64; 28]) -> bool
 
 // The disk is this; the log's counters are as they were.
 pub fn set_disk(pool: &mut [u64; 28], disk: DiskWords)
-    ensures { λ r. ⌜ poolOf (now (pool .exit)) ≡ withDisk (poolOf (now (pool .entry))) (poolOf (now (pool .entry)) .turn .log) (diskOf disk) ⌝ }
+    ensures { λ r.
+        ⌜ poolOf (now (pool .exit))
+        ≡ withDisk (poolOf (now (pool .entry))) (poolOf (now (pool .entry)) .turn .log) (diskOf disk) ⌝ }
 {
     *pool = [
         pool[0],

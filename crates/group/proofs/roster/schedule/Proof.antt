@@ -1,4 +1,5 @@
--- `roster::schedule` meets its contract: an actor that is not there, or is queued already, changes nothing. Assumes nothing.
+-- `roster::schedule` meets its contract: an actor that is not there, or is queued already, changes nothing. Assumes
+-- nothing.
 use mathlib.Core.Path.{ap₂, sym, _∙_}
 use Rattle.group.specs.Roster.{scheduleOf}
 use Rattle.group.proofs.Keyed.{keyed, schedule-new}
@@ -31,11 +32,8 @@ returns c =
     let h2 = simp (e2, e3) at (c .if2 .taken) in
     simp (h1, h2)
 
-scheduled-requires : tie.Need-scheduled-requires
-scheduled-requires c κs = search needs
-
-put-actor-requires : tie.Need-put-actor-requires
-put-actor-requires c κs = search needs
+scheduled-at-requires : tie.Need-scheduled-at-requires
+scheduled-at-requires c κs = search needs
 
 ready-row-requires : tie.Need-ready-row-requires
 ready-row-requires c κs = search needs
@@ -51,17 +49,11 @@ same-length-4 c = search needs
 
 returns-2 : tie.Need-returns-2
 returns-2 c =
-    let e1 = c .before .before .before .before .before .before .before .before .before .before .before .before .before .live .ensures in
-    let h1 = simp (e1) at (c .before .before .before .before .before .before .before .before .before .before .before .before .if1 .taken) in
-    let e2 = c .before .before .before .before .before .before .before .before .before .before .before .slot-at .ensures in
-    let e3 = c .before .before .before .before .before .before .before .before .before .actor-at .ensures in
-    let h2 = simp (e2, e3) at (c .before .before .before .before .before .before .before .before .if2 .left) in
-    let e4 = c .before .before .before .before .before .before .before .scheduled .ensures in
-    let e5 = c .before .before .before .before .before .put-actor .ensures in
-    let e6 = c .before .before .before .ready-row .ensures in
-    let e7 = c .before .push-key .ensures in
-    let keys = simp (e6) at e7 in
-    let actors = simp (e2, e3, e4) at e5 in
+    let h1 = simp (c .before .before .before .before .before .before .before .before .before .before .before .before .live .ensures) at (c .before .before .before .before .before .before .before .before .before .before .before .if1 .taken) in
+    let e1 = c .before .before .before .before .before .before .before .before .before .before .slot-at .ensures in
+    let h2 = simp (e1, c .before .before .before .before .before .before .before .before .actor-at .ensures) at (c .before .before .before .before .before .before .before .if2 .left) in
+    let keys = simp (c .before .before .before .ready-row .ensures) at (c .before .push-key .ensures) in
+    let actors = simp e1 at (c .before .before .before .before .before .scheduled-at .ensures) in
     ap₂ keyed keys actors ∙ sym (schedule-new _ _ _ _ h1 h2)
 
 same-length-5 : tie.Need-same-length-5
@@ -84,8 +76,7 @@ schedule-spec =
     same-length
     same-length-2
     returns
-    scheduled-requires
-    put-actor-requires
+    scheduled-at-requires
     ready-row-requires
     push-key-requires
     same-length-3

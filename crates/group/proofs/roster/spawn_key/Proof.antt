@@ -14,14 +14,11 @@ insert-at-requires c κs = search needs
 mode-for-requires : tie.Need-mode-for-requires
 mode-for-requires c κs = search needs
 
-new-actor-requires : tie.Need-new-actor-requires
-new-actor-requires c κs = search needs
-
 slot-at-requires : tie.Need-slot-at-requires
 slot-at-requires c κs = search needs
 
-put-actor-requires : tie.Need-put-actor-requires
-put-actor-requires c κs = search needs
+new-at-requires : tie.Need-new-at-requires
+new-at-requires c κs = search needs
 
 schedule-requires : tie.Need-schedule-requires
 schedule-requires c κs = search needs
@@ -35,8 +32,8 @@ same-length-2 c = search needs
 returns : tie.Need-returns
 unfolding spawnKey
 returns c =
-    let keys = simp (c .before .before .before .before .before .before .before .before .before .before .before .before .before .before .slab-row .ensures) at (c .before .before .before .before .before .before .before .before .before .before .before .before .insert-at .ensures) in
-    let actors = simp (c .before .before .before .before .before .before .before .before .before .before .mode-for .ensures, c .before .before .before .before .before .before .before .before .before .new-actor .ensures, c .before .before .before .before .before .before .before .before .slot-at .ensures) at (c .before .before .before .before .before .before .put-actor .ensures) in
+    let keys = simp (c .before .before .before .before .before .before .before .before .before .before .before .before .before .slab-row .ensures) at (c .before .before .before .before .before .before .before .before .before .before .before .insert-at .ensures) in
+    let actors = simp (c .before .before .before .before .before .before .before .before .before .mode-for .ensures, c .before .before .before .before .before .before .before .before .slot-at .ensures) at (c .before .before .before .before .before .before .new-at .ensures) in
     c .before .before .schedule .ensures ∙ rw (keys, actors)
 
 pub spawn-key-spec : {M : Type 1} → statement M
@@ -46,9 +43,8 @@ spawn-key-spec =
     slab-row-requires
     insert-at-requires
     mode-for-requires
-    new-actor-requires
     slot-at-requires
-    put-actor-requires
+    new-at-requires
     schedule-requires
     same-length
     same-length-2

@@ -8,14 +8,8 @@ use Rattle.routing.proofs.route.wake_at.Tie as tie
 slot-at-requires : tie.Need-slot-at-requires
 slot-at-requires c κs = search needs
 
-actor-at-requires : tie.Need-actor-at-requires
-actor-at-requires c κs = search needs
-
-delivered-requires : tie.Need-delivered-requires
-delivered-requires c κs = search needs
-
-put-actor-requires : tie.Need-put-actor-requires
-put-actor-requires c κs = search needs
+delivered-at-requires : tie.Need-delivered-at-requires
+delivered-at-requires c κs = search needs
 
 schedule-requires : tie.Need-schedule-requires
 schedule-requires c κs = search needs
@@ -29,20 +23,15 @@ same-length-2 c = search needs
 returns : tie.Need-returns
 unfolding wakeAt
 returns c =
-    let e1 = c .before .before .before .before .before .before .before .before .before .before .before .slot-at .ensures in
-    let e2 = c .before .before .before .before .before .before .before .before .before .actor-at .ensures in
-    let e3 = c .before .before .before .before .before .before .before .before .delivered .ensures in
-    let actors = simp (e1, e2, e3) at (c .before .before .before .before .before .before .put-actor .ensures) in
-    c .before .before .schedule .ensures ∙ rw (actors)
+    let actors = simp (c .before .before .before .before .before .before .before .before .slot-at .ensures) at (c .before .before .before .before .before .before .delivered-at .ensures) in
+    c .before .before .schedule .ensures ∙ rw actors
 
 pub wake-at-spec : {M : Type 1} → statement M
 wake-at-spec =
     tie.close
     (tie.spec
     slot-at-requires
-    actor-at-requires
-    delivered-requires
-    put-actor-requires
+    delivered-at-requires
     schedule-requires
     same-length
     same-length-2

@@ -1,18 +1,13 @@
 -- `eval::eval_finish` meets its contract: each way out follows from what the calls ensured and the tests said. Assumes
 -- nothing.
+use Rattle.steps.specs.Words.{evalNextOf}
 use Rattle.steps.specs.StepEval.{evalFinish}
 use borrow.Author.Needs.{needs}
 use Rattle.steps.proofs.eval.eval_finish.Statement.{statement}
 use Rattle.steps.proofs.eval.eval_finish.Tie as tie
 
-actor-at-requires : tie.Need-actor-at-requires
-actor-at-requires c κs = search needs
-
-running-requires : tie.Need-running-requires
-running-requires c κs = search needs
-
-put-actor-requires : tie.Need-put-actor-requires
-put-actor-requires c κs = search needs
+running-at-requires : tie.Need-running-at-requires
+running-at-requires c κs = search needs
 
 hand-requires : tie.Need-hand-requires
 hand-requires c κs = search needs
@@ -32,23 +27,17 @@ same-length-2 c = search needs
 returns : tie.Need-returns
 unfolding evalFinish
 returns c =
-    let e1 = c .before .before .before .before .before .before .before .before .before .before
-    .before .before .before .actor-at .ensures in
-    let e2 = c .before .before .before .before .before .before .before .before .before .before
-    .before .before .running .ensures in
-    let e3 = c .before .before .before .before .before .before .before .before .before .before .put-actor .ensures in
-    let e4 = c .before .before .before .before .before .before .before .before .hand .ensures in
-    let e5 = c .before .before .before .before .before .before .move-first .ensures in
-    let e6 = c .before .before .eval-tell .ensures in
-    simp (e1, e2, e3, e4, e5, e6)
+    let e1 = c .before .before .before .before .before .before .before .before .before .before .running-at .ensures in
+    let e2 = c .before .before .before .before .before .before .before .before .hand .ensures in
+    let e3 = c .before .before .before .before .before .before .move-first .ensures in
+    let e4 = c .before .before .eval-tell .ensures in
+    simp (e1, e2, e3, e4)
 
 pub eval-finish-spec : {M : Type 1} → statement M
 eval-finish-spec =
     tie.close
     (tie.spec
-    actor-at-requires
-    running-requires
-    put-actor-requires
+    running-at-requires
     hand-requires
     move-first-requires
     eval-tell-requires

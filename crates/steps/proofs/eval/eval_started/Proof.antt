@@ -1,5 +1,6 @@
 -- `eval::eval_started` meets its contract: each way out follows from what the calls ensured and the tests said.
 -- Mechanical answers, as tools/answers.py writes them. Assumes nothing.
+use Rattle.steps.specs.Words.{evalNextOf}
 use Rattle.steps.specs.StepEval.{evalStarted}
 use borrow.Author.Needs.{needs}
 use Rattle.steps.proofs.eval.eval_started.Statement.{statement}
@@ -8,14 +9,8 @@ use Rattle.steps.proofs.eval.eval_started.Tie as tie
 deadline-requires : tie.Need-deadline-requires
 deadline-requires c κs = search needs
 
-actor-at-requires : tie.Need-actor-at-requires
-actor-at-requires c κs = search needs
-
-running-requires : tie.Need-running-requires
-running-requires c κs = search needs
-
-put-actor-requires : tie.Need-put-actor-requires
-put-actor-requires c κs = search needs
+running-at-requires : tie.Need-running-at-requires
+running-at-requires c κs = search needs
 
 hand-requires : tie.Need-hand-requires
 hand-requires c κs = search needs
@@ -33,26 +28,21 @@ same-length-2 : tie.Need-same-length-2
 same-length-2 c = search needs
 
 returns : tie.Need-returns
-unfolding evalStarted
+unfolding evalNextOf evalStarted
 returns c =
-    let e1 = c .before .before .before .before .before .before .before .before .before .before
-    .before .deadline .ensures in
-    let e2 = c .before .before .before .before .before .before .before .before .before .actor-at .ensures in
-    let e3 = c .before .before .before .before .before .before .before .before .running .ensures in
-    let e4 = c .before .before .before .before .before .before .put-actor .ensures in
-    let e5 = c .before .before .before .before .hand .ensures in
-    let e6 = c .before .before .move-first .ensures in
-    let e7 = c .asks-for .ensures in
-    simp (e1, e2, e3, e4, e5, e6, e7)
+    let e1 = c .before .before .before .before .before .before .before .before .deadline .ensures in
+    let e2 = c .before .before .before .before .before .before .running-at .ensures in
+    let e3 = c .before .before .before .before .hand .ensures in
+    let e4 = c .before .before .move-first .ensures in
+    let e5 = c .asks-for .ensures in
+    simp (e1, e2, e3, e4, e5)
 
 pub eval-started-spec : {M : Type 1} → statement M
 eval-started-spec =
     tie.close
     (tie.spec
     deadline-requires
-    actor-at-requires
-    running-requires
-    put-actor-requires
+    running-at-requires
     hand-requires
     move-first-requires
     asks-for-requires

@@ -5,14 +5,8 @@ use borrow.Author.Needs.{needs}
 use Rattle.steps.proofs.fixed.fixed_pushed.Statement.{statement}
 use Rattle.steps.proofs.fixed.fixed_pushed.Tie as tie
 
-actor-at-requires : tie.Need-actor-at-requires
-actor-at-requires c κs = search needs
-
-consumed-requires : tie.Need-consumed-requires
-consumed-requires c κs = search needs
-
-put-actor-requires : tie.Need-put-actor-requires
-put-actor-requires c κs = search needs
+consumed-at-requires : tie.Need-consumed-at-requires
+consumed-at-requires c κs = search needs
 
 hand-requires : tie.Need-hand-requires
 hand-requires c κs = search needs
@@ -50,14 +44,12 @@ same-length-2 c = search needs
 returns : tie.Need-returns
 unfolding fixedPushed
 returns c =
-    let h1 = c .before .before .before .before .before .before .before .before .before .before .before .if1 .taken in
-    let e1 = c .before .before .before .before .before .before .before .before .before .actor-at .ensures in
-    let e2 = c .before .before .before .before .before .before .before .before .consumed .ensures in
-    let e3 = c .before .before .before .before .before .before .put-actor .ensures in
-    let e4 = c .before .before .before .before .hand .ensures in
-    let e5 = c .before .before .move-first .ensures in
-    let e6 = c .asks .ensures in
-    simp (e1, e2, e3, e4, e5, e6, h1)
+    let h1 = c .before .before .before .before .before .before .before .before .if1 .taken in
+    let e1 = c .before .before .before .before .before .before .consumed-at .ensures in
+    let e2 = c .before .before .before .before .hand .ensures in
+    let e3 = c .before .before .move-first .ensures in
+    let e4 = c .asks .ensures in
+    simp (e1, e2, e3, e4, h1)
 
 same-length-3 : tie.Need-same-length-3
 same-length-3 c = search needs
@@ -81,9 +73,7 @@ pub fixed-pushed-spec : {M : Type 1} → statement M
 fixed-pushed-spec =
     tie.close
     (tie.spec
-    actor-at-requires
-    consumed-requires
-    put-actor-requires
+    consumed-at-requires
     hand-requires
     move-first-requires
     asks-requires

@@ -9,44 +9,32 @@ use Rattle.steps.proofs.fixed.fixed_start.Tie as tie
 actor-at-requires : tie.Need-actor-at-requires
 actor-at-requires c κs = search needs
 
-started-requires : tie.Need-started-requires
-started-requires c κs = search needs
-
-put-actor-requires : tie.Need-put-actor-requires
-put-actor-requires c κs = search needs
+started-at-requires : tie.Need-started-at-requires
+started-at-requires c κs = search needs
 
 same-length : tie.Need-same-length
 same-length c = search needs
 
 returns : tie.Need-returns
-unfolding fixedStart fixedKindOf
+unfolding fixedKindOf fixedStart
 returns c =
-    let e1 = c .before .before .before .before .before .actor-at .ensures in
-    let e2 = c .before .before .before .before .started .ensures in
-    let e3 = c .before .before .put-actor .ensures in
+    let e1 = c .before .before .before .before .actor-at .ensures in
+    let e2 = c .before .before .started-at .ensures in
     let h1 = simp (e1) at (c .if1 .taken) in
-    simp (e1, e2, e3, h1)
+    simp (e2, h1)
 
 same-length-2 : tie.Need-same-length-2
 same-length-2 c = search needs
 
 returns-2 : tie.Need-returns-2
-unfolding fixedStart fixedKindOf
+unfolding fixedKindOf fixedStart
 returns-2 c =
-    let e1 = c .before .before .before .before .before .actor-at .ensures in
-    let e2 = c .before .before .before .before .started .ensures in
-    let e3 = c .before .before .put-actor .ensures in
+    let e1 = c .before .before .before .before .actor-at .ensures in
+    let e2 = c .before .before .started-at .ensures in
     let h1 = simp (e1) at (c .if1 .left) in
-    simp (e1, e2, e3, h1)
+    simp (e2, h1)
 
 pub fixed-start-spec : {M : Type 1} → statement M
 fixed-start-spec =
     tie.close
-    (tie.spec
-    actor-at-requires
-    started-requires
-    put-actor-requires
-    same-length
-    returns
-    same-length-2
-    returns-2)
+    (tie.spec actor-at-requires started-at-requires same-length returns same-length-2 returns-2)

@@ -5,14 +5,8 @@ use borrow.Author.Needs.{needs}
 use Rattle.steps.proofs.step.idle_at.Statement.{statement}
 use Rattle.steps.proofs.step.idle_at.Tie as tie
 
-actor-at-requires : tie.Need-actor-at-requires
-actor-at-requires c κs = search needs
-
-idled-requires : tie.Need-idled-requires
-idled-requires c κs = search needs
-
-put-actor-requires : tie.Need-put-actor-requires
-put-actor-requires c κs = search needs
+idled-at-requires : tie.Need-idled-at-requires
+idled-at-requires c κs = search needs
 
 same-length : tie.Need-same-length
 same-length c = search needs
@@ -20,11 +14,8 @@ same-length c = search needs
 returns : tie.Need-returns
 unfolding idledAt
 returns c =
-    let e1 = c .before .before .before .before .actor-at .ensures in
-    let e2 = c .before .before .before .idled .ensures in
-    let e3 = c .before .put-actor .ensures in
-    simp (e1, e2, e3)
+    let e1 = c .before .idled-at .ensures in
+    simp (e1)
 
 pub idle-at-spec : {M : Type 1} → statement M
-idle-at-spec =
-    tie.close (tie.spec actor-at-requires idled-requires put-actor-requires same-length returns)
+idle-at-spec = tie.close (tie.spec idled-at-requires same-length returns)

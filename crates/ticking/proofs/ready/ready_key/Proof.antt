@@ -1,6 +1,6 @@
 -- `ready::ready_key` meets its contract: by whether the actor is there, and whether it has work. Assumes nothing.
-use mathlib.Core.Path.{_∙_}
 use Rattle.ticking.specs.Ready.{readyKey}
+use mathlib.Core.Path.{_∙_}
 use borrow.Author.Needs.{needs}
 use Rattle.ticking.proofs.ready.ready_key.Statement.{statement}
 use Rattle.ticking.proofs.ready.ready_key.Tie as tie
@@ -26,11 +26,8 @@ length-of-requires c κs = search needs
 rests-requires : tie.Need-rests-requires
 rests-requires c κs = search needs
 
-scheduled-requires : tie.Need-scheduled-requires
-scheduled-requires c κs = search needs
-
-put-actor-requires : tie.Need-put-actor-requires
-put-actor-requires c κs = search needs
+scheduled-at-requires : tie.Need-scheduled-at-requires
+scheduled-at-requires c κs = search needs
 
 same-length : tie.Need-same-length
 same-length c = search needs
@@ -41,18 +38,17 @@ same-length-2 c = search needs
 returns : tie.Need-returns
 unfolding readyKey
 returns c =
-    let e1 = c .before .before .before .before .before .before .before .before .before .before .before .before .before .before .ready-after .ensures in
-    let e2 = c .before .before .before .before .before .before .before .before .before .before .before .before .before .live .ensures in
-    let h1 = simp (e2) at (c .before .before .before .before .before .before .before .before .before .before .before .before .if1 .taken) in
-    let e3 = c .before .before .before .before .before .before .before .before .before .before .before .slot-at .ensures in
-    let e4 = c .before .before .before .before .before .before .before .before .before .actor-at .ensures in
-    let e5 = c .before .before .before .before .before .before .before .mailbox .ensures in
-    let e6 = c .before .before .before .before .before .before .length-of .ensures in
-    let e7 = c .before .before .before .before .before .rests .ensures in
-    let e8 = c .before .before .before .before .scheduled .ensures in
-    let e9 = c .before .before .put-actor .ensures in
+    let e1 = c .before .before .before .before .before .before .before .before .before .before .before .before .before .ready-after .ensures in
+    let e2 = c .before .before .before .before .before .before .before .before .before .before .before .before .live .ensures in
+    let h1 = simp (e2) at (c .before .before .before .before .before .before .before .before .before .before .before .if1 .taken) in
+    let e3 = c .before .before .before .before .before .before .before .before .before .before .slot-at .ensures in
+    let e4 = c .before .before .before .before .before .before .before .before .actor-at .ensures in
+    let e5 = c .before .before .before .before .before .before .mailbox .ensures in
+    let e6 = c .before .before .before .before .before .length-of .ensures in
+    let e7 = c .before .before .before .before .rests .ensures in
+    let e8 = c .before .before .scheduled-at .ensures in
     let h2 = simp (e3, e4, e5, e6, e7) at (c .if2 .taken) in
-    simp (e1, e3, e4, e8, e9, h1, h2)
+    simp (e1, e3, e8, h1, h2)
 
 begin-step-requires : tie.Need-begin-step-requires
 begin-step-requires c κs = search needs
@@ -66,19 +62,12 @@ same-length-4 c = search needs
 returns-2 : tie.Need-returns-2
 unfolding readyKey
 returns-2 c =
-    let e1 = c .before .before .before .before .before .before .before .before .before .before .before .before .before .before .before .before .before .before .live .ensures in
-    let h1 = simp (e1) at (c .before .before .before .before .before .before .before .before .before .before .before .before .before .before .before .before .before .if1 .taken) in
-    let e2 = c .before .before .before .before .before .before .before .before .before .before .before .before .before .before .before .before .slot-at .ensures in
-    let e3 = c .before .before .before .before .before .before .before .before .before .before .before .before .before .before .actor-at .ensures in
-    let e4 = c .before .before .before .before .before .before .before .before .before .before .before .before .mailbox .ensures in
-    let e5 = c .before .before .before .before .before .before .before .before .before .before .before .length-of .ensures in
-    let e6 = c .before .before .before .before .before .before .before .before .before .before .rests .ensures in
-    let e7 = c .before .before .before .before .before .before .before .before .before .scheduled .ensures in
-    let e8 = c .before .before .before .before .before .before .before .put-actor .ensures in
-    let h2 = simp (e2, e3, e4, e5, e6) at (c .before .before .before .before .before .if2 .left) in
-    let e9 = c .before .before .begin-step .ensures in
-    let actors = simp (e2, e3, e7) at e8 in
-    e9 ∙ rw (actors, e2, h1, h2)
+    let h1 = simp (c .before .before .before .before .before .before .before .before .before .before .before .before .before .before .before .before .before .live .ensures) at (c .before .before .before .before .before .before .before .before .before .before .before .before .before .before .before .before .if1 .taken) in
+    let e1 = c .before .before .before .before .before .before .before .before .before .before .before .before .before .before .before .slot-at .ensures in
+    let done = c .before .before .before .before .before .before .before .before .before .rests .ensures in
+    let h2 = simp (e1, c .before .before .before .before .before .before .before .before .before .before .before .before .before .actor-at .ensures, c .before .before .before .before .before .before .before .before .before .before .before .mailbox .ensures, c .before .before .before .before .before .before .before .before .before .before .length-of .ensures, done) at (c .before .before .before .before .before .if2 .left) in
+    let actors = simp e1 at (c .before .before .before .before .before .before .before .scheduled-at .ensures) in
+    c .before .before .begin-step .ensures ∙ rw (actors, e1, h1, h2)
 
 returns-3 : tie.Need-returns-3
 unfolding readyKey
@@ -99,8 +88,7 @@ ready-key-spec =
     mailbox-requires
     length-of-requires
     rests-requires
-    scheduled-requires
-    put-actor-requires
+    scheduled-at-requires
     same-length
     same-length-2
     returns

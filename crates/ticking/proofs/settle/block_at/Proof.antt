@@ -1,4 +1,5 @@
--- `settle::block_at` meets its contract: the actor is stored as blocked, and its key is put into the waiting list. Assumes nothing.
+-- `settle::block_at` meets its contract: the actor is stored as blocked, and its key is put into the waiting list.
+-- Assumes nothing.
 use Rattle.ticking.specs.Settle.{blockAt}
 use borrow.Author.Needs.{needs}
 use Rattle.ticking.proofs.settle.block_at.Statement.{statement}
@@ -7,14 +8,8 @@ use Rattle.ticking.proofs.settle.block_at.Tie as tie
 slot-at-requires : tie.Need-slot-at-requires
 slot-at-requires c κs = search needs
 
-actor-at-requires : tie.Need-actor-at-requires
-actor-at-requires c κs = search needs
-
-blocked-requires : tie.Need-blocked-requires
-blocked-requires c κs = search needs
-
-put-actor-requires : tie.Need-put-actor-requires
-put-actor-requires c κs = search needs
+blocked-at-requires : tie.Need-blocked-at-requires
+blocked-at-requires c κs = search needs
 
 waiting-row-requires : tie.Need-waiting-row-requires
 waiting-row-requires c κs = search needs
@@ -31,22 +26,18 @@ same-length-2 c = search needs
 returns : tie.Need-returns
 unfolding blockAt
 returns c =
-    let e1 = c .before .before .before .before .before .before .before .before .before .before .slot-at .ensures in
-    let e2 = c .before .before .before .before .before .before .before .before .actor-at .ensures in
-    let e3 = c .before .before .before .before .before .before .before .blocked .ensures in
-    let e4 = c .before .before .before .before .before .put-actor .ensures in
-    let e5 = c .before .before .before .waiting-row .ensures in
-    let e6 = c .before .push-key .ensures in
-    simp (e1, e2, e3, e4, e5, e6)
+    let e1 = c .before .before .before .before .before .before .before .slot-at .ensures in
+    let e2 = c .before .before .before .before .before .blocked-at .ensures in
+    let e3 = c .before .before .before .waiting-row .ensures in
+    let e4 = c .before .push-key .ensures in
+    simp (e1, e2, e3, e4)
 
 pub block-at-spec : {M : Type 1} → statement M
 block-at-spec =
     tie.close
     (tie.spec
     slot-at-requires
-    actor-at-requires
-    blocked-requires
-    put-actor-requires
+    blocked-at-requires
     waiting-row-requires
     push-key-requires
     same-length

@@ -1,6 +1,6 @@
 -- `waking::woken_to` meets its contract: by whether it is awake, and whether it is idle. Assumes nothing.
-use mathlib.Core.Path.{_∙_}
 use Rattle.ticking.specs.Waking.{wokenTo}
+use mathlib.Core.Path.{_∙_}
 use borrow.Author.Needs.{needs}
 use Rattle.ticking.proofs.waking.woken_to.Statement.{statement}
 use Rattle.ticking.proofs.waking.woken_to.Tie as tie
@@ -11,11 +11,8 @@ slot-at-requires c κs = search needs
 actor-at-requires : tie.Need-actor-at-requires
 actor-at-requires c κs = search needs
 
-woken-requires : tie.Need-woken-requires
-woken-requires c κs = search needs
-
-put-actor-requires : tie.Need-put-actor-requires
-put-actor-requires c κs = search needs
+woken-at-requires : tie.Need-woken-at-requires
+woken-at-requires c κs = search needs
 
 schedule-requires : tie.Need-schedule-requires
 schedule-requires c κs = search needs
@@ -29,14 +26,9 @@ same-length-2 c = search needs
 returns : tie.Need-returns
 unfolding wokenTo
 returns c =
-    let e1 = c .before .before .before .before .before .before .before .before .before .before .before .before .slot-at .ensures in
-    let e2 = c .before .before .before .before .before .before .before .before .before .before .actor-at .ensures in
-    let h1 = c .before .before .before .before .before .before .before .before .before .if1 .taken in
-    let e3 = c .before .before .before .before .before .before .before .before .woken .ensures in
-    let e4 = c .before .before .before .before .before .before .put-actor .ensures in
-    let e5 = c .before .before .schedule .ensures in
-    let actors = simp (e1, e2, e3) at e4 in
-    e5 ∙ rw (actors, h1)
+    let h1 = c .before .before .before .before .before .before .before .before .if1 .taken in
+    let actors = simp (c .before .before .before .before .before .before .before .before .before .before .before .slot-at .ensures) at (c .before .before .before .before .before .before .woken-at .ensures) in
+    c .before .before .schedule .ensures ∙ rw (actors, h1)
 
 same-length-3 : tie.Need-same-length-3
 same-length-3 c = search needs
@@ -44,10 +36,8 @@ same-length-3 c = search needs
 returns-2 : tie.Need-returns-2
 unfolding wokenTo
 returns-2 c =
-    let e1 = c .before .before .before .before .slot-at .ensures in
-    let e2 = c .before .before .actor-at .ensures in
     let h1 = c .before .if1 .left in
-    let h2 = simp (e1, e2) at (c .if2 .taken) in
+    let h2 = simp (c .before .before .before .before .slot-at .ensures, c .before .before .actor-at .ensures) at (c .if2 .taken) in
     simp (h1, h2)
 
 waiting-row-requires : tie.Need-waiting-row-requires
@@ -65,13 +55,11 @@ same-length-5 c = search needs
 returns-3 : tie.Need-returns-3
 unfolding wokenTo
 returns-3 c =
-    let e1 = c .before .before .before .before .before .before .before .before .slot-at .ensures in
-    let e2 = c .before .before .before .before .before .before .actor-at .ensures in
     let h1 = c .before .before .before .before .before .if1 .left in
-    let h2 = simp (e1, e2) at (c .before .before .before .before .if2 .left) in
-    let e3 = c .before .before .before .waiting-row .ensures in
-    let e4 = c .before .push-key .ensures in
-    simp (e3, e4, h1, h2)
+    let h2 = simp (c .before .before .before .before .before .before .before .before .slot-at .ensures, c .before .before .before .before .before .before .actor-at .ensures) at (c .before .before .before .before .if2 .left) in
+    let e1 = c .before .before .before .waiting-row .ensures in
+    let e2 = c .before .push-key .ensures in
+    simp (e1, e2, h1, h2)
 
 pub woken-to-spec : {M : Type 1} → statement M
 woken-to-spec =
@@ -79,8 +67,7 @@ woken-to-spec =
     (tie.spec
     slot-at-requires
     actor-at-requires
-    woken-requires
-    put-actor-requires
+    woken-at-requires
     schedule-requires
     same-length
     same-length-2
