@@ -79,12 +79,11 @@ module _ (keys actors : Table) (g : ℕ) where
 -- ---- the keys, in rising order
 
 module _ (given : List ℕ) (links : Table) (g k : ℕ) (best : Key) where
-  pub least-more : k < 16 → leastFrom given links g (16 - k) k best ≡ leastFrom given links g (16 - (k + 1)) (k + 1)
-      (pick (containsOf given k) (betterOf links g best k) best)
+  pub least-more : k < 16 → leastFrom given (betterOf links g) (16 - k) k best ≡ leastFrom given (betterOf links g) (16 - (k + 1)) (k + 1) (pick (containsOf given k) (betterOf links g best k) best)
   unfolding leastFrom
   least-more inside = let more : 16 - k ≡ suc (16 - (k + 1)) = omega arith in rw more
 
-  pub least-end : 16 ≤ k → leastFrom given links g (16 - k) k best ≡ best
+  pub least-end : 16 ≤ k → leastFrom given (betterOf links g) (16 - k) k best ≡ best
   unfolding leastFrom
   least-end out = let none : 16 - k ≡ 0 = omega arith in rw none
 

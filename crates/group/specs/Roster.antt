@@ -1,12 +1,12 @@
 -- The keys of a group's actors: live, scheduled, spawned, idle, least loaded.
 use mathlib.Core.Bool.{Bool, true, false}
 use mathlib.Core.List.{List}
-use Prim.Native.Nat.{ℕ, zero, suc, _+_, _*_}
+use Prim.Native.Nat.{ℕ, zero, suc, _+_, _-_, _*_}
 use lib.Dec.{ltb}
 use lib.ListN.{set}
 use Rattle.lists.specs.declared.keys.Key.{Key}
 use Rattle.lists.specs.declared.keys.Key.the-variants as key
-use Rattle.lists.specs.Links.{pick, Table, lenOf, mailboxOf}
+use Rattle.lists.specs.Links.{pick, Table, capped, lenOf, mailboxOf}
 use Rattle.lists.specs.KeyLists.{keysAt, countOf, lastOf, popEnd, pushOf}
 use Rattle.lists.specs.Slabs.{containsOf, vacantOf, insertOf, liveCount}
 use Rattle.actor.specs.declared.state.Mode.{Mode}
@@ -14,6 +14,7 @@ use Rattle.actor.specs.declared.state.Mode.the-variants as mode
 use Rattle.actor.specs.Questions.{slotOf}
 use Rattle.actor.specs.Actors.{actorAt, putActor, newActor, scheduledAs}
 use Rattle.steps.specs.Steps.{overFirst}
+use Rattle.group.specs.declared.at.Cursor.{Cursor}
 use Rattle.group.specs.At.{whoOf}
 
 -- ---- the rows of the table of key lists: four for each of 8 groups, and two for the turn
@@ -43,10 +44,40 @@ waitingRow g = pick (ltb g 8) (4 * g + 3) ROWS
 abbrev pub slotAt : ℕ → ℕ → ℕ
 slotAt g k = slotOf (whoOf g k)
 
--- what an operation on keys changes
+-- the slot of the step's actor
+abbrev pub slotOn : Cursor → ℕ
+slotOn c = slotAt (c .group) (c .key)
+
+-- what an operation on keys works on, and changes
 pub record Keyed : Type 0 where
   pub keys : Table
   pub actors : Table
+
+abbrev pub keyed : Table → Table → Keyed
+keyed keys actors = record { keys = keys; actors = actors }
+
+-- lists of messages, and how many messages are in mailboxes
+pub record Mailed : Type 0 where
+  pub links : Table
+  pub queued : ℕ
+
+abbrev pub mailed : Table → ℕ → Mailed
+mailed t queued = record { links = t; queued = queued }
+
+-- queued changes as the length of a mailbox does, from these lists to those
+abbrev pub queuedAfter : Table → Table → ℕ → ℕ → ℕ
+queuedAfter t t′ slot queued = capped (queued + lenOf t′ (mailboxOf slot)) - lenOf t (mailboxOf slot)
+
+-- what routing and settling work on, and change: lists of messages, keys, actors, and how many messages are in
+-- mailboxes
+pub record Tables : Type 0 where
+  pub links : Table
+  pub keys : Table
+  pub actors : Table
+  pub queued : ℕ
+
+abbrev pub tables : Table → Table → Table → ℕ → Tables
+tables t keys actors queued = record { links = t; keys = keys; actors = actors; queued = queued }
 
 pub record Spawned : Type 0 where
   pub keys : Table
@@ -141,14 +172,14 @@ unfoldable pub betterOf : Table → ℕ → Key → ℕ → Key
 betterOf links g (key.At b) k = pick (ltb (loadOf links g k) (loadOf links g b)) (key.At k) (key.At b)
 betterOf links g key.Nothing k = key.At k
 
--- among n keys from k on
-unfoldable pub leastFrom : List ℕ → Table → ℕ → ℕ → ℕ → Key → Key
-leastFrom given links g zero k best = best
-leastFrom given links g (suc n) k best =
-    leastFrom given links g n (k + 1) (pick (containsOf given k) (betterOf links g best k) best)
+-- the best among n keys from k on that are given out
+unfoldable pub leastFrom : List ℕ → (Key → ℕ → Key) → ℕ → ℕ → Key → Key
+leastFrom given better zero k best = best
+leastFrom given better (suc n) k best =
+    leastFrom given better n (k + 1) (pick (containsOf given k) (better best k) best)
 
 unfoldable pub leastOf : Table → Table → ℕ → Key
-leastOf keys links g = leastFrom (keysAt keys (slabRow g)) links g 16 0 key.Nothing
+leastOf keys links g = leastFrom (keysAt keys (slabRow g)) (betterOf links g) 16 0 key.Nothing
 
 -- ---- messages that are over
 

@@ -37,6 +37,8 @@ use Rattle.keeping.specs.Living.{handLen, stepHand, Lives}
 use Rattle.keeping.proofs.Living.{Slot, live-slot, live-given-key, Less, less-at, less-lives, first-less}
 use Rattle.keeping.proofs.Living.{all-less, over-less, FirstLens, first-lens, Same, same-lives, same-live}
 use Rattle.keeping.proofs.Living.{set-row, idle-row, put-schedule, changes-lives, spawn-lives}
+use Rattle.group.specs.Roster.{tables}
+use Rattle.routing.specs.Route.{programs}
 
 -- ---- the first turn's spawns
 
@@ -95,7 +97,7 @@ unfolding betterOf
 better-in s t g (key.At b) k was is = pick-rule (In s) (ltb (loadOf t g k) (loadOf t g b)) (λ e. is) (λ e. was)
 better-in s t g key.Nothing k was is = is
 
-least-in : (s : List ℕ) (t : Table) (g n k : ℕ) (best : Key) → In s best → In s (leastFrom s t g n k best)
+least-in : (s : List ℕ) (t : Table) (g n k : ℕ) (best : Key) → In s best → In s (leastFrom s (betterOf t g) n k best)
 unfolding leastFrom
 least-in s t g zero k best was = was
 least-in s t g (suc n) k best was =
@@ -118,7 +120,7 @@ in-goes keys g key.Nothing is = is
 
 least-goes : (keys t : Table) (g : ℕ) → Goes keys g (leastOf keys t g)
 unfolding leastOf
-least-goes keys t g = in-goes keys g (leastFrom (keysAt keys (slabRow g)) t g 16 0 key.Nothing)
+least-goes keys t g = in-goes keys g (leastFrom (keysAt keys (slabRow g)) (betterOf t g) 16 0 key.Nothing)
     (least-in (keysAt keys (slabRow g)) t g 16 0 key.Nothing (omega arith))
 
 idle-live : (keys actors : Table) (g k : ℕ) → idleKey keys actors g k ≡ true → liveOf keys g k ≡ true
@@ -229,14 +231,13 @@ module _ (t : Table) (good : Good t) (h : stepHand t ≤ 0) where
 
   module _ (rows : Table) (q left : ℕ) where
     sent : (keys actors : Table) → Lives t keys actors → (g k : ℕ) → Goes keys g (key.At k)
-        → SentRests (to.deliver t keys actors g k q left)
+        → SentRests (to.deliver (tables t keys actors q) g k left)
     unfolding to.deliver to.deliverTo to.wakeAt
     sent keys actors l g k goes =
         same-rests (put-schedule keys actors g k (deliveredTo (actorAt actors (slotAt g k))) refl refl)
         (mailed keys actors l g k goes)
 
-    lost : (keys actors : Table) → Lives t keys actors → SentRests (to.lostTo (to.undeliverable t rows left) keys
-        actors q)
+    lost : (keys actors : Table) → Lives t keys actors → SentRests (to.lostTo (to.undeliverable t rows left) (tables t keys actors q))
     unfolding to.undeliverable
     lost keys actors l = record {
       lives = less-lives t _ keys actors (over-less t rows good BATCH) l;
@@ -244,30 +245,30 @@ module _ (t : Table) (good : Good t) (h : stepHand t ≤ 0) where
     }
 
     by-key : (keys actors : Table) → Lives t keys actors → (g : ℕ) (k : Key) → Goes keys g k
-        → SentRests (to.deliverKey t rows keys actors g k q left)
+        → SentRests (to.deliverKey rows (tables t keys actors q) g k left)
     unfolding to.deliverKey
     by-key keys actors l g (key.At k) goes = sent keys actors l g k goes
     by-key keys actors l g key.Nothing goes = lost keys actors l
 
     by-least : (keys actors : Table) → Lives t keys actors → (g : ℕ)
-        → SentRests (to.routeLeast t rows keys actors g q left)
+        → SentRests (to.routeLeast rows (tables t keys actors q) g left)
     unfolding to.routeLeast
     by-least keys actors l g = by-key keys actors l g (leastOf keys t g) (least-goes keys t g)
 
     by-spawned : (keys actors : Table) → Lives t keys actors → (g : ℕ) (k : Key) → Goes keys g k
-        → SentRests (to.spawnedSent t rows g q left keys actors k)
+        → SentRests (to.spawnedSent rows (tables t keys actors q) g left k)
     by-spawned keys actors l g (key.At k) goes = sent keys actors l g k goes
     by-spawned keys actors l g key.Nothing goes = by-least keys actors l g
 
     by-spawn : (keys actors : Table) → Lives t keys actors → (g : ℕ) (e : Bool)
-        → SentRests (to.routeSpawned t rows keys actors g e q left)
+        → SentRests (to.routeSpawned rows (tables t keys actors q) g e left)
     unfolding to.routeSpawned
     by-spawn keys actors l g e =
         by-spawned _ _ (spawn-lives t keys actors l g e .lives) g (spawnOf keys actors g e .key)
         (spawn-goes t keys actors l g e)
 
     by-new : (groups keys actors : Table) → Lives t keys actors → (g : ℕ)
-        → SentRests (to.routeNew groups t rows keys actors g q left)
+        → SentRests (to.routeNew groups rows (tables t keys actors q) g left)
     unfolding to.routeNew
     by-new groups keys actors l g =
         pick-rule SentRests (ltb (liveLen keys g) (groupAt groups g .ceiling))
@@ -276,49 +277,49 @@ module _ (t : Table) (good : Good t) (h : stepHand t ≤ 0) where
         (λ e. by-least keys actors l g)
 
     by-idle : (groups keys actors : Table) → Lives t keys actors → (g : ℕ) (k : Key) → Goes keys g k
-        → SentRests (to.routeIdle groups t rows actors g q left keys k)
+        → SentRests (to.idleElse (tables t keys actors q) g left k (to.routeNew groups rows (tables t keys actors q) g left))
     by-idle groups keys actors l g (key.At k) goes = sent keys actors l g k goes
     by-idle groups keys actors l g key.Nothing goes = by-new groups keys actors l g
 
     by-group : (groups keys actors : Table) → Lives t keys actors → (g : ℕ)
-        → SentRests (to.routeTo groups t rows keys actors g q left)
+        → SentRests (to.routeTo groups rows (tables t keys actors q) g left)
     unfolding to.routeTo
     by-group groups keys actors l g =
         by-idle groups (popIdleOf keys actors g .keys) actors (same-lives (idle-same keys actors g) l) g
         (popIdleOf keys actors g .key) (idle-goes keys actors g)
 
     by-named : (groups keys actors : Table) → Lives t keys actors → (n : Named)
-        → SentRests (to.routeNamed groups t rows keys actors q left n)
+        → SentRests (to.routeNamed groups rows (tables t keys actors q) left n)
     by-named groups keys actors l (named.Group g) = by-group groups keys actors l g
     by-named groups keys actors l named.Nothing = lost keys actors l
 
     by-first : (groups : Table) (count : ℕ) (store : List ℕ) (keys actors : Table) → Lives t keys actors → (f : Found)
-        → SentRests (to.routeFirst groups count store t rows keys actors q left f)
+        → SentRests (to.routeFirst (programs groups count store) rows (tables t keys actors q) left f)
     unfolding to.routeOne
     by-first groups count store keys actors l (found.Entry e) = by-named groups keys actors l (groupFor groups store e
         (messageAt rows e .name) count)
     by-first groups count store keys actors l found.Nothing = record { lives = l; free = h }
 
     pub route-rests : (groups : Table) (count : ℕ) (store : List ℕ) (keys actors : Table) → Lives t keys actors
-        → SentRests (routeOf groups count store t rows keys actors q left)
+        → SentRests (routeOf (programs groups count store) rows (tables t keys actors q) left)
     unfolding to.routeOf
     route-rests groups count store keys actors l =
         pick-rule SentRests (eqb left 0) (λ e. record { lives = l; free = h }) (λ e. by-first groups count store keys
         actors l (firstOf t BATCH))
 
     by-boot : (keys actors : Table) → Lives t keys actors → (g : ℕ) (b : Bool)
-        → SentRests (to.routeBooted t rows keys actors g q left b)
+        → SentRests (to.routeBooted rows (tables t keys actors q) g left b)
     unfolding to.routeBooted
     by-boot keys actors l g true = by-spawn keys actors l g false
     by-boot keys actors l g false = by-least keys actors l g
 
     by-yes : (keys actors : Table) → Lives t keys actors → (g : ℕ) (y : YesIn)
-        → SentRests (to.routeBy t rows keys actors g q left y)
+        → SentRests (to.routeBy rows (tables t keys actors q) g left y)
     by-yes keys actors l g yes.Yes = by-boot keys actors l g true
     by-yes keys actors l g yes.No = by-boot keys actors l g false
     by-yes keys actors l g yes.Other = record { lives = l; free = h }
 
     pub route-reply-rests : (keys actors : Table) → Lives t keys actors → (g : ℕ) (r : Reply)
-        → SentRests (routeReply t rows keys actors g q left r)
+        → SentRests (routeReply rows (tables t keys actors q) g left r)
     unfolding to.routeReply
     route-reply-rests keys actors l g r = by-yes keys actors l g (yesIn r)

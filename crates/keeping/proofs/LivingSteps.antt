@@ -56,6 +56,7 @@ use Rattle.keeping.specs.Living.{Lively, IsFixed}
 use Rattle.keeping.proofs.Living.{Slot, live-slot, live-given-key, Less, less-at, less-lives, FirstLens}
 use Rattle.keeping.proofs.Living.{first-lens, over-less, over-left, Same, same-lives, put-same}
 use Rattle.keeping.proofs.Living.{changes-lives}
+use Rattle.steps.specs.Steps.{stepTables}
 
 mode-apart : _≡_ {A = Mode} mode.Fixed mode.Eval → ⊥
 mode-apart e = let z : _≡_ {A = ℕ} 0 1 = cc in omega arith
@@ -427,7 +428,7 @@ module _ (t rows keys actors : Table) (q : ℕ) (good : Good t) (l : Lives t key
   by-dispatch h count.Other = stays fixed.Dispatch h
 
   pub fixed-lives : (a : FixedAsk) → FixedHands c a t → (r : Reply)
-      → FixedLives keys c (stepFixed t rows actors at-slot q a r)
+      → FixedLives keys c (stepFixed (stepTables t rows actors) at-slot q a r)
   unfolding one.stepFixed one.runReply one.drainReply one.pushReply one.dispatchReply
   fixed-lives (fixed.Run start) h r = by-run h start (ranIn r)
   fixed-lives fixed.Drain h r = by-drain h (countIn r)
@@ -458,18 +459,18 @@ module _ (t rows keys actors : Table) (good : Good t) (l : Lives t keys actors) 
     done-hand : stepHand t ≤ 1 → stepHand done ≤ 0
     done-hand h = omega (arith, over-left t rows good HAND (omega arith) (omega arith))
 
-    over-eval : stepHand t ≤ 1 → EvalLives keys c (two.evalOver t rows actors on)
+    over-eval : stepHand t ≤ 1 → EvalLives keys c (two.evalOver (stepTables t rows actors) on)
     unfolding two.evalOver
     over-eval h =
         pick-rule (EvalLives keys c) (eqb (lenOf done (mailboxOf on)) 0)
         (λ e. record { lives = same-lives (idled-same keys actors on) done-lives; hands = done-hand h })
         (λ e. record { lives = done-lives; hands = done-hand h })
 
-    tell-eval : stepHand t ≤ 1 → (o : Outcome) → EvalLives keys c (two.evalTell t rows actors on o)
+    tell-eval : stepHand t ≤ 1 → (o : Outcome) → EvalLives keys c (two.evalTell (stepTables t rows actors) on o)
     unfolding two.evalTell
     tell-eval h o = go (callerFirst rows (firstOf t HAND))
       where
-        go : (x : Caller) → EvalLives keys c (two.evalTold t rows actors on o x)
+        go : (x : Caller) → EvalLives keys c (two.evalTold (stepTables t rows actors) on o x)
         go (caller.From id) = record { lives = l; hands = h }
         go caller.Nobody = over-eval h
 
@@ -478,7 +479,7 @@ module _ (t rows keys actors : Table) (good : Good t) (l : Lives t keys actors) 
     abbrev its : ℕ
     its = slotAt (c .group) (c .key)
 
-    finish-eval : stepHand t ≤ 0 → (o : Outcome) → EvalLives keys c (two.evalFinish t rows actors its o)
+    finish-eval : stepHand t ≤ 0 → (o : Outcome) → EvalLives keys c (two.evalFinish (stepTables t rows actors) its o)
     unfolding two.evalFinish
     finish-eval h o =
         tell-eval out rows keys _ (move-first-good t good (handOf its) HAND)
@@ -497,12 +498,12 @@ module _ (t rows keys actors : Table) (good : Good t) (l : Lives t keys actors) 
     })
     stay-eval a h = record { lives = l; hands = h }
 
-    clocked-eval : stepHand t ≤ 0 → (n : ℕ) → EvalLives keys c (two.evalClocked t rows actors its n)
+    clocked-eval : stepHand t ≤ 0 → (n : ℕ) → EvalLives keys c (two.evalClocked (stepTables t rows actors) its n)
     unfolding two.evalClocked
     clocked-eval h n = pick-rule (EvalLives keys c) (leb (deadlineOf (actorAt actors its .run)) n)
         (λ e. finish-eval h outcome.Late) (λ e. stay-eval (eval.Run false) h)
 
-    booted-eval : EvalHands c eval.Boot t → (b : Bool) → EvalLives keys c (two.evalBooted t rows actors its b)
+    booted-eval : EvalHands c eval.Boot t → (b : Bool) → EvalLives keys c (two.evalBooted (stepTables t rows actors) its b)
     unfolding two.evalBooted
     booted-eval h true = stay-eval eval.StartClock h
     booted-eval h false = tell-eval t rows keys actors good l c live (h .0) outcome.Unbooted
@@ -532,7 +533,7 @@ module _ (t rows keys actors : Table) (good : Good t) (l : Lives t keys actors) 
             (runs-now actors its until (omega (arith, slot-here .is, slot-here .group, slot-here .key, l .actors-are))
             refl)
 
-    ran-eval : stepHand t ≤ 0 → (s : Status) → EvalLives keys c (two.evalRan t rows actors its s)
+    ran-eval : stepHand t ≤ 0 → (s : Status) → EvalLives keys c (two.evalRan (stepTables t rows actors) its s)
     unfolding two.evalRan
     ran-eval h status.Done = finish-eval h outcome.Ran
     ran-eval h status.Exit = finish-eval h outcome.Ran
@@ -542,16 +543,16 @@ module _ (t rows keys actors : Table) (good : Good t) (l : Lives t keys actors) 
     ran-eval h status.Error = finish-eval h outcome.Raised
     ran-eval h status.Broke = finish-eval h outcome.Broke
 
-    dispatched-eval : stepHand t ≤ 0 → (n : ℕ) → EvalLives keys c (two.evalDispatched t rows actors its n)
+    dispatched-eval : stepHand t ≤ 0 → (n : ℕ) → EvalLives keys c (two.evalDispatched (stepTables t rows actors) its n)
     unfolding two.evalDispatched
     dispatched-eval h n = pick-rule (EvalLives keys c) (ltb 0 n) (λ e. record { lives = l; hands = h })
         (λ e. finish-eval h outcome.StuckHostCall)
 
-    by-clock : stepHand t ≤ 0 → (r : ClockIn) → EvalLives keys c (two.clockBy t rows actors its r)
+    by-clock : stepHand t ≤ 0 → (r : ClockIn) → EvalLives keys c (two.clockBy (stepTables t rows actors) its r)
     by-clock h (clock.Of ns) = clocked-eval h ns
     by-clock h clock.Other = stay-eval eval.Clock h
 
-    by-boot : EvalHands c eval.Boot t → (r : YesIn) → EvalLives keys c (two.bootBy t rows actors its r)
+    by-boot : EvalHands c eval.Boot t → (r : YesIn) → EvalLives keys c (two.bootBy (stepTables t rows actors) its r)
     by-boot h yes.Yes = booted-eval h true
     by-boot h yes.No = booted-eval h false
     by-boot h yes.Other = stay-eval eval.Boot h
@@ -561,16 +562,16 @@ module _ (t rows keys actors : Table) (good : Good t) (l : Lives t keys actors) 
     by-start h limit (clock.Of ns) = started-eval h limit ns
     by-start h limit clock.Other = stay-eval eval.StartClock h
 
-    by-run-eval : stepHand t ≤ 0 → (start : Bool) (r : RanIn) → EvalLives keys c (two.runBy t rows actors its start r)
+    by-run-eval : stepHand t ≤ 0 → (start : Bool) (r : RanIn) → EvalLives keys c (two.runBy (stepTables t rows actors) its start r)
     by-run-eval h start (ran.Of s) = ran-eval h s
     by-run-eval h start ran.Other = stay-eval (eval.Run start) h
 
-    by-dispatch-eval : stepHand t ≤ 0 → (r : CountIn) → EvalLives keys c (two.dispatchBy t rows actors its r)
+    by-dispatch-eval : stepHand t ≤ 0 → (r : CountIn) → EvalLives keys c (two.dispatchBy (stepTables t rows actors) its r)
     by-dispatch-eval h (count.Of n) = dispatched-eval h n
     by-dispatch-eval h count.Other = stay-eval eval.Dispatch h
 
     pub eval-lives : (limit : Limit) (a : EvalAsk) → EvalHands c a t → (r : Reply)
-        → EvalLives keys c (stepEval t rows actors its limit a r)
+        → EvalLives keys c (stepEval (stepTables t rows actors) its limit a r)
     unfolding two.stepEval two.clockReply two.bootReply two.startReply two.runReply two.dispatchReply two.tellReply
     eval-lives limit eval.Clock h r = by-clock h (clockIn r)
     eval-lives limit eval.Boot h r = by-boot h (yesIn r)

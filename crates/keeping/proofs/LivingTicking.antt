@@ -48,10 +48,10 @@ use Rattle.group.specs.Roster.{REST, DOOMED, readyRow, idleRow, waitingRow, slo
 use Rattle.ticking.specs.declared.crash.Losses.{Losses}
 use Rattle.ticking.specs.Waking as waking
 use Rattle.ticking.specs.Waking.{Listed, Waked, wakeOf, wakeNext, pollReply}
-use Rattle.ticking.specs.Ready as readying
+use Rattle.ticking.specs.Ready as starting
 use Rattle.ticking.specs.Ready.{Stepping, Readied, readyOf}
 use Rattle.ticking.specs.Settle as settling
-use Rattle.ticking.specs.Settle.{PENDING, slotOn, stepEnd, settleOf}
+use Rattle.ticking.specs.Settle.{PENDING, stepEnd, settleOf}
 use Rattle.ticking.specs.Crash as crashing
 use Rattle.ticking.specs.Crash.{Dying, Crashing, crashOf, trapReply, trappedReply, doomedOf}
 use Rattle.places.proofs.Steps.{pick-rule}
@@ -66,6 +66,10 @@ use Rattle.keeping.proofs.Living.{same-then, same-lives, set-row}
 use Rattle.keeping.proofs.Living.{ready-row, idle-row, waiting-row, high-row, push-row, put-same, put-schedule}
 use Rattle.keeping.proofs.Living.{remove-lives}
 use Rattle.keeping.proofs.LivingSteps.{FixedNextHands, EvalNextHands, eval-begins}
+use Rattle.group.specs.Roster.{slotOn, tables, keyed, mailed}
+use Rattle.ticking.specs.Ready.{readying}
+use Rattle.ticking.specs.Crash.{retiring, dying}
+use Rattle.group.specs.At.{whoOf}
 
 -- ---- waking changes keys and actors elsewhere
 
@@ -82,7 +86,7 @@ module _ (keys actors : Table) where
       (λ e. same-both keys actors)
       (λ e. push-row keys actors (waitingRow g) k (waiting-row g))
 
-  one-same : (g k clock left : ℕ) → WakedSame (waking.wakeOne keys actors g k clock left)
+  one-same : (g k clock left : ℕ) → WakedSame (waking.wakeOne (keyed keys actors) g k clock left)
   unfolding waking.wakeOne
   one-same g k clock left =
       pick-rule WakedSame (liveOf keys g k)
@@ -92,12 +96,11 @@ module _ (keys actors : Table) where
       (λ e. woken-same g k false)))
       (λ e. same-both keys actors)
 
-  by-poll : (g k clock left : ℕ) (n : CountIn) → WakedSame (waking.pollBy keys actors g k clock left n)
-  by-poll g k clock left (count.Of n) = pick-rule WakedSame (ltb 0 n) (λ e. woken-same g k true)
-      (λ e. woken-same g k false)
+  by-poll : (g k clock left : ℕ) (n : CountIn) → WakedSame (waking.pollBy (keyed keys actors) (whoOf g k) clock left n)
+  by-poll g k clock left (count.Of n) = woken-same g k (ltb 0 n)
   by-poll g k clock left count.Other = same-both keys actors
 
-  pub poll-same : (g k clock left : ℕ) (r : Reply) → WakedSame (pollReply keys actors g k clock left r)
+  pub poll-same : (g k clock left : ℕ) (r : Reply) → WakedSame (pollReply (keyed keys actors) (whoOf g k) clock left r)
   unfolding pollReply
   poll-same g k clock left r = by-poll g k clock left (countIn r)
 
@@ -131,7 +134,7 @@ module _ (keys actors : Table) where
   trapped-same c k r = trapped-by c k (yesIn r)
 
 wake-first-same : (keys actors : Table) (g clock left : ℕ) (k : Key)
-    → Same keys actors (waking.wakeFirst keys actors g clock left k .keys) (waking.wakeFirst keys actors g clock left k
+    → Same keys actors (waking.wakeFirst (keyed keys actors) g clock left k .keys) (waking.wakeFirst (keyed keys actors) g clock left k
     .actors)
 wake-first-same keys actors g clock left (key.At k) =
     same-then (set-row keys actors REST _ (high-row REST (omega arith)))
@@ -139,7 +142,7 @@ wake-first-same keys actors g clock left (key.At k) =
 wake-first-same keys actors g clock left key.Nothing = same-both keys actors
 
 pub wake-next-same : (keys actors : Table) (g clock left : ℕ)
-    → Same keys actors (wakeNext keys actors g clock left .keys) (wakeNext keys actors g clock left .actors)
+    → Same keys actors (wakeNext (keyed keys actors) g clock left .keys) (wakeNext (keyed keys actors) g clock left .actors)
 unfolding wakeNext
 wake-next-same keys actors g clock left =
     pick-rule (λ (s : Waked). Same keys actors (s .keys) (s .actors)) (eqb left 0) (λ e. same-both keys actors)
@@ -169,8 +172,8 @@ module _ (t keys : Table) (good : Good t) (h : stepHand t ≤ 0) (q : ℕ) where
 
   fixed-begins : (actors : Table) → Lives t keys actors → (c : Cursor) → Lively keys c
       → actorAt actors (slotOn c) .mode ≡ mode.Fixed
-      → StepStands (readying.fixedBegun t q (readying.beginFixed actors c (slotOn c)))
-  unfolding readying.beginFixed fixedStart
+      → StepStands (starting.fixedBegun t q (starting.beginFixed actors c (slotOn c)))
+  unfolding starting.beginFixed fixedStart
   fixed-begins actors l c live is = record {
     lives = same-lives started l;
     ok = pick-rule (λ (a : FixedAsk). AskLives (asks.Fixed c a) t keys (putActor actors (slotOn c)
@@ -183,8 +186,8 @@ module _ (t keys : Table) (good : Good t) (h : stepHand t ≤ 0) (q : ℕ) where
 
   eval-starts : (actors : Table) → Lives t keys actors → (c : Cursor) → Lively keys c → actorAt actors (slotOn c) .mode
       ≡ mode.Eval
-      → StepStands (readying.beginEval t actors c (slotOn c) q)
-  unfolding readying.beginEval
+      → StepStands (starting.beginEval t actors c (slotOn c) q)
+  unfolding starting.beginEval
   eval-starts actors l c live is =
       let begun = eval-begins t t keys actors good l c live is q h in
       record {
@@ -194,30 +197,29 @@ module _ (t keys : Table) (good : Good t) (h : stepHand t ≤ 0) (q : ℕ) where
       }
 
   step-begins : (actors : Table) → Lives t keys actors → (c : Cursor) → Lively keys c
-      → StepStands (readying.beginStep t actors c (slotOn c) q)
-  unfolding readying.beginStep
+      → StepStands (starting.beginStep t actors c (slotOn c) q)
+  unfolding starting.beginStep
   step-begins actors l c live = go (actorAt actors (slotOn c) .mode) refl
     where
       began : Same keys actors keys (putActor actors (slotOn c) (beganStep (actorAt actors (slotOn c))))
       began = put-same keys actors (slotOn c) (beganStep (actorAt actors (slotOn c))) refl refl
 
       go : (m : Mode) → actorAt actors (slotOn c) .mode ≡ m
-          → StepStands (readying.beginBy t (putActor actors (slotOn c) (beganStep (actorAt actors (slotOn c)))) c
-          (slotOn c) q m)
+          → StepStands (starting.beginBy (mailed t q) (putActor actors (slotOn c) (beganStep (actorAt actors (slotOn c)))) c (slotOn c) m)
       go mode.Fixed e = fixed-begins _ (same-lives began l) c live (began .modes (slotOn c) ∙ e)
       go mode.Eval e = eval-starts _ (same-lives began l) c live (began .modes (slotOn c) ∙ e)
 
   ready-key : (actors : Table) → Lives t keys actors → (c : Cursor) (stepped : Bool)
-      → StepStands (readying.readyKey t keys actors c q stepped)
-  unfolding readying.readyKey
+      → StepStands (starting.readyKey (readying t keys actors q stepped) c)
+  unfolding starting.readyKey
   ready-key actors l c stepped =
       pick-rule StepStands (liveOf keys (c .group) (c .key))
-      (λ live. pick-rule StepStands (readying.restsOf (actorAt actors (slotOn c)) (lenOf t (mailboxOf (slotOn c))))
+      (λ live. pick-rule StepStands (starting.restsOf (actorAt actors (slotOn c)) (lenOf t (mailboxOf (slotOn c))))
       (λ e. record { lives = same-lives unscheduled l; ok = h })
       (λ e. step-begins _ (same-lives unscheduled l) c live))
       (λ e. record { lives = l; ok = h })
     where
-      unscheduled : Same keys actors keys (readying.unscheduled actors (slotOn c))
+      unscheduled : Same keys actors keys (starting.unscheduled actors (slotOn c))
       unscheduled = put-same keys actors (slotOn c) (scheduledAs (actorAt actors (slotOn c)) false) refl refl
 
 module _ (t keys actors : Table) (good : Good t) (l : Lives t keys actors) (h : stepHand t ≤ 0) (q : ℕ)
@@ -225,14 +227,14 @@ module _ (t keys actors : Table) (good : Good t) (l : Lives t keys actors) (h : 
   abbrev ReadyStands : Readied → Type 0
   ReadyStands s = Stands (s .begun .at) (s .links) (s .keys) (s .actors)
 
-  ready-front : (k : Key) → ReadyStands (readying.readyFront t keys actors q stepped g clock pops k)
+  ready-front : (k : Key) → ReadyStands (starting.readyFront (readying t keys actors q stepped) g clock pops k)
   ready-front (key.At k) =
-      ready-key t (readying.popReady keys g) good h q actors
-      (same-lives (set-row keys actors (readyRow g) _ (ready-row g)) l) (readying.cursorAt g k clock (pops - 1))
+      ready-key t (starting.popReady keys g) good h q actors
+      (same-lives (set-row keys actors (readyRow g) _ (ready-row g)) l) (starting.cursorAt g k clock (pops - 1))
       stepped
   ready-front key.Nothing = record { lives = l; ok = h }
 
-  pub ready-stands : ReadyStands (readyOf t keys actors q stepped g clock pops)
+  pub ready-stands : ReadyStands (readyOf (readying t keys actors q stepped) g clock pops)
   unfolding readyOf
   ready-stands = pick-rule ReadyStands (eqb pops 0) (λ e. record { lives = l; ok = h })
       (λ e. ready-front (frontOf (keysAt keys (readyRow g))))
@@ -280,8 +282,8 @@ module _ (t rows keys actors : Table) (good : Good t) (l : Lives t keys actors) 
       (c .key)
   let-go = go-empties t rows good (c .group) (c .key) (actorAt actors (slotOn c) .consumed) q
 
-  release-lives : handLen t (c .group) (c .key) ≤ 0 → Lives (settling.releaseOf t rows keys actors c q .links)
-      (settling.releaseOf t rows keys actors c q .keys) actors
+  release-lives : handLen t (c .group) (c .key) ≤ 0 → Lives (settling.releaseOf rows (tables t keys actors q) c .links)
+      (settling.releaseOf rows (tables t keys actors q) c .keys) actors
   unfolding settling.releaseOf
   release-lives empty =
       remove-lives _ keys actors (less-lives t _ keys actors (let-go .less) l) (c .group) (c .key)
@@ -294,7 +296,7 @@ module _ (t rows keys actors : Table) (good : Good t) (l : Lives t keys actors) 
         ),
       ))
 
-  release-hand : (n : ℕ) → stepHand t ≤ n → stepHand (settling.releaseOf t rows keys actors c q .links) ≤ n
+  release-hand : (n : ℕ) → stepHand t ≤ n → stepHand (settling.releaseOf rows (tables t keys actors q) c .links) ≤ n
   unfolding settling.releaseOf
   release-hand n h = omega (arith, less-at t _ (let-go .less) 5 (omega arith))
 
@@ -308,7 +310,7 @@ module _ (t rows keys actors : Table) (good : Good t) (l : Lives t keys actors) 
   park-same parked.Yield = put-schedule keys actors (c .group) (c .key) (yieldedAs (actorAt actors (slotOn c))) refl
       refl
 
-  pub settle-stands : (s : Step) → StepHands c s t → SettleStands (settleOf t rows keys actors c s q)
+  pub settle-stands : (s : Step) → StepHands c s t → SettleStands (settleOf rows (tables t keys actors q) c s)
   unfolding settleOf
   settle-stands step.Done h = record { lives = release-lives (h .1); ok = release-hand 0 (h .0) }
   settle-stands (step.Parked p) h = record { lives = same-lives (park-same p) l; ok = h }
@@ -321,7 +323,7 @@ pub record Crashes (t r : Table) (from : ℕ) : Type 0 where
   pub left : 5 ≤ from → from < LISTS → lenOf r from ≡ lenOf t from - 1
 
 module _ (groups t rows : Table) (good : Good t) (g from dead : ℕ) where
-  entry-crashes : (e : ℕ) → Crashes t (crashing.crashedEntry groups t rows g from e dead .links) from
+  entry-crashes : (e : ℕ) → Crashes t (crashing.crashedEntry groups (dying t rows dead) g from e .links) from
   unfolding crashing.crashedEntry
   entry-crashes e =
       pick-rule (λ (d : Dying). Crashes t (d .links) from) (ltb (messageAt rows e .attempts) (groupAt groups g .retry))
@@ -332,10 +334,10 @@ module _ (groups t rows : Table) (good : Good t) (g from dead : ℕ) where
       })
       (λ b. record { less = over-less t rows good from; left = λ high is. over-left t rows good from high is })
 
-  pub first-crashes : Crashes t (crashing.crashedFirst groups t rows g from dead .links) from
+  pub first-crashes : Crashes t (crashing.crashedFirst groups (dying t rows dead) g from .links) from
   unfolding crashing.crashedFirst
   first-crashes =
-      pick-rule (λ (f : Found). Crashes t (crashing.crashedFound groups t rows g from dead f .links) from)
+      pick-rule (λ (f : Found). Crashes t (crashing.crashedFound groups (dying t rows dead) g from f .links) from)
       (eqb (lenOf t from) 0)
       (λ e. record { less = less-same t; left = λ high is. omega (arith, eqb-true (lenOf t from) 0 e) })
       (λ e. entry-crashes (headOf t from))
@@ -363,7 +365,7 @@ module _ (groups t rows keys actors : Table) (good : Good t) (l : Lives t keys a
   DoomStands s = Lives (s .links) (s .keys) actors × (stepHand (s .links) ≤ 0)
 
   doomed-key : (names : Table) → Lives t names actors → (k n : ℕ)
-      → DoomStands (crashing.doomedKey groups t rows names c k n q x)
+      → DoomStands (crashing.doomedKey groups (retiring t rows names q x) c k n)
   unfolding crashing.doomedKey
   doomed-key names ln k n = (
     remove-lives _ names actors (less-lives t _ names actors less ln) (c .group) k
@@ -380,32 +382,29 @@ module _ (groups t rows keys actors : Table) (good : Good t) (l : Lives t keys a
       back : Emptied t mailed (c .group) k
       back = back-empties t good (c .group) k
 
-      crash : Crashes mailed (crashing.crashedFirst groups mailed rows (c .group) (handOf (slotAt (c .group) k))
-          (x .dead) .links) (handOf (slotAt (c .group) k))
+      crash : Crashes mailed (crashing.crashedFirst groups (dying mailed rows (x .dead)) (c .group) (handOf (slotAt (c .group) k)) .links) (handOf (slotAt (c .group) k))
       crash = first-crashes groups mailed rows (move-all-good t good (mailboxOf (slotAt (c .group) k)) PENDING)
           (c .group) (handOf (slotAt (c .group) k)) (x .dead)
 
-      less : Less t (crashing.crashedFirst groups mailed rows (c .group) (handOf (slotAt (c .group) k)) (x .dead)
+      less : Less t (crashing.crashedFirst groups (dying mailed rows (x .dead)) (c .group) (handOf (slotAt (c .group) k))
           .links)
       less = less-then t mailed _ (back .less) (crash .less)
 
-      held : Slot (c .group) k → handLen (crashing.crashedFirst groups mailed rows (c .group)
-          (handOf (slotAt (c .group) k)) (x .dead) .links) (c .group) k ≡ 0
+      held : Slot (c .group) k → handLen (crashing.crashedFirst groups (dying mailed rows (x .dead)) (c .group) (handOf (slotAt (c .group) k)) .links) (c .group) k ≡ 0
       held S =
           omega (
             arith,
-            subst (λ j. lenOf (crashing.crashedFirst groups mailed rows (c .group) (handOf (slotAt (c .group) k))
-                (x .dead) .links) j ≡ lenOf mailed j - 1) (S .hand)
+            subst (λ j. lenOf (crashing.crashedFirst groups (dying mailed rows (x .dead)) (c .group) (handOf (slotAt (c .group) k)) .links) j ≡ lenOf mailed j - 1) (S .hand)
                 (crash .left (omega (arith, S .hand)) (omega (arith, S .hand, S .group, S .key))),
             less-at t mailed (back .less) (7 + 2 * (16 * c .group + k)) (omega arith),
             l .one (c .group) k (S .group) (S .key),
           )
 
-  doomed-front : (k : Key) → DoomStands (crashing.doomedFront groups t rows keys c left q x k)
+  doomed-front : (k : Key) → DoomStands (crashing.doomedFront groups (retiring t rows keys q x) c left k)
   doomed-front (key.At k) = doomed-key (set keys DOOMED (popFront (keysAt keys DOOMED)))
       (same-lives (set-row keys actors DOOMED _ (high-row DOOMED (omega arith))) l) k (left - 1)
   doomed-front key.Nothing = (l, h)
 
-  pub doomed-stands : DoomStands (doomedOf groups t rows keys c left q x)
+  pub doomed-stands : DoomStands (doomedOf groups (retiring t rows keys q x) c left)
   unfolding doomedOf
   doomed-stands = pick-rule DoomStands (eqb left 0) (λ e. (l, h)) (λ e. doomed-front (frontOf (keysAt keys DOOMED)))

@@ -52,10 +52,10 @@ use Rattle.routing.specs.Route as to
 use Rattle.routing.specs.Route.{Sent}
 use Rattle.ticking.specs.declared.crash.Losses.{Losses}
 use Rattle.ticking.specs.Ready.{Begun}
-use Rattle.ticking.specs.Ready as readying
+use Rattle.ticking.specs.Ready as starting
 use Rattle.ticking.specs.Ready.{readyOf}
 use Rattle.ticking.specs.Settle as settling
-use Rattle.ticking.specs.Settle.{slotOn, settleOf}
+use Rattle.ticking.specs.Settle.{settleOf}
 use Rattle.ticking.specs.Crash as crashing
 use Rattle.ticking.specs.Crash.{Dying, Crashing, crashOf, doomedOf}
 use Rattle.turn.specs.State.{State, withLinks}
@@ -78,6 +78,10 @@ use Rattle.keeping.specs.MailSteps.{unread, retired, EveryPoint, EveryRe
 use Rattle.keeping.proofs.Living.{Slot, slot-is}
 use Rattle.keeping.proofs.Routing.{intake-rule, Routes, route-rule, reply-rule}
 use Rattle.keeping.proofs.Ticking.{ready-rule, no-hand}
+use Rattle.group.specs.Roster.{slotOn, tables, mailed}
+use Rattle.ticking.specs.Ready.{readying}
+use Rattle.ticking.specs.Crash.{retiring, dying}
+use Rattle.steps.specs.Steps.{stepTables}
 
 -- ---- no mailbox changes
 
@@ -182,7 +186,7 @@ module _ (groups t rows l : Table) (slot : ℕ) (good : Good t) (low : slot < 12
   by-dispatch (count.Of n) = dispatched-fixed n
   by-dispatch count.Other = nothing groups rows t good
 
-  fixed-step : (q : ℕ) (a : FixedAsk) (r : Reply) → MailStep groups rows t (stepFixed t rows l slot q a r .links)
+  fixed-step : (q : ℕ) (a : FixedAsk) (r : Reply) → MailStep groups rows t (stepFixed (stepTables t rows l) slot q a r .links)
   unfolding one.stepFixed one.runReply one.drainReply one.pushReply one.dispatchReply
   fixed-step q (fixed.Run start) r = by-run start (ranIn r)
   fixed-step q fixed.Drain r = by-drain q (countIn r)
@@ -216,8 +220,8 @@ route-ways groups t rows q left good = record {
 
 -- that of an eval actor without a run takes mail
 begin-by-step : (groups rows t actors : Table) (c : Cursor) (slot q : ℕ) → Good t → slot < 128 → (m : Mode)
-    → MailStep groups rows t (readying.beginBy t actors c slot q m .links)
-unfolding readying.beginEval two.evalStart
+    → MailStep groups rows t (starting.beginBy (mailed t q) actors c slot m .links)
+unfolding starting.beginEval two.evalStart
 begin-by-step groups rows t actors c slot q good low mode.Fixed = nothing groups rows t good
 begin-by-step groups rows t actors c slot q good low mode.Eval =
     pick-rule (λ (s : EvalStarted). MailStep groups rows t (s .links)) (hasRun (actorAt actors slot .run))
@@ -225,14 +229,14 @@ begin-by-step groups rows t actors c slot q good low mode.Eval =
     (λ e. taken groups t rows actors slot good low q)
 
 begin-step : (groups rows t actors : Table) (c : Cursor) (slot q : ℕ) → Good t → slot < 128
-    → MailStep groups rows t (readying.beginStep t actors c slot q .links)
-unfolding readying.beginStep
+    → MailStep groups rows t (starting.beginStep t actors c slot q .links)
+unfolding starting.beginStep
 begin-step groups rows t actors c slot q good low =
     begin-by-step groups rows t (putActor actors slot (beganStep (actorAt actors slot))) c slot
     q good low (actorAt actors slot .mode)
 
 ready-step : (groups rows t keys actors : Table) (q : ℕ) (b : Bool) (g clock pops : ℕ) → Good t
-    → MailStep groups rows t (readyOf t keys actors q b g clock pops .links)
+    → MailStep groups rows t (readyOf (readying t keys actors q b) g clock pops .links)
 ready-step groups rows t keys actors q b g clock pops good =
     ready-rule t q (λ (r : Table) (s : Begun). MailStep groups rows t r)
     (λ a stepped between. nothing groups rows t good)
@@ -248,7 +252,7 @@ let-go-step groups t rows slot true q good = sending-back groups t rows good slo
 let-go-step groups t rows slot false q good = dropping groups t rows good slot
 
 settle-step : (groups t rows keys actors : Table) (c : Cursor) (s : Step) (q : ℕ) → Good t
-    → MailStep groups rows t (settleOf t rows keys actors c s q .links)
+    → MailStep groups rows t (settleOf rows (tables t keys actors q) c s .links)
 unfolding settleOf settling.releaseOf
 settle-step groups t rows keys actors c step.Done q good =
     let-go-step groups t rows (slotOn c) (actorAt actors (slotOn c) .consumed)
@@ -261,7 +265,7 @@ settle-step groups t rows keys actors c step.Failed q good = let-go-step groups 
 
 -- it is tried again, and then pending, or over
 module _ (groups t rows : Table) (g slot : ℕ) (good : Good t) (from dead : ℕ) (f : Aside slot from) where
-  entry-through : (e : ℕ) → Through t rows (crashing.crashedEntry groups t rows g from e dead .links) slot
+  entry-through : (e : ℕ) → Through t rows (crashing.crashedEntry groups (dying t rows dead) g from e .links) slot
   unfolding crashing.crashedEntry
   entry-through e =
       pick-rule (λ (d : Dying). Through t rows (d .links) slot)
@@ -269,11 +273,11 @@ module _ (groups t rows : Table) (g slot : ℕ) (good : Good t) (from dead : ℕ
       (λ b. first-through t rows good from slot f PENDING (aside-desk slot PENDING desk-pending))
       (λ b. over-through t rows good from slot f)
 
-  found-through : (e : Found) → Through t rows (crashing.crashedFound groups t rows g from dead e .links) slot
+  found-through : (e : Found) → Through t rows (crashing.crashedFound groups (dying t rows dead) g from e .links) slot
   found-through (found.Entry e) = entry-through e
   found-through found.Nothing = same-through t rows slot good
 
-  crashed-through : Through t rows (crashing.crashedFirst groups t rows g from dead .links) slot
+  crashed-through : Through t rows (crashing.crashedFirst groups (dying t rows dead) g from .links) slot
   unfolding crashing.crashedFirst
   crashed-through = found-through (firstOf t from)
 
@@ -295,7 +299,7 @@ aside-hand slot past =
 module _ (groups t rows : Table) (c : Cursor) (q : ℕ) (l : Losses) (good : Good t) where
   -- where there is no such slot nothing moves
   past-step : (keys : Table) (k n : ℕ) → 128 ≤ slotAt (c .group) k
-      → MailStep groups rows t (crashing.doomedKey groups t rows keys c k n q l .links)
+      → MailStep groups rows t (crashing.doomedKey groups (retiring t rows keys q l) c k n .links)
   unfolding crashing.doomedKey
   past-step keys k n past =
       let slot = slotAt (c .group) k in
@@ -306,21 +310,21 @@ module _ (groups t rows : Table) (c : Cursor) (q : ℕ) (l : Losses) (good : Goo
       (c .group) slot (back .good) (handOf slot) (l .dead) (aside-hand slot past)))
 
   doomed-key-step : (keys : Table) (k n : ℕ)
-      → MailStep groups rows t (crashing.doomedKey groups t rows keys c k n q l .links)
+      → MailStep groups rows t (crashing.doomedKey groups (retiring t rows keys q l) c k n .links)
   doomed-key-step keys k n = slot-rule (slotAt (c .group) k) _ (λ low. there (slot-is (c .group) k low))
       (past-step keys k n)
     where
-      there : Slot (c .group) k → MailStep groups rows t (crashing.doomedKey groups t rows keys c k n q l .links)
+      there : Slot (c .group) k → MailStep groups rows t (crashing.doomedKey groups (retiring t rows keys q l) c k n .links)
       there s = retired (c .group) (slotNumber (c .group) k) (omega (arith, s .group, s .key))
           (retires groups t rows keys c k n q l good (s .group) (s .key))
 
   doomed-front-step : (keys : Table) (left : ℕ) (k : Key)
-      → MailStep groups rows t (crashing.doomedFront groups t rows keys c left q l k .links)
+      → MailStep groups rows t (crashing.doomedFront groups (retiring t rows keys q l) c left k .links)
   doomed-front-step keys left (key.At k) = doomed-key-step (set keys DOOMED (popFront (keysAt keys DOOMED))) k
       (left - 1)
   doomed-front-step keys left key.Nothing = nothing groups rows t good
 
-  doomed-step : (keys : Table) (left : ℕ) → MailStep groups rows t (doomedOf groups t rows keys c left q l .links)
+  doomed-step : (keys : Table) (left : ℕ) → MailStep groups rows t (doomedOf groups (retiring t rows keys q l) c left .links)
   unfolding doomedOf
   doomed-step keys left =
       pick-rule (λ (s : Crashing). MailStep groups rows t (s .links)) (eqb left 0) (λ e. nothing groups rows t good)

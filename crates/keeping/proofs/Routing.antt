@@ -30,6 +30,8 @@ use Rattle.places.proofs.Moves.{desk-inbox, desk-pending, desk-batch, same-keep
 use Rattle.places.proofs.Moves.{over-keeps, to-mailbox}
 use Rattle.places.proofs.Steps.{pick-rule}
 use Rattle.keeping.specs.Keeping.{BetweenSteps}
+use Rattle.group.specs.Roster.{tables}
+use Rattle.routing.specs.Route.{programs}
 
 -- ---- the first turn's spawns
 
@@ -93,8 +95,8 @@ intake-between t q backlog left =
 
 -- a message is over, or delivered, or Boot is asked for it, or none is left
 pub record Routes (t rows : Table) (q left : ℕ) (P : Sent → Type 0) : Type 0 where
-  pub over : (keys actors : Table) → P (to.lostTo (to.undeliverable t rows left) keys actors q)
-  pub sent : (keys actors : Table) (g k : ℕ) → P (to.deliver t keys actors g k q left)
+  pub over : (keys actors : Table) → P (to.lostTo (to.undeliverable t rows left) (tables t keys actors q))
+  pub sent : (keys actors : Table) (g k : ℕ) → P (to.deliver (tables t keys actors q) g k left)
   pub asks : (keys actors : Table) (g : ℕ) → P (record {
     links = t;
     keys = keys;
@@ -102,72 +104,72 @@ pub record Routes (t rows : Table) (q left : ℕ) (P : Sent → Type 0) : Type 0
     routed =
         to.routedTo (at.Asks (asks.RouteBoot g left)) q;
   })
-  pub done : (keys actors : Table) → P (to.clockNext t keys actors q)
+  pub done : (keys actors : Table) → P (to.clockNext (tables t keys actors q))
 
 -- what holds of these four holds of every way through routing
 module _ (t rows : Table) (q left : ℕ) (P : Sent → Type 0) (ways : Routes t rows q left P) where
-  by-key : (keys actors : Table) (g : ℕ) (k : Key) → P (to.deliverKey t rows keys actors g k q left)
+  by-key : (keys actors : Table) (g : ℕ) (k : Key) → P (to.deliverKey rows (tables t keys actors q) g k left)
   unfolding to.deliverKey
   by-key keys actors g (key.At k) = ways .sent keys actors g k
   by-key keys actors g key.Nothing = ways .over keys actors
 
-  by-least : (keys actors : Table) (g : ℕ) → P (to.routeLeast t rows keys actors g q left)
+  by-least : (keys actors : Table) (g : ℕ) → P (to.routeLeast rows (tables t keys actors q) g left)
   unfolding to.routeLeast
   by-least keys actors g = by-key keys actors g (leastOf keys t g)
 
-  by-spawned : (g : ℕ) (keys actors : Table) (k : Key) → P (to.spawnedSent t rows g q left keys actors k)
+  by-spawned : (g : ℕ) (keys actors : Table) (k : Key) → P (to.spawnedSent rows (tables t keys actors q) g left k)
   by-spawned g keys actors (key.At k) = ways .sent keys actors g k
   by-spawned g keys actors key.Nothing = by-least keys actors g
 
-  by-spawn : (keys actors : Table) (g : ℕ) (eval : Bool) → P (to.routeSpawned t rows keys actors g eval q left)
+  by-spawn : (keys actors : Table) (g : ℕ) (eval : Bool) → P (to.routeSpawned rows (tables t keys actors q) g eval left)
   unfolding to.routeSpawned
   by-spawn keys actors g eval = let s = spawnOf keys actors g eval in by-spawned g (s .keys) (s .actors) (s .key)
 
-  by-new : (groups keys actors : Table) (g : ℕ) → P (to.routeNew groups t rows keys actors g q left)
+  by-new : (groups keys actors : Table) (g : ℕ) → P (to.routeNew groups rows (tables t keys actors q) g left)
   unfolding to.routeNew
   by-new groups keys actors g =
       pick-rule P (ltb (liveLen keys g) (groupAt groups g .ceiling))
       (λ e. pick-rule P (groupAt groups g .eval) (λ e. by-spawn keys actors g true) (λ e. ways .asks keys actors g))
       (λ e. by-least keys actors g)
 
-  by-idle : (groups keys actors : Table) (g : ℕ) (k : Key) → P (to.routeIdle groups t rows actors g q left keys k)
+  by-idle : (groups keys actors : Table) (g : ℕ) (k : Key) → P (to.idleElse (tables t keys actors q) g left k (to.routeNew groups rows (tables t keys actors q) g left))
   by-idle groups keys actors g (key.At k) = ways .sent keys actors g k
   by-idle groups keys actors g key.Nothing = by-new groups keys actors g
 
-  by-group : (groups keys actors : Table) (g : ℕ) → P (to.routeTo groups t rows keys actors g q left)
+  by-group : (groups keys actors : Table) (g : ℕ) → P (to.routeTo groups rows (tables t keys actors q) g left)
   unfolding to.routeTo
   by-group groups keys actors g = by-idle groups (popIdleOf keys actors g .keys) actors g (popIdleOf keys actors g
       .key)
 
-  by-named : (groups keys actors : Table) (n : Named) → P (to.routeNamed groups t rows keys actors q left n)
+  by-named : (groups keys actors : Table) (n : Named) → P (to.routeNamed groups rows (tables t keys actors q) left n)
   by-named groups keys actors (named.Group g) = by-group groups keys actors g
   by-named groups keys actors named.Nothing = ways .over keys actors
 
   by-first : (groups : Table) (count : ℕ) (store : List ℕ) (keys actors : Table) (f : Found)
-      → P (to.routeFirst groups count store t rows keys actors q left f)
+      → P (to.routeFirst (programs groups count store) rows (tables t keys actors q) left f)
   unfolding to.routeOne
   by-first groups count store keys actors (found.Entry e) = by-named groups keys actors (groupFor groups store e
       (messageAt rows e .name) count)
   by-first groups count store keys actors found.Nothing = ways .done keys actors
 
   pub route-rule : (groups : Table) (count : ℕ) (store : List ℕ) (keys actors : Table)
-      → P (routeOf groups count store t rows keys actors q left)
+      → P (routeOf (programs groups count store) rows (tables t keys actors q) left)
   unfolding to.routeOf
   route-rule groups count store keys actors =
       pick-rule P (eqb left 0) (λ e. ways .done keys actors) (λ e. by-first groups count store keys actors
       (firstOf t BATCH))
 
-  by-boot : (keys actors : Table) (g : ℕ) (b : Bool) → P (to.routeBooted t rows keys actors g q left b)
+  by-boot : (keys actors : Table) (g : ℕ) (b : Bool) → P (to.routeBooted rows (tables t keys actors q) g left b)
   unfolding to.routeBooted
   by-boot keys actors g true = by-spawn keys actors g false
   by-boot keys actors g false = by-least keys actors g
 
-  by-reply : (keys actors : Table) (g : ℕ) (y : YesIn) → P (to.routeBy t rows keys actors g q left y)
+  by-reply : (keys actors : Table) (g : ℕ) (y : YesIn) → P (to.routeBy rows (tables t keys actors q) g left y)
   by-reply keys actors g yes.Yes = by-boot keys actors g true
   by-reply keys actors g yes.No = by-boot keys actors g false
   by-reply keys actors g yes.Other = ways .asks keys actors g
 
-  pub reply-rule : (keys actors : Table) (g : ℕ) (r : Reply) → P (routeReply t rows keys actors g q left r)
+  pub reply-rule : (keys actors : Table) (g : ℕ) (r : Reply) → P (routeReply rows (tables t keys actors q) g left r)
   unfolding to.routeReply
   reply-rule keys actors g r = by-reply keys actors g (yesIn r)
 
@@ -200,23 +202,22 @@ ways-between t rows q left =
 
 pub route-keeps : (groups : Table) (count : ℕ) (store : List ℕ) (t rows keys actors : Table) (q left : ℕ)
     → Sound t rows q
-    → Keeps t rows (routeOf groups count store t rows keys actors q left .links) rows (routeOf groups count store t
-    rows keys actors q left .routed .queued)
+    → Keeps t rows (routeOf (programs groups count store) rows (tables t keys actors q) left .links) rows (routeOf (programs groups count store) rows (tables t keys actors q) left .routed .queued)
 route-keeps groups count store t rows keys actors q left sound = route-rule t rows q left (SentKeeps t rows)
     (ways-keep t rows q left sound) groups count store keys actors
 
 pub route-between : (groups : Table) (count : ℕ) (store : List ℕ) (t rows keys actors : Table) (q left : ℕ)
-    → BetweenSteps (routeOf groups count store t rows keys actors q left .routed .at)
+    → BetweenSteps (routeOf (programs groups count store) rows (tables t keys actors q) left .routed .at)
 route-between groups count store t rows keys actors q left =
     route-rule t rows q left SentBetween (ways-between t rows q left) groups count store keys actors
 
 pub route-reply-keeps : (t rows keys actors : Table) (g q left : ℕ) (r : Reply) → Sound t rows q
-    → Keeps t rows (routeReply t rows keys actors g q left r .links) rows (routeReply t rows keys actors g q left r
+    → Keeps t rows (routeReply rows (tables t keys actors q) g left r .links) rows (routeReply rows (tables t keys actors q) g left r
     .routed .queued)
 route-reply-keeps t rows keys actors g q left r sound = reply-rule t rows q left (SentKeeps t rows)
     (ways-keep t rows q left sound) keys actors g r
 
 pub route-reply-between : (t rows keys actors : Table) (g q left : ℕ) (r : Reply)
-    → BetweenSteps (routeReply t rows keys actors g q left r .routed .at)
+    → BetweenSteps (routeReply rows (tables t keys actors q) g left r .routed .at)
 route-reply-between t rows keys actors g q left r =
     reply-rule t rows q left SentBetween (ways-between t rows q left) keys actors g r

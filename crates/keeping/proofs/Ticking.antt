@@ -48,10 +48,10 @@ use Rattle.ticking.specs.declared.crash.Losses.{Losses}
 use Rattle.ticking.specs.Ready.{Begun}
 use Rattle.ticking.specs.Waking as waking
 use Rattle.ticking.specs.Waking.{Listed, Waked, wakeOf, wakeNext, pollReply}
-use Rattle.ticking.specs.Ready as readying
+use Rattle.ticking.specs.Ready as starting
 use Rattle.ticking.specs.Ready.{Stepping, Readied, readyOf}
 use Rattle.ticking.specs.Settle as settling
-use Rattle.ticking.specs.Settle.{PENDING, slotOn, stepEnd, settleOf}
+use Rattle.ticking.specs.Settle.{PENDING, stepEnd, settleOf}
 use Rattle.ticking.specs.Crash as crashing
 use Rattle.ticking.specs.Crash.{Dying, Crashing, crashOf, trapReply, trappedReply, doomedOf}
 use Rattle.places.specs.Places.{Sound, Keeps, Desk}
@@ -59,6 +59,10 @@ use Rattle.places.proofs.Moves.{desk-pending, desk-hand, desk-held, then-keeps,
 use Rattle.places.proofs.Moves.{empty-mailbox, over-mailbox, row-keeps}
 use Rattle.places.proofs.Steps.{pick-rule, eval-start-keeps}
 use Rattle.keeping.specs.Keeping.{AskBetween, BetweenSteps, AskOk, AtOk}
+use Rattle.group.specs.Roster.{slotOn, tables, keyed, mailed}
+use Rattle.ticking.specs.Ready.{readying}
+use Rattle.ticking.specs.Crash.{retiring, dying}
+use Rattle.group.specs.At.{whoOf}
 
 -- between the steps of actors nothing is asked of the places
 ask-between-ok : (a : Ask) (t : Table) → AskBetween a → AskOk a t
@@ -91,7 +95,7 @@ wake-between keys n g clock =
     pick-rule ListedBetween (leb n g) (λ e. omega arith) (λ e. pick-rule ListedBetween (leb 8 g) (λ e. omega arith)
     (λ e. omega arith))
 
-one-between : (keys actors : Table) (g k clock left : ℕ) → BetweenSteps (waking.wakeOne keys actors g k clock left .at)
+one-between : (keys actors : Table) (g k clock left : ℕ) → BetweenSteps (waking.wakeOne (keyed keys actors) g k clock left .at)
 unfolding waking.wakeOne
 one-between keys actors g k clock left =
     pick-rule WakedBetween (liveOf keys g k)
@@ -100,25 +104,24 @@ one-between keys actors g k clock left =
     (λ e. omega arith)
 
 first-between : (keys actors : Table) (g clock left : ℕ) (k : Key)
-    → BetweenSteps (waking.wakeFirst keys actors g clock left k .at)
+    → BetweenSteps (waking.wakeFirst (keyed keys actors) g clock left k .at)
 first-between keys actors g clock left (key.At k) =
     one-between (set keys REST (popFront (keysAt keys REST))) actors g k clock (left - 1)
 first-between keys actors g clock left key.Nothing = omega arith
 
-pub wake-next-between : (keys actors : Table) (g clock left : ℕ) → BetweenSteps (wakeNext keys actors g clock left .at)
+pub wake-next-between : (keys actors : Table) (g clock left : ℕ) → BetweenSteps (wakeNext (keyed keys actors) g clock left .at)
 unfolding wakeNext
 wake-next-between keys actors g clock left =
     pick-rule WakedBetween (eqb left 0) (λ e. omega arith) (λ e. first-between keys actors g clock left
     (frontOf (keysAt keys REST)))
 
 poll-between : (keys actors : Table) (g k clock left : ℕ) (n : CountIn)
-    → BetweenSteps (waking.pollBy keys actors g k clock left n .at)
-poll-between keys actors g k clock left (count.Of n) =
-    pick-rule WakedBetween (ltb 0 n) (λ e. omega arith) (λ e. omega arith)
+    → BetweenSteps (waking.pollBy (keyed keys actors) (whoOf g k) clock left n .at)
+poll-between keys actors g k clock left (count.Of n) = omega arith
 poll-between keys actors g k clock left count.Other = omega arith
 
 pub poll-reply-between : (keys actors : Table) (g k clock left : ℕ) (r : Reply)
-    → BetweenSteps (pollReply keys actors g k clock left r .at)
+    → BetweenSteps (pollReply (keyed keys actors) (whoOf g k) clock left r .at)
 unfolding pollReply
 poll-reply-between keys actors g k clock left r = poll-between keys actors g k clock left (countIn r)
 
@@ -136,52 +139,51 @@ live-slot keys g k live = ltb-true (slotAt g k) 128 (test-first (ltb (slotAt g k
 
 -- what holds where no step begins, and of a step that begins, holds of the ready list
 module _ (t : Table) (q : ℕ) (P : Table → Begun → Type 0)
-    (none : (a : At) (stepped : Bool) → BetweenSteps a → P t (readying.begunAt a q stepped))
-    (begins : (actors : Table) (c : Cursor) → slotOn c < 128 → P (readying.beginStep t actors c (slotOn c) q .links)
-    (readying.beginStep t actors c (slotOn c) q .begun)) where
+    (none : (a : At) (stepped : Bool) → BetweenSteps a → P t (starting.begunAt a q stepped))
+    (begins : (actors : Table) (c : Cursor) → slotOn c < 128 → P (starting.beginStep t actors c (slotOn c) q .links)
+    (starting.beginStep t actors c (slotOn c) q .begun)) where
   abbrev Holds : Stepping → Type 0
   Holds s = P (s .links) (s .begun)
 
-  key-rule : (keys actors : Table) (c : Cursor) (stepped : Bool) → Holds (readying.readyKey t keys actors c q stepped)
-  unfolding readying.readyKey
+  key-rule : (keys actors : Table) (c : Cursor) (stepped : Bool) → Holds (starting.readyKey (readying t keys actors q stepped) c)
+  unfolding starting.readyKey
   key-rule keys actors c stepped =
       pick-rule Holds (liveOf keys (c .group) (c .key))
-      (λ live. pick-rule Holds (readying.restsOf (actorAt actors (slotOn c)) (lenOf t (mailboxOf (slotOn c))))
+      (λ live. pick-rule Holds (starting.restsOf (actorAt actors (slotOn c)) (lenOf t (mailboxOf (slotOn c))))
       (λ e. none (readyAfter c) stepped (omega arith))
-      (λ e. begins (readying.unscheduled actors (slotOn c)) c (live-slot keys (c .group) (c .key) live)))
+      (λ e. begins (starting.unscheduled actors (slotOn c)) c (live-slot keys (c .group) (c .key) live)))
       (λ e. none (readyAfter c) stepped (omega arith))
 
   front-rule : (keys actors : Table) (stepped : Bool) (g clock pops : ℕ) (k : Key)
-      → P (readying.readyFront t keys actors q stepped g clock pops k .links) (readying.readyFront t keys actors q
-      stepped g clock pops k .begun)
-  front-rule keys actors stepped g clock pops (key.At k) = key-rule (readying.popReady keys g) actors
-      (readying.cursorAt g k clock (pops - 1)) stepped
+      → P (starting.readyFront (readying t keys actors q stepped) g clock pops k .links) (starting.readyFront (readying t keys actors q stepped) g clock pops k .begun)
+  front-rule keys actors stepped g clock pops (key.At k) = key-rule (starting.popReady keys g) actors
+      (starting.cursorAt g k clock (pops - 1)) stepped
   front-rule keys actors stepped g clock pops key.Nothing = none _ stepped (omega arith)
 
   pub ready-rule : (keys actors : Table) (stepped : Bool) (g clock pops : ℕ)
-      → P (readyOf t keys actors q stepped g clock pops .links) (readyOf t keys actors q stepped g clock pops .begun)
+      → P (readyOf (readying t keys actors q stepped) g clock pops .links) (readyOf (readying t keys actors q stepped) g clock pops .begun)
   unfolding readyOf
   ready-rule keys actors stepped g clock pops =
       pick-rule (λ (s : Readied). P (s .links) (s .begun)) (eqb pops 0) (λ e. none _ stepped (omega arith))
       (λ e. front-rule keys actors stepped g clock pops (frontOf (keysAt keys (readyRow g))))
 
 begin-by-keeps : (t rows actors : Table) (c : Cursor) (slot q : ℕ) → Sound t rows q → slot < 128 → (m : Mode)
-    → Keeps t rows (readying.beginBy t actors c slot q m .links) rows (readying.beginBy t actors c slot q m .begun
+    → Keeps t rows (starting.beginBy (mailed t q) actors c slot m .links) rows (starting.beginBy (mailed t q) actors c slot m .begun
     .queued)
-unfolding readying.beginEval
+unfolding starting.beginEval
 begin-by-keeps t rows actors c slot q sound slot-is mode.Fixed = same-keeps t rows q sound
 begin-by-keeps t rows actors c slot q sound slot-is mode.Eval = eval-start-keeps t rows actors q slot sound slot-is
 
 begin-keeps : (t rows actors : Table) (c : Cursor) (slot q : ℕ) → Sound t rows q → slot < 128
-    → Keeps t rows (readying.beginStep t actors c slot q .links) rows (readying.beginStep t actors c slot q .begun
+    → Keeps t rows (starting.beginStep t actors c slot q .links) rows (starting.beginStep t actors c slot q .begun
     .queued)
-unfolding readying.beginStep
+unfolding starting.beginStep
 begin-keeps t rows actors c slot q sound slot-is =
     begin-by-keeps t rows (putActor actors slot (beganStep (actorAt actors slot))) c slot q sound slot-is
     (actorAt actors slot .mode)
 
 pub ready-keeps : (t rows keys actors : Table) (q : ℕ) (b : Bool) (g clock pops : ℕ) → Sound t rows q
-    → Keeps t rows (readyOf t keys actors q b g clock pops .links) rows (readyOf t keys actors q b g clock pops .begun
+    → Keeps t rows (readyOf (readying t keys actors q b) g clock pops .links) rows (readyOf (readying t keys actors q b) g clock pops .begun
     .queued)
 ready-keeps t rows keys actors q b g clock pops sound =
     ready-rule t q (λ (r : Table) (s : Begun). Keeps t rows r rows (s .queued))
@@ -190,8 +192,8 @@ ready-keeps t rows keys actors q b g clock pops sound =
 
 module _ (t : Table) (c : Cursor) (slot-is : slotOn c < 128) where
   -- a step of a fixed actor begins at Run
-  fixed-ok : (actors : Table) (slot : ℕ) → AtOk (readying.beginFixed actors c slot .at) t
-  unfolding readying.beginFixed fixedStart
+  fixed-ok : (actors : Table) (slot : ℕ) → AtOk (starting.beginFixed actors c slot .at) t
+  unfolding starting.beginFixed fixedStart
   fixed-ok actors slot = pick-rule (λ (a : FixedAsk). AskOk (asks.Fixed c a) t) (actorAt actors slot .started)
       (λ e. (slot-is, omega arith)) (λ e. (slot-is, omega arith))
 
@@ -200,20 +202,20 @@ module _ (t : Table) (c : Cursor) (slot-is : slotOn c < 128) where
   eval-ok (eval.Ended p) = omega arith
 
 begin-by-ok : (t actors : Table) (c : Cursor) (slot q : ℕ) → slotOn c < 128 → (m : Mode)
-    → AtOk (readying.beginBy t actors c slot q m .begun .at) (readying.beginBy t actors c slot q m .links)
-unfolding readying.beginEval
+    → AtOk (starting.beginBy (mailed t q) actors c slot m .begun .at) (starting.beginBy (mailed t q) actors c slot m .links)
+unfolding starting.beginEval
 begin-by-ok t actors c slot q slot-is mode.Fixed = fixed-ok t c slot-is actors slot
 begin-by-ok t actors c slot q slot-is mode.Eval = eval-ok (evalStart t actors slot q .links) c slot-is
     (evalStart t actors slot q .step .next)
 
 begin-ok : (t actors : Table) (c : Cursor) (slot q : ℕ) → slotOn c < 128
-    → AtOk (readying.beginStep t actors c slot q .begun .at) (readying.beginStep t actors c slot q .links)
-unfolding readying.beginStep
+    → AtOk (starting.beginStep t actors c slot q .begun .at) (starting.beginStep t actors c slot q .links)
+unfolding starting.beginStep
 begin-ok t actors c slot q slot-is = begin-by-ok t (putActor actors slot (beganStep (actorAt actors slot))) c slot q
     slot-is (actorAt actors slot .mode)
 
 pub ready-ok : (t keys actors : Table) (q : ℕ) (b : Bool) (g clock pops : ℕ)
-    → AtOk (readyOf t keys actors q b g clock pops .begun .at) (readyOf t keys actors q b g clock pops .links)
+    → AtOk (readyOf (readying t keys actors q b) g clock pops .begun .at) (readyOf (readying t keys actors q b) g clock pops .links)
 ready-ok t keys actors q b g clock pops =
     ready-rule t q (λ (r : Table) (s : Begun). AtOk (s .at) r) (λ a stepped between. between-ok a t between)
     (λ l c slot-is. begin-ok t l c (slotOn c) q slot-is)
@@ -232,21 +234,21 @@ let-go-keeps t rows slot true q sound = empty-mailbox t rows q sound slot PENDIN
 let-go-keeps t rows slot false q sound = over-mailbox t rows q sound slot (lenOf t (mailboxOf slot))
 
 release-keeps : (t rows keys actors : Table) (c : Cursor) (q : ℕ) → Sound t rows q
-    → Keeps t rows (settling.releaseOf t rows keys actors c q .links) rows (settling.releaseOf t rows keys actors c q
+    → Keeps t rows (settling.releaseOf rows (tables t keys actors q) c .links) rows (settling.releaseOf rows (tables t keys actors q) c
     .queued)
 unfolding settling.releaseOf
 release-keeps t rows keys actors c q sound = let-go-keeps t rows (slotOn c) (actorAt actors (slotOn c) .consumed) q
     sound
 
 pub settle-keeps : (t rows keys actors : Table) (c : Cursor) (s : Step) (q : ℕ) → Sound t rows q
-    → Keeps t rows (settleOf t rows keys actors c s q .links) rows (settleOf t rows keys actors c s q .settled .queued)
+    → Keeps t rows (settleOf rows (tables t keys actors q) c s .links) rows (settleOf rows (tables t keys actors q) c s .settled .queued)
 unfolding settleOf
 settle-keeps t rows keys actors c step.Done q sound = release-keeps t rows keys actors c q sound
 settle-keeps t rows keys actors c (step.Parked p) q sound = same-keeps t rows q sound
 settle-keeps t rows keys actors c step.Failed q sound = release-keeps t rows keys actors c q sound
 
 pub settle-ok : (r t rows keys actors : Table) (c : Cursor) (s : Step) (q : ℕ)
-    → AtOk (settleOf t rows keys actors c s q .settled .at) r
+    → AtOk (settleOf rows (tables t keys actors q) c s .settled .at) r
 unfolding settleOf
 settle-ok r t rows keys actors c step.Done q = omega arith
 settle-ok r t rows keys actors c (step.Parked p) q = omega arith
@@ -263,7 +265,7 @@ abbrev DyingKeeps : Table → Table → ℕ → Dying → Type 0
 DyingKeeps t rows q d = Keeps t rows (d .links) (d .rows) q
 
 module _ (groups t rows : Table) (g q : ℕ) (sound : Sound t rows q) where
-  entry-keeps : (from e dead : ℕ) → Desk from → DyingKeeps t rows q (crashing.crashedEntry groups t rows g from e dead)
+  entry-keeps : (from e dead : ℕ) → Desk from → DyingKeeps t rows q (crashing.crashedEntry groups (dying t rows dead) g from e)
   unfolding crashing.crashedEntry
   entry-keeps from e dead desk =
       let again = move-keeps t rows q sound from PENDING desk desk-pending in
@@ -272,25 +274,24 @@ module _ (groups t rows : Table) (g q : ℕ) (sound : Sound t rows q) where
       refl))
       (λ b. over-keeps t rows q sound from desk)
 
-  found-keeps : (from dead : ℕ) → Desk from → (f : Found) → DyingKeeps t rows q (crashing.crashedFound groups t rows g
-      from dead f)
+  found-keeps : (from dead : ℕ) → Desk from → (f : Found) → DyingKeeps t rows q (crashing.crashedFound groups (dying t rows dead) g from f)
   found-keeps from dead desk (found.Entry e) = entry-keeps from e dead desk
   found-keeps from dead desk found.Nothing = same-keeps t rows q sound
 
-  first-keeps : (from dead : ℕ) → Desk from → DyingKeeps t rows q (crashing.crashedFirst groups t rows g from dead)
+  first-keeps : (from dead : ℕ) → Desk from → DyingKeeps t rows q (crashing.crashedFirst groups (dying t rows dead) g from)
   unfolding crashing.crashedFirst
   first-keeps from dead desk = found-keeps from dead desk (firstOf t from)
 
   -- where there is no such list nothing crashed
-  past-keeps : (from dead : ℕ) → LISTS ≤ from → DyingKeeps t rows q (crashing.crashedFirst groups t rows g from dead)
+  past-keeps : (from dead : ℕ) → LISTS ≤ from → DyingKeeps t rows q (crashing.crashedFirst groups (dying t rows dead) g from)
   unfolding crashing.crashedFirst
   past-keeps from dead past = rw (eq-eqb (lenOf t from) 0 (len-past t from (omega (arith, sound .good .sized))))
       (same-keeps t rows q sound)
 
-  held-keeps : (slot dead : ℕ) → DyingKeeps t rows q (crashing.crashedFirst groups t rows g (handOf slot) dead)
+  held-keeps : (slot dead : ℕ) → DyingKeeps t rows q (crashing.crashedFirst groups (dying t rows dead) g (handOf slot))
   held-keeps slot dead = go (decLt slot 128)
     where
-      go : Dec (slot < 128) → DyingKeeps t rows q (crashing.crashedFirst groups t rows g (handOf slot) dead)
+      go : Dec (slot < 128) → DyingKeeps t rows q (crashing.crashedFirst groups (dying t rows dead) g (handOf slot))
       go (yes p) = first-keeps (handOf slot) dead (desk-held slot p)
       go (no p) = past-keeps (handOf slot) dead (no-hand slot p)
 
@@ -335,33 +336,32 @@ CrashingKeeps t rows s = Keeps t rows (s .links) (s .rows) (s .crashed .queued)
 
 module _ (groups t rows keys : Table) (c : Cursor) (left q : ℕ) (l : Losses) where
   doomed-key-keeps : (names : Table) (k n : ℕ) → Sound t rows q
-      → CrashingKeeps t rows (crashing.doomedKey groups t rows names c k n q l)
+      → CrashingKeeps t rows (crashing.doomedKey groups (retiring t rows names q l) c k n)
   unfolding crashing.doomedKey
   doomed-key-keeps names k n sound =
       let back = empty-mailbox t rows q sound (slotAt (c .group) k) PENDING desk-pending in
       then-keeps back (held-keeps groups (crashing.mailBack t (slotAt (c .group) k)) rows (c .group) _ (back .sound)
       (slotAt (c .group) k) (l .dead))
 
-  doomed-front-keeps : Sound t rows q → (k : Key) → CrashingKeeps t rows (crashing.doomedFront groups t rows keys c
-      left q l k)
+  doomed-front-keeps : Sound t rows q → (k : Key) → CrashingKeeps t rows (crashing.doomedFront groups (retiring t rows keys q l) c left k)
   doomed-front-keeps sound (key.At k) = doomed-key-keeps (set keys DOOMED (popFront (keysAt keys DOOMED))) k (left - 1)
       sound
   doomed-front-keeps sound key.Nothing = same-keeps t rows q sound
 
   pub doomed-keeps : Sound t rows q
-      → Keeps t rows (doomedOf groups t rows keys c left q l .links) (doomedOf groups t rows keys c left q l .rows)
-      (doomedOf groups t rows keys c left q l .crashed .queued)
+      → Keeps t rows (doomedOf groups (retiring t rows keys q l) c left .links) (doomedOf groups (retiring t rows keys q l) c left .rows)
+      (doomedOf groups (retiring t rows keys q l) c left .crashed .queued)
   unfolding doomedOf
   doomed-keeps sound =
       pick-rule (CrashingKeeps t rows) (eqb left 0) (λ e. same-keeps t rows q sound) (λ e. doomed-front-keeps sound
       (frontOf (keysAt keys DOOMED)))
 
-  doomed-front-between : (k : Key) → BetweenSteps (crashing.doomedFront groups t rows keys c left q l k .crashed .at)
+  doomed-front-between : (k : Key) → BetweenSteps (crashing.doomedFront groups (retiring t rows keys q l) c left k .crashed .at)
   unfolding crashing.doomedKey
   doomed-front-between (key.At k) = omega arith
   doomed-front-between key.Nothing = omega arith
 
-  pub doomed-between : BetweenSteps (doomedOf groups t rows keys c left q l .crashed .at)
+  pub doomed-between : BetweenSteps (doomedOf groups (retiring t rows keys q l) c left .crashed .at)
   unfolding doomedOf
   doomed-between = pick-rule (λ (s : Crashing). BetweenSteps (s .crashed .at)) (eqb left 0) (λ e. omega arith)
       (λ e. doomed-front-between (frontOf (keysAt keys DOOMED)))

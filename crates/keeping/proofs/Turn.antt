@@ -30,6 +30,7 @@ use Rattle.keeping.specs.Keeping.{BetweenSteps, AskOk, AtOk}
 use Rattle.keeping.proofs.Routing.{seed-between, seed-reply-between, intake-keeps, intake-between, route-keeps}
 use Rattle.keeping.proofs.Routing.{route-between, route-reply-keeps, route-reply-between}
 use Rattle.keeping.proofs.Ticking as tick
+use Rattle.steps.specs.Steps.{stepTables}
 
 -- the messages of a state are sound, with what its counts say is queued
 abbrev pub StateSound : State → Type 0
@@ -154,7 +155,7 @@ resume-keeps s (asks.Fixed c a) r sound (slot-is, full) =
     slot-is a full r)
 resume-keeps s (asks.Eval c a) r sound slot-is =
     eval-resumes c slot-is s
-    (stepEval (s .links) (s .rows) (s .actors) (slotAt (c .group) (c .key)) (limitOf s c) a r)
+    (stepEval (stepTables (s .links) (s .rows) (s .actors)) (slotAt (c .group) (c .key)) (limitOf s c) a r)
     (eval-keeps (s .links) (s .rows) (s .actors) (s .pool .turn .counts .queued) (slotAt (c .group) (c .key)) sound
     slot-is (limitOf s c) a r)
 resume-keeps s (asks.Sends c step) r sound ok =

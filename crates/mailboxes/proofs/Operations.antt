@@ -31,6 +31,7 @@ use Rattle.mailboxes.specs.Operations.{retries, triedAgain, notTried, Re
 use Rattle.mailboxes.proofs.Chained.{good-chained}
 use Rattle.mailboxes.proofs.Moves.{operated, pair-to, put-at-end, put-at-front, take-first, empty-out}
 use Rattle.mailboxes.proofs.Unread.{unread}
+use Rattle.ticking.specs.Crash.{dying}
 
 -- the slot of an actor
 pub low-slot : (g k : ℕ) → g < 8 → k < 16 → slotAt g k ≡ slotNumber g k
@@ -197,18 +198,18 @@ module _ (groups rows t : Table) (good : Good t) (g slot : ℕ) (low : slot < 12
         by (logged.As id) q = over-retired p (rw q)
         by logged.Never q = free-retired p (rw q)
 
-    first-retired : (dead : ℕ) → Retired groups rows g slot t (crashing.crashedEntry groups back rows g hand e dead
+    first-retired : (dead : ℕ) → Retired groups rows g slot t (crashing.crashedEntry groups (dying back rows dead) g hand e
         .links)
     unfolding crashing.crashedEntry
     first-retired dead = by (retries groups rows g e) refl
       where
         by : (b : Bool) → retries groups rows g e ≡ b
-            → Retired groups rows g slot t (crashing.crashedEntry groups back rows g hand e dead .links)
+            → Retired groups rows g slot t (crashing.crashedEntry groups (dying back rows dead) g hand e .links)
         by true p = rw p (again-retired p)
         by false p = rw p (done-retired p)
 
   hand-retired : (dead : ℕ) (es : List ℕ) → view t hand ≡ es
-      → Retired groups rows g slot t (crashing.crashedFound groups back rows g hand dead (firstIn es) .links)
+      → Retired groups rows g slot t (crashing.crashedFound groups (dying back rows dead) g hand (firstIn es) .links)
   hand-retired dead [] is = none-retired is
   hand-retired dead (e ∷ es) is = first-retired e es is dead
 

@@ -21,6 +21,8 @@ use Rattle.routing.specs.Intake.{BATCH}
 use Rattle.routing.specs.Route.{deliver}
 use Rattle.ticking.specs.Settle.{PENDING, releaseOf}
 use Rattle.mailboxes.specs.Mailboxes.{mailbox, mailList}
+use Rattle.group.specs.Roster.{tables}
+use Rattle.steps.specs.Steps.{stepTables}
 
 -- a list has these entries, or ids, in this order
 abbrev has : List ℕ → List ℕ → Bool
@@ -53,16 +55,16 @@ waiting =
     (PENDING ∷ PENDING ∷ BATCH ∷ PENDING ∷ mail ∷ PENDING ∷ PENDING ∷ PENDING ∷ PENDING ∷ mail ∷ [])
 
 unfoldable pub delivered : Table
-delivered = deliver waiting [] fresh 0 0 2 1 .links
+delivered = deliver (tables waiting [] fresh 2) 0 0 1 .links
 
 unfoldable pub taken : Table
 taken = takeMail delivered fresh 0 3 .links
 
 unfoldable pub pushedBack : Table
-pushedBack = stepFixed taken [] fresh 0 2 ask.Push reply.No .links
+pushedBack = stepFixed (stepTables taken [] fresh) 0 2 ask.Push reply.No .links
 
 unfoldable pub sentBack : Table
-sentBack = releaseOf taken [] [] took cursor 2 .links
+sentBack = releaseOf [] (tables taken [] took 2) cursor .links
 
 -- ---- 7 goes to the front of an empty mailbox, then 8 to its end
 
@@ -72,10 +74,10 @@ inHand =
     (PENDING ∷ PENDING ∷ PENDING ∷ PENDING ∷ PENDING ∷ PENDING ∷ PENDING ∷ HAND ∷ BATCH ∷ [])
 
 unfoldable pub frontOfNone : Table
-frontOfNone = stepFixed inHand [] fresh 0 0 ask.Push reply.No .links
+frontOfNone = stepFixed (stepTables inHand [] fresh) 0 0 ask.Push reply.No .links
 
 unfoldable pub thenEnd : Table
-thenEnd = deliver frontOfNone [] fresh 0 0 1 1 .links
+thenEnd = deliver (tables frontOfNone [] fresh 1) 0 0 1 .links
 
 -- ---- three messages with the log ids 5, none and 6, which the actor never took
 
@@ -86,7 +88,7 @@ abbrev rows : Table
 rows = row (logged.As (record { 0 = 5 })) ∷ row logged.Never ∷ row (logged.As (record { 0 = 6 })) ∷ []
 
 unfoldable pub unread : Table
-unread = releaseOf (dealt (startFrom 0 LISTS) (mail ∷ mail ∷ mail ∷ [])) rows [] fresh cursor 3 .links
+unread = releaseOf rows (tables (dealt (startFrom 0 LISTS) (mail ∷ mail ∷ mail ∷ [])) [] fresh 3) cursor .links
 
 unfoldable pub idsOver : List ℕ
 idsOver = map (λ (e : ℕ). loggedNumber (messageAt rows e .id)) (view unread OVER)

@@ -23,10 +23,13 @@ use Rattle.group.specs.Settings.{groupAt}
 use Rattle.routing.specs.Intake.{BATCH}
 use Rattle.routing.specs.Route.{deliver}
 use Rattle.ticking.specs.declared.crash.Losses.{Losses}
-use Rattle.ticking.specs.Settle.{PENDING, slotOn, releaseOf}
+use Rattle.ticking.specs.Settle.{PENDING, releaseOf}
 use Rattle.ticking.specs.Crash.{doomedKey}
 use Rattle.mailboxes.specs.Mailboxes.{mailList, mailbox, Chained, putAtEnd, putAtFront, takeFirst, emptyOut}
 use Rattle.mailboxes.specs.Mailboxes.{Operated, loggedIn, unloggedIn, Unread}
+use Rattle.group.specs.Roster.{slotOn, tables}
+use Rattle.ticking.specs.Crash.{retiring}
+use Rattle.steps.specs.Steps.{stepTables}
 
 -- the slot of the actor of key k in group g, and the list that is its hand
 abbrev pub slotNumber : ℕ → ℕ → ℕ
@@ -39,13 +42,13 @@ handList slot = 7 + 2 * slot
 abbrev pub Delivers : Type 0
 Delivers =
     (t keys actors : Table) (g k queued left : ℕ) → Good t → g < 8 → k < 16
-    → Operated putAtEnd (slotNumber g k) BATCH t (deliver t keys actors g k queued left .links)
+    → Operated putAtEnd (slotNumber g k) BATCH t (deliver (tables t keys actors queued) g k left .links)
 
 -- Push is answered no: the message in the step's hand is the first of the mailbox again
 abbrev pub PushesBack : Type 0
 PushesBack =
     (t rows actors : Table) (slot queued : ℕ) → Good t → slot < 128
-    → Operated putAtFront slot HAND t (stepFixed t rows actors slot queued ask.Push reply.No .links)
+    → Operated putAtFront slot HAND t (stepFixed (stepTables t rows actors) slot queued ask.Push reply.No .links)
 
 -- a step takes the first message of the mailbox, if there is one, into its hand
 abbrev pub Takes : Type 0
@@ -58,14 +61,14 @@ abbrev pub SendsBack : Type 0
 SendsBack =
     (t rows keys actors : Table) (c : Cursor) (queued : ℕ) → Good t → c .group < 8 → c .key < 16
     → actorAt actors (slotOn c) .consumed ≡ true
-    → Operated emptyOut (slotNumber (c .group) (c .key)) PENDING t (releaseOf t rows keys actors c queued .links)
+    → Operated emptyOut (slotNumber (c .group) (c .key)) PENDING t (releaseOf rows (tables t keys actors queued) c .links)
 
 -- one that never took a message does: its mailbox is emptied unread
 abbrev pub DropsUnread : Type 0
 DropsUnread =
     (t rows keys actors : Table) (c : Cursor) (queued : ℕ) → Good t → c .group < 8 → c .key < 16
     → actorAt actors (slotOn c) .consumed ≡ false
-    → Unread rows (slotNumber (c .group) (c .key)) t (releaseOf t rows keys actors c queued .links)
+    → Unread rows (slotNumber (c .group) (c .key)) t (releaseOf rows (tables t keys actors queued) c .links)
 
 -- ---- a trapped actor is retired
 
@@ -99,4 +102,4 @@ abbrev pub Retires : Type 0
 Retires =
     (groups t rows keys : Table) (c : Cursor) (k left queued : ℕ) (l : Losses) → Good t → c .group < 8 → k < 16
     → Retired groups rows (c .group) (slotNumber (c .group) k) t
-    (doomedKey groups t rows keys c k left queued l .links)
+    (doomedKey groups (retiring t rows keys queued l) c k left .links)

@@ -39,6 +39,7 @@ use Rattle.places.specs.Places.{Sound, Keeps, HandFull, NextFull}
 use Rattle.places.proofs.Through.{Through, same-through, then-through, through-desk, desk-move, desk-over}
 use Rattle.places.proofs.Moves.{desk-hand, desk-held, same-keeps, over-keeps, take-keeps, take-fills}
 use Rattle.places.proofs.Moves.{back-keeps}
+use Rattle.steps.specs.Steps.{stepTables}
 
 -- what a transition of a fixed actor keeps
 pub record FixedKeeps (t rows : Table) (s : FixedBoth) : Type 0 where
@@ -83,17 +84,17 @@ module _ (t rows : Table) (slot : ℕ) (good : Good t) (low : slot < 128) where
 
 module _ (t rows l : Table) (slot : ℕ) (good : Good t) where
   -- the message of the step's hand is over; its caller, where there is one, is told first
-  over-eval : EvalThrough t rows (two.evalOver t rows l slot)
+  over-eval : EvalThrough t rows (two.evalOver (stepTables t rows l) slot)
   unfolding two.evalOver
   over-eval =
       let over = desk-over t rows good HAND desk-hand in
       pick-rule (EvalThrough t rows) (eqb (lenOf (overFirst t rows HAND) (mailboxOf slot)) 0) (λ e. over) (λ e. over)
 
-  tell-eval : (o : Outcome) → EvalThrough t rows (two.evalTell t rows l slot o)
+  tell-eval : (o : Outcome) → EvalThrough t rows (two.evalTell (stepTables t rows l) slot o)
   unfolding two.evalTell
   tell-eval o = go (callerFirst rows (firstOf t HAND))
     where
-      go : (c : Caller) → EvalThrough t rows (two.evalTold t rows l slot o c)
+      go : (c : Caller) → EvalThrough t rows (two.evalTold (stepTables t rows l) slot o c)
       go (caller.From id) = same-through t rows 128 good
       go caller.Nobody = over-eval
 
@@ -103,18 +104,18 @@ module _ (t rows l : Table) (slot : ℕ) (good : Good t) (low : slot < 128) wher
   quiet = same-through t rows 128 good
 
   -- the run ends
-  finish-eval : (o : Outcome) → EvalThrough t rows (two.evalFinish t rows l slot o)
+  finish-eval : (o : Outcome) → EvalThrough t rows (two.evalFinish (stepTables t rows l) slot o)
   unfolding two.evalFinish
   finish-eval o =
       let held = held-to-hand t rows slot good low in
       then-through held (tell-eval (moveFirst t (handOf slot) HAND) rows _ slot (held .good) o)
 
-  clocked-eval : (c : ℕ) → EvalThrough t rows (two.evalClocked t rows l slot c)
+  clocked-eval : (c : ℕ) → EvalThrough t rows (two.evalClocked (stepTables t rows l) slot c)
   unfolding two.evalClocked
   clocked-eval c = pick-rule (EvalThrough t rows) (leb (deadlineOf (actorAt l slot .run)) c)
       (λ e. finish-eval outcome.Late) (λ e. quiet)
 
-  ran-eval : (s : Status) → EvalThrough t rows (two.evalRan t rows l slot s)
+  ran-eval : (s : Status) → EvalThrough t rows (two.evalRan (stepTables t rows l) slot s)
   unfolding two.evalRan
   ran-eval status.Done = finish-eval outcome.Ran
   ran-eval status.Exit = finish-eval outcome.Ran
@@ -124,15 +125,15 @@ module _ (t rows l : Table) (slot : ℕ) (good : Good t) (low : slot < 128) wher
   ran-eval status.Error = finish-eval outcome.Raised
   ran-eval status.Broke = finish-eval outcome.Broke
 
-  dispatched-eval : (n : ℕ) → EvalThrough t rows (two.evalDispatched t rows l slot n)
+  dispatched-eval : (n : ℕ) → EvalThrough t rows (two.evalDispatched (stepTables t rows l) slot n)
   unfolding two.evalDispatched
   dispatched-eval n = pick-rule (EvalThrough t rows) (ltb 0 n) (λ e. quiet) (λ e. finish-eval outcome.StuckHostCall)
 
-  by-clock : (r : ClockIn) → EvalThrough t rows (two.clockBy t rows l slot r)
+  by-clock : (r : ClockIn) → EvalThrough t rows (two.clockBy (stepTables t rows l) slot r)
   by-clock (clock.Of ns) = clocked-eval ns
   by-clock clock.Other = quiet
 
-  by-boot : (r : YesIn) → EvalThrough t rows (two.bootBy t rows l slot r)
+  by-boot : (r : YesIn) → EvalThrough t rows (two.bootBy (stepTables t rows l) slot r)
   unfolding two.evalBooted
   by-boot yes.Yes = quiet
   by-boot yes.No = tell-eval t rows l slot good outcome.Unbooted
@@ -143,15 +144,15 @@ module _ (t rows l : Table) (slot : ℕ) (good : Good t) (low : slot < 128) wher
   by-start limit (clock.Of ns) = hand-to-held t rows slot good low
   by-start limit clock.Other = quiet
 
-  by-ran : (start : Bool) (r : RanIn) → EvalThrough t rows (two.runBy t rows l slot start r)
+  by-ran : (start : Bool) (r : RanIn) → EvalThrough t rows (two.runBy (stepTables t rows l) slot start r)
   by-ran start (ran.Of s) = ran-eval s
   by-ran start ran.Other = quiet
 
-  by-dispatched : (r : CountIn) → EvalThrough t rows (two.dispatchBy t rows l slot r)
+  by-dispatched : (r : CountIn) → EvalThrough t rows (two.dispatchBy (stepTables t rows l) slot r)
   by-dispatched (count.Of n) = dispatched-eval n
   by-dispatched count.Other = quiet
 
-  pub eval-through : (limit : Limit) (a : EvalAsk) (r : Reply) → EvalThrough t rows (stepEval t rows l slot limit a r)
+  pub eval-through : (limit : Limit) (a : EvalAsk) (r : Reply) → EvalThrough t rows (stepEval (stepTables t rows l) slot limit a r)
   unfolding two.stepEval two.clockReply two.bootReply two.startReply two.runReply two.dispatchReply two.tellReply
   eval-through limit eval.Clock r = by-clock (clockIn r)
   eval-through limit eval.Boot r = by-boot (yesIn r)
@@ -231,7 +232,7 @@ module _ (t rows l : Table) (q slot : ℕ) (sound : Sound t rows q) (slot-is : s
   by-dispatch (count.Of n) = dispatched-keeps n
   by-dispatch count.Other = record { keeps = same; full = omega arith }
 
-  pub fixed-keeps : (a : FixedAsk) → HandFull a t → (r : Reply) → FixedKeeps t rows (stepFixed t rows l slot q a r)
+  pub fixed-keeps : (a : FixedAsk) → HandFull a t → (r : Reply) → FixedKeeps t rows (stepFixed (stepTables t rows l) slot q a r)
   unfolding one.stepFixed one.runReply one.drainReply one.pushReply one.dispatchReply
   fixed-keeps (fixed.Run start) full r = by-run start (ranIn r)
   fixed-keeps fixed.Drain full r = by-drain (countIn r)
@@ -248,6 +249,6 @@ module _ (t rows l : Table) (q slot : ℕ) (sound : Sound t rows q) (slot-is : s
       (λ e. mail-rule t l slot q (λ (m : MailTaken). Keeps t rows (m .links) rows (m .mail .queued)) same
       (λ some. take-keeps t rows q sound slot slot-is some))
 
-  pub eval-keeps : (limit : Limit) (a : EvalAsk) (r : Reply) → Keeps t rows (stepEval t rows l slot limit a r .links)
+  pub eval-keeps : (limit : Limit) (a : EvalAsk) (r : Reply) → Keeps t rows (stepEval (stepTables t rows l) slot limit a r .links)
       rows q
   eval-keeps limit a r = quiet-keeps (eval-through t rows l slot (sound .good) slot-is limit a r)

@@ -23,7 +23,7 @@ use Rattle.turn.specs.State.{State}
 use Rattle.front.specs.Answers.{Did}
 use Rattle.door.specs.Open.{openOf}
 use Rattle.rail.specs.Rail.{callOf, accepted}
-use Rattle.replay.specs.Entry.{pourMessage, pourLog, pourTables, pourStore, pourEntry}
+use Rattle.replay.specs.Entry.{ShownTables, pourMessage, pourLog, pourTables, pourStore, pourEntry}
 use Rattle.replay.specs.Replay.{heard, Calls, ended, malformed, next, callsAt, Played, played, stopped}
 use Rattle.replay.specs.Replay.{coded, play, blank, placed, playOpened, playFrom, playHeaded}
 use Rattle.replay.specs.Replay.{playScript, replayed, counted, replayOf}
@@ -149,13 +149,13 @@ module _ (a : ℕ) where
   unfolding pourLog
   log-from show d bytes size h = pick-rule From (ltb show 1) h (pour-from d _ h)
 
-  pub tables-from : (show : ℕ) (d : Poured) (records groups links rows keys actors : Table) → From d
-      → From (pourTables show d records groups links rows keys actors)
+  pub tables-from : (show : ℕ) (d : Poured) (x : ShownTables) → From d → From (pourTables show d x)
   unfolding pourTables
-  tables-from show d records groups links rows keys actors h =
+  tables-from show d x h =
       pick-rule From (ltb show 2) h
-      (rows-from _ actors
-      (keys-from _ keys (rows-from _ rows (rows-from _ links (rows-from _ groups (rows-from d records h))))))
+      (rows-from _ (x .actors)
+      (keys-from _ (x .keys)
+      (rows-from _ (x .rows) (rows-from _ (x .links) (rows-from _ (x .groups) (rows-from d (x .records) h))))))
 
   pub store-from : (show : ℕ) (d : Poured) (store : List ℕ) → From d → From (pourStore show d store)
   unfolding pourStore
@@ -164,7 +164,7 @@ module _ (a : ℕ) where
   pub entry-from : (show : ℕ) (d : Poured) (did : Did) → From d → From (pourEntry show d did)
   unfolding pourEntry
   entry-from show d did h =
-      store-from show _ _ (tables-from show _ _ _ _ _ _ _
+      store-from show _ _ (tables-from show _ _
       (log-from show _ _ _ (message-from _ _ _ _ (pour-from d _ h))))
 
   pub coded-from : (d : Poured) (n : ℕ) → From d → From (coded d n)

@@ -41,11 +41,34 @@ pourMessage d (Entry e) rows store = pourPart d (partOf rows (Entry e)) store
 unfoldable pub pourLog : ℕ → Poured → List ℕ → ℕ → Poured
 pourLog show d bytes size = pick (ltb show 1) d (pour d (take size bytes))
 
--- from show 2 on: open records, groups, links, messages, lists of keys, actors
-unfoldable pub pourTables : ℕ → Poured → Table → Table → Table → Table → Table → Table → Poured
-pourTables show d records groups links rows keys actors =
+-- the tables that can be shown: open records, groups, links, messages, lists of keys, actors
+pub record ShownTables : Type 0 where
+  pub records : Table
+  pub groups : Table
+  pub links : Table
+  pub rows : Table
+  pub keys : Table
+  pub actors : Table
+
+-- from show 2 on: the tables, in this order
+unfoldable pub pourTables : ℕ → Poured → ShownTables → Poured
+pourTables show d x =
     pick (ltb show 2) d
-    (pourRows (pourKeys (pourRows (pourRows (pourRows (pourRows d records) groups) links) rows) keys) actors)
+    (pourRows
+    (pourKeys
+    (pourRows (pourRows (pourRows (pourRows d (x .records)) (x .groups)) (x .links)) (x .rows))
+    (x .keys))
+    (x .actors))
+
+abbrev pub shownTables : State → ShownTables
+shownTables s = record {
+  records = s .records;
+  groups = s .groups;
+  links = s .links;
+  rows = s .rows;
+  keys = s .keys;
+  actors = s .actors;
+}
 
 -- from show 3 on: the body store
 unfoldable pub pourStore : ℕ → Poured → List ℕ → Poured
@@ -55,8 +78,7 @@ pourStore show d store = pick (ltb show 3) d (pour d store)
 abbrev pub pourState : ℕ → Poured → State → Poured
 pourState show d s =
     pourStore show
-    (pourTables show (pourLog show d (s .bytes) (s .pool .turn .log .size)) (s .records) (s .groups) (s .links)
-    (s .rows) (s .keys) (s .actors))
+    (pourTables show (pourLog show d (s .bytes) (s .pool .turn .log .size)) (shownTables s))
     (s .store)
 
 -- the answer's numbers with the counters, the message that it shows, and what is asked for

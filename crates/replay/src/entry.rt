@@ -92,8 +92,14 @@ fn pour_tables(
     ensures { λ r.
         ⌜ record { out = now (out .exit); at = r .at; code = r .code }
         ≡ pourTables show (record { out = now (out .entry); at = d .at; code = d .code })
-        (now (records .entry)) (now (groups .entry)) (now (links .entry)) (now (rows .entry)) (now (lists .entry))
-        (now (actors .entry)) ⌝ }
+        (record {
+          records = now (records .entry);
+          groups = now (groups .entry);
+          links = now (links .entry);
+          rows = now (rows .entry);
+          keys = now (lists .entry);
+          actors = now (actors .entry);
+        }) ⌝ }
 {
     if show < 2 {
         return d;

@@ -2,13 +2,13 @@
 -- least loaded, first of the equals. A message whose group does not exist, or for which there is no actor, is over.
 use mathlib.Core.Bool.{Bool, true, false}
 use mathlib.Core.List.{List}
-use Prim.Native.Nat.{ℕ, _+_, _-_}
+use Prim.Native.Nat.{ℕ, _-_}
 use lib.Dec.{eqb, ltb}
 use Rattle.lists.specs.declared.Found.{Found}
 use Rattle.lists.specs.declared.Found.the-variants as found
 use Rattle.lists.specs.declared.keys.Key.{Key}
 use Rattle.lists.specs.declared.keys.Key.the-variants as key
-use Rattle.lists.specs.Links.{pick, Table, lenOf, capped, firstOf, moveFirst, mailboxOf}
+use Rattle.lists.specs.Links.{pick, Table, firstOf, moveFirst, mailboxOf}
 use Rattle.actor.specs.declared.question.Reply.{Reply}
 use Rattle.actor.specs.declared.question.YesIn.{YesIn}
 use Rattle.actor.specs.declared.question.YesIn.the-variants as yes
@@ -23,7 +23,8 @@ use Rattle.group.specs.declared.at.Point.the-variants as point
 use Rattle.group.specs.declared.settings.Named.{Named}
 use Rattle.group.specs.declared.settings.Named.the-variants as named
 use Rattle.group.specs.Settings.{groupAt, groupFor}
-use Rattle.group.specs.Roster.{Keyed, Spawned, IdlePopped, slotAt, liveLen, scheduleOf, spawnOf, popIdleOf, leastOf}
+use Rattle.group.specs.Roster.{Keyed, Mailed, Spawned, Tables, mailed, tables, queuedAfter}
+use Rattle.group.specs.Roster.{slotAt, liveLen, scheduleOf, spawnOf, popIdleOf, leastOf}
 use Rattle.routing.specs.declared.route.Routed as words
 use Rattle.routing.specs.Intake.{BATCH, Linked}
 use Rattle.group.specs.Words.{atOf}
@@ -37,16 +38,21 @@ pub record Routed : Type 0 where
 abbrev pub routedOf : words.Routed → Routed
 routedOf w = record { at = atOf (w .at); queued = w .queued }
 
-pub record Mailed : Type 0 where
-  pub links : Table
-  pub queued : ℕ
-
 -- what routing changes, and where the turn stands then
 pub record Sent : Type 0 where
   pub links : Table
   pub keys : Table
   pub actors : Table
   pub routed : Routed
+
+-- the groups that are loaded, how many, and the body store, which has the names in messages
+pub record Programs : Type 0 where
+  pub groups : Table
+  pub count : ℕ
+  pub store : List ℕ
+
+abbrev pub programs : Table → ℕ → List ℕ → Programs
+programs groups count store = record { groups = groups; count = count; store = store }
 
 abbrev pub routedTo : At → ℕ → Routed
 routedTo a queued = record { at = a; queued = queued }
@@ -55,9 +61,13 @@ routedTo a queued = record { at = a; queued = queued }
 unfoldable pub undeliverable : Table → Table → ℕ → Linked
 undeliverable t rows left = record { links = overFirst t rows BATCH; at = at.Runs (point.Route (left - 1)) }
 
-abbrev pub lostTo : Linked → Table → Table → ℕ → Sent
-lostTo l keys actors queued =
-    record { links = l .links; keys = keys; actors = actors; routed = routedTo (l .at) queued }
+abbrev pub lostTo : Linked → Tables → Sent
+lostTo l x =
+    record { links = l .links; keys = x .keys; actors = x .actors; routed = routedTo (l .at) (x .queued) }
+
+-- nothing changes, and the turn stands there
+abbrev pub sameTo : Tables → At → Sent
+sameTo x a = record { links = x .links; keys = x .keys; actors = x .actors; routed = routedTo a (x .queued) }
 
 -- ---- delivery
 
@@ -65,14 +75,9 @@ lostTo l keys actors queued =
 unfoldable pub wakeAt : Table → Table → ℕ → ℕ → Keyed
 wakeAt keys actors g k = scheduleOf keys (putActor actors (slotAt g k) (deliveredTo (actorAt actors (slotAt g k)))) g k
 
--- queued, the count of messages in mailboxes, changes as the mailbox's length does
 unfoldable pub deliverTo : Table → ℕ → ℕ → Mailed
 deliverTo t slot queued =
-    record {
-      links = moveFirst t BATCH (mailboxOf slot);
-      queued =
-          capped (queued + lenOf (moveFirst t BATCH (mailboxOf slot)) (mailboxOf slot)) - lenOf t (mailboxOf slot);
-    }
+    mailed (moveFirst t BATCH (mailboxOf slot)) (queuedAfter t (moveFirst t BATCH (mailboxOf slot)) slot queued)
 
 abbrev pub deliveredBy : Mailed → Keyed → ℕ → Sent
 deliveredBy m k left =
@@ -83,83 +88,81 @@ deliveredBy m k left =
       routed = routedTo (at.Runs (point.Route (left - 1))) (m .queued);
     }
 
-unfoldable pub deliver : Table → Table → Table → ℕ → ℕ → ℕ → ℕ → Sent
-deliver t keys actors g k queued left = deliveredBy (deliverTo t (slotAt g k) queued) (wakeAt keys actors g k) left
+unfoldable pub deliver : Tables → ℕ → ℕ → ℕ → Sent
+deliver x g k left =
+    deliveredBy (deliverTo (x .links) (slotAt g k) (x .queued)) (wakeAt (x .keys) (x .actors) g k) left
 
-unfoldable pub deliverKey : Table → Table → Table → Table → ℕ → Key → ℕ → ℕ → Sent
-deliverKey t rows keys actors g (key.At k) queued left = deliver t keys actors g k queued left
-deliverKey t rows keys actors g key.Nothing queued left = lostTo (undeliverable t rows left) keys actors queued
+unfoldable pub deliverKey : Table → Tables → ℕ → Key → ℕ → Sent
+deliverKey rows x g (key.At k) left = deliver x g k left
+deliverKey rows x g key.Nothing left = lostTo (undeliverable (x .links) rows left) x
 
 -- ---- pick
 
-unfoldable pub routeLeast : Table → Table → Table → Table → ℕ → ℕ → ℕ → Sent
-routeLeast t rows keys actors g queued left = deliverKey t rows keys actors g (leastOf keys t g) queued left
+unfoldable pub routeLeast : Table → Tables → ℕ → ℕ → Sent
+routeLeast rows x g left = deliverKey rows x g (leastOf (x .keys) (x .links) g) left
 
 -- to the actor that was spawned; where none was, to the least loaded
-abbrev pub spawnedSent : Table → Table → ℕ → ℕ → ℕ → Table → Table → Key → Sent
-spawnedSent t rows g queued left keys actors (key.At k) = deliver t keys actors g k queued left
-spawnedSent t rows g queued left keys actors key.Nothing = routeLeast t rows keys actors g queued left
+abbrev pub spawnedSent : Table → Tables → ℕ → ℕ → Key → Sent
+spawnedSent rows x g left (key.At k) = deliver x g k left
+spawnedSent rows x g left key.Nothing = routeLeast rows x g left
 
-abbrev pub spawnSent : Table → Table → ℕ → ℕ → ℕ → Spawned → Sent
-spawnSent t rows g queued left s = spawnedSent t rows g queued left (s .keys) (s .actors) (s .key)
+abbrev pub spawnSent : Table → Mailed → ℕ → ℕ → Spawned → Sent
+spawnSent rows m g left s = spawnedSent rows (tables (m .links) (s .keys) (s .actors) (m .queued)) g left (s .key)
 
-unfoldable pub routeSpawned : Table → Table → Table → Table → ℕ → Bool → ℕ → ℕ → Sent
-routeSpawned t rows keys actors g eval queued left = spawnSent t rows g queued left (spawnOf keys actors g eval)
+unfoldable pub routeSpawned : Table → Tables → ℕ → Bool → ℕ → Sent
+routeSpawned rows x g eval left =
+    spawnSent rows (mailed (x .links) (x .queued)) g left (spawnOf (x .keys) (x .actors) g eval)
 
 -- a spawn under the ceiling, for which a fixed group is asked Boot, else the least loaded
-unfoldable pub routeNew : Table → Table → Table → Table → Table → ℕ → ℕ → ℕ → Sent
-routeNew groups t rows keys actors g queued left =
-    pick (ltb (liveLen keys g) (groupAt groups g .ceiling))
-    (pick (groupAt groups g .eval)
-    (routeSpawned t rows keys actors g true queued left)
-    (record { links = t; keys = keys; actors = actors; routed = routedTo (at.Asks (asks.RouteBoot g left)) queued }))
-    (routeLeast t rows keys actors g queued left)
+unfoldable pub routeNew : Table → Table → Tables → ℕ → ℕ → Sent
+routeNew groups rows x g left =
+    pick (ltb (liveLen (x .keys) g) (groupAt groups g .ceiling))
+    (pick (groupAt groups g .eval) (routeSpawned rows x g true left) (sameTo x (at.Asks (asks.RouteBoot g left))))
+    (routeLeast rows x g left)
 
-abbrev pub routeIdle : Table → Table → Table → Table → ℕ → ℕ → ℕ → Table → Key → Sent
-routeIdle groups t rows actors g queued left keys (key.At k) = deliver t keys actors g k queued left
-routeIdle groups t rows actors g queued left keys key.Nothing = routeNew groups t rows keys actors g queued left
+-- an idle one, where there is one, else that
+abbrev pub idleElse : Tables → ℕ → ℕ → Key → Sent → Sent
+idleElse x g left (key.At k) other = deliver x g k left
+idleElse x g left key.Nothing other = other
 
-abbrev pub routePopped : Table → Table → Table → Table → ℕ → ℕ → ℕ → IdlePopped → Sent
-routePopped groups t rows actors g queued left p = routeIdle groups t rows actors g queued left (p .keys) (p .key)
+abbrev pub idlePopped : Tables → ℕ → Tables
+idlePopped x g = tables (x .links) (popIdleOf (x .keys) (x .actors) g .keys) (x .actors) (x .queued)
 
-unfoldable pub routeTo : Table → Table → Table → Table → Table → ℕ → ℕ → ℕ → Sent
-routeTo groups t rows keys actors g queued left =
-    routePopped groups t rows actors g queued left (popIdleOf keys actors g)
+unfoldable pub routeTo : Table → Table → Tables → ℕ → ℕ → Sent
+routeTo groups rows x g left =
+    idleElse (idlePopped x g) g left (popIdleOf (x .keys) (x .actors) g .key)
+    (routeNew groups rows (idlePopped x g) g left)
 
-abbrev pub routeNamed : Table → Table → Table → Table → Table → ℕ → ℕ → Named → Sent
-routeNamed groups t rows keys actors queued left (named.Group g) = routeTo groups t rows keys actors g queued left
-routeNamed groups t rows keys actors queued left named.Nothing = lostTo (undeliverable t rows left) keys actors queued
+abbrev pub routeNamed : Table → Table → Tables → ℕ → Named → Sent
+routeNamed groups rows x left (named.Group g) = routeTo groups rows x g left
+routeNamed groups rows x left named.Nothing = lostTo (undeliverable (x .links) rows left) x
 
-unfoldable pub routeOne : Table → ℕ → List ℕ → Table → Table → Table → Table → ℕ → ℕ → ℕ → Sent
-routeOne groups count store t rows keys actors entry queued left =
-    routeNamed groups t rows keys actors queued left (groupFor groups store entry (messageAt rows entry .name) count)
+unfoldable pub routeOne : Programs → Table → Tables → ℕ → ℕ → Sent
+routeOne p rows x entry left =
+    routeNamed (p .groups) rows x left
+    (groupFor (p .groups) (p .store) entry (messageAt rows entry .name) (p .count))
 
 -- ---- the batch's first message, or the tick where none is left
 
-abbrev pub clockNext : Table → Table → Table → ℕ → Sent
-clockNext t keys actors queued =
-    record { links = t; keys = keys; actors = actors; routed = routedTo (at.Asks asks.TickClock) queued }
+abbrev pub clockNext : Tables → Sent
+clockNext x = sameTo x (at.Asks asks.TickClock)
 
-abbrev pub routeFirst : Table → ℕ → List ℕ → Table → Table → Table → Table → ℕ → ℕ → Found → Sent
-routeFirst groups count store t rows keys actors queued left (found.Entry e) =
-    routeOne groups count store t rows keys actors e queued left
-routeFirst groups count store t rows keys actors queued left found.Nothing = clockNext t keys actors queued
+abbrev pub routeFirst : Programs → Table → Tables → ℕ → Found → Sent
+routeFirst p rows x left (found.Entry e) = routeOne p rows x e left
+routeFirst p rows x left found.Nothing = clockNext x
 
-unfoldable pub routeOf : Table → ℕ → List ℕ → Table → Table → Table → Table → ℕ → ℕ → Sent
-routeOf groups count store t rows keys actors queued left =
-    pick (eqb left 0) (clockNext t keys actors queued)
-    (routeFirst groups count store t rows keys actors queued left (firstOf t BATCH))
+unfoldable pub routeOf : Programs → Table → Tables → ℕ → Sent
+routeOf p rows x left = pick (eqb left 0) (clockNext x) (routeFirst p rows x left (firstOf (x .links) BATCH))
 
 -- Boot yes: spawn, and deliver to it; no: the least loaded
-unfoldable pub routeBooted : Table → Table → Table → Table → ℕ → ℕ → ℕ → Bool → Sent
-routeBooted t rows keys actors g queued left true = routeSpawned t rows keys actors g false queued left
-routeBooted t rows keys actors g queued left false = routeLeast t rows keys actors g queued left
+unfoldable pub routeBooted : Table → Tables → ℕ → ℕ → Bool → Sent
+routeBooted rows x g left true = routeSpawned rows x g false left
+routeBooted rows x g left false = routeLeast rows x g left
 
-abbrev pub routeBy : Table → Table → Table → Table → ℕ → ℕ → ℕ → YesIn → Sent
-routeBy t rows keys actors g queued left yes.Yes = routeBooted t rows keys actors g queued left true
-routeBy t rows keys actors g queued left yes.No = routeBooted t rows keys actors g queued left false
-routeBy t rows keys actors g queued left yes.Other =
-    record { links = t; keys = keys; actors = actors; routed = routedTo (at.Asks (asks.RouteBoot g left)) queued }
+abbrev pub routeBy : Table → Tables → ℕ → ℕ → YesIn → Sent
+routeBy rows x g left yes.Yes = routeBooted rows x g left true
+routeBy rows x g left yes.No = routeBooted rows x g left false
+routeBy rows x g left yes.Other = sameTo x (at.Asks (asks.RouteBoot g left))
 
-unfoldable pub routeReply : Table → Table → Table → Table → ℕ → ℕ → ℕ → Reply → Sent
-routeReply t rows keys actors g queued left r = routeBy t rows keys actors g queued left (yesIn r)
+unfoldable pub routeReply : Table → Tables → ℕ → ℕ → Reply → Sent
+routeReply rows x g left r = routeBy rows x g left (yesIn r)

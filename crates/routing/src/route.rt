@@ -18,6 +18,8 @@ ghost use Rattle.routing.specs.Route.{
   routeReply,
   routedOf,
 };
+ghost use Rattle.group.specs.Roster.{tables};
+ghost use Rattle.routing.specs.Route.{programs};
 use actor::message;
 use actor::question;
 use actor::question::Reply;
@@ -89,7 +91,7 @@ fn deliver_first(
           actors = now (actors .exit);
           routed = routedOf r;
         }
-        ≡ deliver (now (links .entry)) (now (lists .entry)) (now (actors .entry)) g key queued left ⌝ }
+        ≡ deliver (tables (now (links .entry)) (now (lists .entry)) (now (actors .entry)) queued) g key left ⌝ }
 {
     let slot = roster::slot_at(g, key);
     let more = deliver_to(links, slot, queued);
@@ -117,8 +119,7 @@ fn deliver_key(
           actors = now (actors .exit);
           routed = routedOf r;
         }
-        ≡ deliverKey (now (links .entry)) (now (rows .entry)) (now (lists .entry)) (now (actors .entry)) g key
-        queued left ⌝ }
+        ≡ deliverKey (now (rows .entry)) (tables (now (links .entry)) (now (lists .entry)) (now (actors .entry)) queued) g key left ⌝ }
 {
     match key {
         Key::At(k) => deliver_first(links, lists, actors, g, k, queued, left),
@@ -146,8 +147,7 @@ fn route_least(
           actors = now (actors .exit);
           routed = routedOf r;
         }
-        ≡ routeLeast (now (links .entry)) (now (rows .entry)) (now (lists .entry)) (now (actors .entry)) g
-        queued left ⌝ }
+        ≡ routeLeast (now (rows .entry)) (tables (now (links .entry)) (now (lists .entry)) (now (actors .entry)) queued) g left ⌝ }
 {
     let key = roster::least_loaded(lists, links, g);
     deliver_key(links, rows, lists, actors, g, key, queued, left)
@@ -171,8 +171,7 @@ fn route_spawned(
           actors = now (actors .exit);
           routed = routedOf r;
         }
-        ≡ routeSpawned (now (links .entry)) (now (rows .entry)) (now (lists .entry)) (now (actors .entry)) g
-        eval queued left ⌝ }
+        ≡ routeSpawned (now (rows .entry)) (tables (now (links .entry)) (now (lists .entry)) (now (actors .entry)) queued) g eval left ⌝ }
 {
     match roster::spawn(lists, actors, g, eval) {
         Key::At(k) => deliver_first(links, lists, actors, g, k, queued, left),
@@ -198,8 +197,7 @@ fn route_new(
           actors = now (actors .exit);
           routed = routedOf r;
         }
-        ≡ routeNew (now (groups .entry)) (now (links .entry)) (now (rows .entry)) (now (lists .entry))
-        (now (actors .entry)) g queued left ⌝ }
+        ≡ routeNew (now (groups .entry)) (now (rows .entry)) (tables (now (links .entry)) (now (lists .entry)) (now (actors .entry)) queued) g left ⌝ }
 {
     let s = settings::group_at(groups, g);
     let ceiling = s.ceiling;
@@ -233,8 +231,7 @@ fn route_to(
           actors = now (actors .exit);
           routed = routedOf r;
         }
-        ≡ routeTo (now (groups .entry)) (now (links .entry)) (now (rows .entry)) (now (lists .entry))
-        (now (actors .entry)) g queued left ⌝ }
+        ≡ routeTo (now (groups .entry)) (now (rows .entry)) (tables (now (links .entry)) (now (lists .entry)) (now (actors .entry)) queued) g left ⌝ }
 {
     match roster::pop_idle(lists, actors, g) {
         Key::At(k) => deliver_first(links, lists, actors, g, k, queued, left),
@@ -262,8 +259,7 @@ fn route_one(
           actors = now (actors .exit);
           routed = routedOf r;
         }
-        ≡ routeOne (now (groups .entry)) count (now (store .entry)) (now (links .entry)) (now (rows .entry))
-        (now (lists .entry)) (now (actors .entry)) entry queued left ⌝ }
+        ≡ routeOne (programs (now (groups .entry)) count (now (store .entry))) (now (rows .entry)) (tables (now (links .entry)) (now (lists .entry)) (now (actors .entry)) queued) entry left ⌝ }
 {
     let m = message::message_at(rows, entry);
     let long = m.name;
@@ -295,8 +291,7 @@ pub fn route(
           actors = now (actors .exit);
           routed = routedOf r;
         }
-        ≡ routeOf (now (groups .entry)) count (now (store .entry)) (now (links .entry)) (now (rows .entry))
-        (now (lists .entry)) (now (actors .entry)) queued left ⌝ }
+        ≡ routeOf (programs (now (groups .entry)) count (now (store .entry))) (now (rows .entry)) (tables (now (links .entry)) (now (lists .entry)) (now (actors .entry)) queued) left ⌝ }
 {
     if left == 0 {
         let at = words::tick_clock();
@@ -340,8 +335,7 @@ fn route_booted(
           actors = now (actors .exit);
           routed = routedOf r;
         }
-        ≡ routeBooted (now (links .entry)) (now (rows .entry)) (now (lists .entry)) (now (actors .entry)) g
-        queued left booted ⌝ }
+        ≡ routeBooted (now (rows .entry)) (tables (now (links .entry)) (now (lists .entry)) (now (actors .entry)) queued) g left booted ⌝ }
 {
     if booted {
         return route_spawned(links, rows, lists, actors, g, false, queued, left);
@@ -367,8 +361,7 @@ pub fn route_reply(
           actors = now (actors .exit);
           routed = routedOf r;
         }
-        ≡ routeReply (now (links .entry)) (now (rows .entry)) (now (lists .entry)) (now (actors .entry)) g
-        queued left reply ⌝ }
+        ≡ routeReply (now (rows .entry)) (tables (now (links .entry)) (now (lists .entry)) (now (actors .entry)) queued) g left reply ⌝ }
 {
     let came = question::yes_in(reply);
     match came {

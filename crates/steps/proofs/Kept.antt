@@ -50,6 +50,7 @@ use Rattle.steps.specs.Steps.{MailTaken, takeMail}
 use Rattle.steps.specs.StepFixed as one
 use Rattle.steps.specs.StepEval as two
 use Rattle.steps.proofs.Times.{capped-fits}
+use Rattle.steps.specs.Steps.{stepTables}
 
 -- ---- choices
 
@@ -339,7 +340,7 @@ module _ (slot : ℕ) (slot-is : slot < 128) where
     by-dispatch (count.Of n) = dispatched-kept t l q n good
     by-dispatch count.Other = record { kept = same-kept t q good; holds = omega arith }
 
-    pub step-fixed-kept : (a : FixedAsk) → Holds a t → (r : Reply) → FixedKept t q (one.stepFixed t rows l slot q a r)
+    pub step-fixed-kept : (a : FixedAsk) → Holds a t → (r : Reply) → FixedKept t q (one.stepFixed (stepTables t rows l) slot q a r)
     unfolding one.stepFixed one.runReply one.drainReply one.pushReply one.dispatchReply
     step-fixed-kept (fixed.Run start) holds r = by-run start (ranIn r)
     step-fixed-kept fixed.Drain holds r = by-drain (countIn r)
@@ -361,33 +362,33 @@ module _ (slot : ℕ) (slot-is : slot < 128) where
   abbrev EvalKept : Table → ℕ → two.EvalBoth → Type 0
   EvalKept t q s = Kept t (s .links) q q
 
-  over-eval-kept : (t rows l : Table) (q : ℕ) → Good t → EvalKept t q (two.evalOver t rows l slot)
+  over-eval-kept : (t rows l : Table) (q : ℕ) → Good t → EvalKept t q (two.evalOver (stepTables t rows l) slot)
   unfolding two.evalOver
   over-eval-kept t rows l q good =
       let over = over-kept t rows q HAND good own-hand (λ e. omega arith) (λ e. omega arith) in
       pick-rule (EvalKept t q) (eqb (lenOf (overFirst t rows HAND) (mailboxOf slot)) 0) (λ e. over) (λ e. over)
 
-  tell-kept : (t rows l : Table) (q : ℕ) → Good t → (o : Outcome) → EvalKept t q (two.evalTell t rows l slot o)
+  tell-kept : (t rows l : Table) (q : ℕ) → Good t → (o : Outcome) → EvalKept t q (two.evalTell (stepTables t rows l) slot o)
   unfolding two.evalTell
   tell-kept t rows l q good o = go (callerFirst rows (firstOf t HAND))
     where
-      go : (c : Caller) → EvalKept t q (two.evalTold t rows l slot o c)
+      go : (c : Caller) → EvalKept t q (two.evalTold (stepTables t rows l) slot o c)
       go (caller.From id) = same-kept t q good
       go caller.Nobody = over-eval-kept t rows l q good
 
-  finish-kept : (t rows l : Table) (q : ℕ) → Good t → (o : Outcome) → EvalKept t q (two.evalFinish t rows l slot o)
+  finish-kept : (t rows l : Table) (q : ℕ) → Good t → (o : Outcome) → EvalKept t q (two.evalFinish (stepTables t rows l) slot o)
   unfolding two.evalFinish
   finish-kept t rows l q good o =
       let moved = move-kept t q (handOf slot) HAND good own-held own-hand held-not-hand in
       then-kept moved (tell-kept (moveFirst t (handOf slot) HAND) rows _ q (moved .good) o)
 
-  clocked-kept : (t rows l : Table) (q c : ℕ) → Good t → EvalKept t q (two.evalClocked t rows l slot c)
+  clocked-kept : (t rows l : Table) (q c : ℕ) → Good t → EvalKept t q (two.evalClocked (stepTables t rows l) slot c)
   unfolding two.evalClocked
   clocked-kept t rows l q c good =
       pick-rule (EvalKept t q) (leb (deadlineOf (actorAt l slot .run)) c) (λ e. finish-kept t rows l q good
       outcome.Late) (λ e. same-kept t q good)
 
-  booted-kept : (t rows l : Table) (q : ℕ) → Good t → (b : Bool) → EvalKept t q (two.evalBooted t rows l slot b)
+  booted-kept : (t rows l : Table) (q : ℕ) → Good t → (b : Bool) → EvalKept t q (two.evalBooted (stepTables t rows l) slot b)
   unfolding two.evalBooted
   booted-kept t rows l q good true = same-kept t q good
   booted-kept t rows l q good false = tell-kept t rows l q good outcome.Unbooted
@@ -398,7 +399,7 @@ module _ (slot : ℕ) (slot-is : slot < 128) where
   started-kept t l q good limit c = move-kept t q HAND (handOf slot) good own-hand own-held
       (λ e. held-not-hand (sym e))
 
-  ran-eval-kept : (t rows l : Table) (q : ℕ) → Good t → (s : Status) → EvalKept t q (two.evalRan t rows l slot s)
+  ran-eval-kept : (t rows l : Table) (q : ℕ) → Good t → (s : Status) → EvalKept t q (two.evalRan (stepTables t rows l) slot s)
   unfolding two.evalRan
   ran-eval-kept t rows l q good status.Done = finish-kept t rows l q good outcome.Ran
   ran-eval-kept t rows l q good status.Exit = finish-kept t rows l q good outcome.Ran
@@ -408,18 +409,18 @@ module _ (slot : ℕ) (slot-is : slot < 128) where
   ran-eval-kept t rows l q good status.Error = finish-kept t rows l q good outcome.Raised
   ran-eval-kept t rows l q good status.Broke = finish-kept t rows l q good outcome.Broke
 
-  dispatched-eval-kept : (t rows l : Table) (q n : ℕ) → Good t → EvalKept t q (two.evalDispatched t rows l slot n)
+  dispatched-eval-kept : (t rows l : Table) (q n : ℕ) → Good t → EvalKept t q (two.evalDispatched (stepTables t rows l) slot n)
   unfolding two.evalDispatched
   dispatched-eval-kept t rows l q n good =
       pick-rule (EvalKept t q) (ltb 0 n) (λ e. same-kept t q good) (λ e. finish-kept t rows l q good
       outcome.StuckHostCall)
 
   module _ (t rows l : Table) (q : ℕ) (good : Good t) (limit : Limit) where
-    by-clock : (r : ClockIn) → EvalKept t q (two.clockBy t rows l slot r)
+    by-clock : (r : ClockIn) → EvalKept t q (two.clockBy (stepTables t rows l) slot r)
     by-clock (clock.Of ns) = clocked-kept t rows l q ns good
     by-clock clock.Other = same-kept t q good
 
-    by-boot : (r : YesIn) → EvalKept t q (two.bootBy t rows l slot r)
+    by-boot : (r : YesIn) → EvalKept t q (two.bootBy (stepTables t rows l) slot r)
     by-boot yes.Yes = booted-kept t rows l q good true
     by-boot yes.No = booted-kept t rows l q good false
     by-boot yes.Other = same-kept t q good
@@ -428,16 +429,16 @@ module _ (slot : ℕ) (slot-is : slot < 128) where
     by-start (clock.Of ns) = started-kept t l q good limit ns
     by-start clock.Other = same-kept t q good
 
-    by-run-eval : (start : Bool) (r : RanIn) → EvalKept t q (two.runBy t rows l slot start r)
+    by-run-eval : (start : Bool) (r : RanIn) → EvalKept t q (two.runBy (stepTables t rows l) slot start r)
     by-run-eval start (ran.Of s) = ran-eval-kept t rows l q good s
     by-run-eval start ran.Other = same-kept t q good
 
-    by-dispatch-eval : (r : CountIn) → EvalKept t q (two.dispatchBy t rows l slot r)
+    by-dispatch-eval : (r : CountIn) → EvalKept t q (two.dispatchBy (stepTables t rows l) slot r)
     by-dispatch-eval (count.Of n) = dispatched-eval-kept t rows l q n good
     by-dispatch-eval count.Other = same-kept t q good
 
     -- every transition of an eval actor
-    pub step-eval-kept : (a : EvalAsk) (r : Reply) → EvalKept t q (two.stepEval t rows l slot limit a r)
+    pub step-eval-kept : (a : EvalAsk) (r : Reply) → EvalKept t q (two.stepEval (stepTables t rows l) slot limit a r)
     unfolding two.stepEval two.clockReply two.bootReply two.startReply two.runReply two.dispatchReply two.tellReply
     step-eval-kept eval.Clock r = by-clock (clockIn r)
     step-eval-kept eval.Boot r = by-boot (yesIn r)

@@ -23,6 +23,7 @@ use Rattle.log.specs.RowEnds.{allTrue}
 use Rattle.log.specs.RowEnds as Log
 use Rattle.log.proofs.RowEnds.{row-ends}
 use Rattle.steps.specs.RowEnds.{begun, asked, deadlines, starred}
+use Rattle.steps.specs.Steps.{stepTables}
 
 pub capped-fits : (x : ℕ) → x ≤ 18446744073709551615 → capped x ≡ x
 unfolding capped
@@ -77,11 +78,11 @@ module _ (t rows l : Table) (slot : ℕ) (waits : actorAt l slot .run
   unfolding deadlineFrom capped
   until = rw waits
 
-  pub row-end-8-ends : evalClocked t rows l slot 900000100 ≡ evalFinish t rows l slot outcome.Late
+  pub row-end-8-ends : evalClocked (stepTables t rows l) slot 900000100 ≡ evalFinish (stepTables t rows l) slot outcome.Late
   unfolding evalClocked
   row-end-8-ends = rw until
 
-  pub row-end-8-resumes : evalClocked t rows l slot 900000099 ≡ record {
+  pub row-end-8-resumes : evalClocked (stepTables t rows l) slot 900000099 ≡ record {
     links = t;
     actors = l;
     next =

@@ -22,6 +22,7 @@ use Rattle.actor.specs.Messages.{messageCells}
 use Rattle.actor.specs.Actors.{actorCells, actorAt, newActor, deadlineOf}
 use Rattle.steps.specs.Steps.{FREE, HAND}
 use Rattle.steps.specs.StepEval.{EvalBoth, stepEval}
+use Rattle.steps.specs.Steps.{stepTables}
 
 -- the caller is told that the run was late
 abbrev pub isLate : Outcome → Bool
@@ -76,10 +77,10 @@ actors = actorCells (newActor mode.Eval) ∷ []
 
 -- its run is started at clock 100, and later the clock is asked again
 unfoldable pub begun : EvalBoth
-begun = stepEval links rows actors 0 limit ask.StartClock (reply.Clock 100)
+begun = stepEval (stepTables links rows actors) 0 limit ask.StartClock (reply.Clock 100)
 
 unfoldable pub asked : ℕ → EvalNext
-asked c = stepEval (begun .links) rows (begun .actors) 0 limit ask.Clock (reply.Clock c) .next
+asked c = stepEval (stepTables (begun .links) rows (begun .actors)) 0 limit ask.Clock (reply.Clock c) .next
 
 unfoldable pub deadlines : List Bool
 deadlines =

@@ -36,7 +36,7 @@ use Rattle.steps.specs.declared.eval.Limit.{Limit}
 use Rattle.actor.specs.Questions.{yesIn, clockIn, countIn, ranIn, isTold, slotOf}
 use Rattle.actor.specs.Actors.{actorAt, putActor, runningTo, hasRun, deadlineOf}
 use Rattle.steps.specs.Words.{evalNextOf}
-use Rattle.steps.specs.Steps.{HAND, callerFirst, overFirst, idledAt, MailTaken, takeMail}
+use Rattle.steps.specs.Steps.{StepTables, stepTables, HAND, callerFirst, overFirst, idledAt, MailTaken, takeMail}
 
 -- what comes next, and the new queued
 pub record EvalStep : Type 0 where
@@ -86,33 +86,36 @@ evalNext t l slot =
     (record { links = t; actors = idledAt l slot; next = next.Ended parked.Waiting })
     (record { links = t; actors = l; next = next.Ended parked.Yield })
 
-unfoldable pub evalOver : Table → Table → Table → ℕ → EvalBoth
-evalOver t rows l slot = evalNext (overFirst t rows HAND) l slot
+unfoldable pub evalOver : StepTables → ℕ → EvalBoth
+evalOver x slot = evalNext (overFirst (x .links) (x .rows) HAND) (x .actors) slot
 
 -- the caller, where there is one, is told
-abbrev pub evalTold : Table → Table → Table → ℕ → Outcome → Caller → EvalBoth
-evalTold t rows l slot o (From id) = record { links = t; actors = l; next = next.Asks (ask.Tell o) }
-evalTold t rows l slot o Nobody = evalOver t rows l slot
+abbrev pub evalTold : StepTables → ℕ → Outcome → Caller → EvalBoth
+evalTold x slot o (From id) = record { links = x .links; actors = x .actors; next = next.Asks (ask.Tell o) }
+evalTold x slot o Nobody = evalOver x slot
 
-unfoldable pub evalTell : Table → Table → Table → ℕ → Outcome → EvalBoth
-evalTell t rows l slot o = evalTold t rows l slot o (callerFirst rows (firstOf t HAND))
+unfoldable pub evalTell : StepTables → ℕ → Outcome → EvalBoth
+evalTell x slot o = evalTold x slot o (callerFirst (x .rows) (firstOf (x .links) HAND))
 
 -- the run ends: its message goes to the step's hand
-unfoldable pub evalFinish : Table → Table → Table → ℕ → Outcome → EvalBoth
-evalFinish t rows l slot o =
-    evalTell (moveFirst t (handOf slot) HAND) rows (putActor l slot (runningTo (actorAt l slot) run.Nothing)) slot o
+unfoldable pub evalFinish : StepTables → ℕ → Outcome → EvalBoth
+evalFinish x slot o =
+    evalTell
+    (stepTables (moveFirst (x .links) (handOf slot) HAND) (x .rows)
+    (putActor (x .actors) slot (runningTo (actorAt (x .actors) slot) run.Nothing)))
+    slot o
 
 -- Clock of a run that waited: at its deadline it ends, whatever it waited on; before, it is resumed
-unfoldable pub evalClocked : Table → Table → Table → ℕ → ℕ → EvalBoth
-evalClocked t rows l slot c =
-    pick (leb (deadlineOf (actorAt l slot .run)) c)
-    (evalFinish t rows l slot outcome.Late)
-    (record { links = t; actors = l; next = next.Asks (ask.Run false) })
+unfoldable pub evalClocked : StepTables → ℕ → ℕ → EvalBoth
+evalClocked x slot c =
+    pick (leb (deadlineOf (actorAt (x .actors) slot .run)) c)
+    (evalFinish x slot outcome.Late)
+    (record { links = x .links; actors = x .actors; next = next.Asks (ask.Run false) })
 
 -- Boot
-unfoldable pub evalBooted : Table → Table → Table → ℕ → Bool → EvalBoth
-evalBooted t rows l slot true = record { links = t; actors = l; next = next.Asks ask.StartClock }
-evalBooted t rows l slot false = evalTell t rows l slot outcome.Unbooted
+unfoldable pub evalBooted : StepTables → ℕ → Bool → EvalBoth
+evalBooted x slot true = record { links = x .links; actors = x .actors; next = next.Asks ask.StartClock }
+evalBooted x slot false = evalTell x slot outcome.Unbooted
 
 -- Clock of a start: the run has its deadline, and its message is in the actor's hands
 unfoldable pub evalStarted : Table → Table → ℕ → Limit → ℕ → EvalBoth
@@ -124,21 +127,21 @@ evalStarted t l slot limit c =
     }
 
 -- Run
-unfoldable pub evalRan : Table → Table → Table → ℕ → Status → EvalBoth
-evalRan t rows l slot status.Done = evalFinish t rows l slot outcome.Ran
-evalRan t rows l slot status.Exit = evalFinish t rows l slot outcome.Ran
-evalRan t rows l slot status.Preempted = record { links = t; actors = l; next = next.Ended parked.Yield }
-evalRan t rows l slot status.Event = evalFinish t rows l slot outcome.StuckReceive
-evalRan t rows l slot status.HostCall = record { links = t; actors = l; next = next.Asks ask.Dispatch }
-evalRan t rows l slot status.Error = evalFinish t rows l slot outcome.Raised
-evalRan t rows l slot status.Broke = evalFinish t rows l slot outcome.Broke
+unfoldable pub evalRan : StepTables → ℕ → Status → EvalBoth
+evalRan x slot status.Done = evalFinish x slot outcome.Ran
+evalRan x slot status.Exit = evalFinish x slot outcome.Ran
+evalRan x slot status.Preempted = record { links = x .links; actors = x .actors; next = next.Ended parked.Yield }
+evalRan x slot status.Event = evalFinish x slot outcome.StuckReceive
+evalRan x slot status.HostCall = record { links = x .links; actors = x .actors; next = next.Asks ask.Dispatch }
+evalRan x slot status.Error = evalFinish x slot outcome.Raised
+evalRan x slot status.Broke = evalFinish x slot outcome.Broke
 
 -- Dispatch: it waits for its host calls until its deadline; with none in flight it is stuck
-unfoldable pub evalDispatched : Table → Table → Table → ℕ → ℕ → EvalBoth
-evalDispatched t rows l slot n =
+unfoldable pub evalDispatched : StepTables → ℕ → ℕ → EvalBoth
+evalDispatched x slot n =
     pick (ltb 0 n)
-    (record { links = t; actors = l; next = next.Ended (parked.Blocked (wake.At (deadlineOf (actorAt l slot .run)))) })
-    (evalFinish t rows l slot outcome.StuckHostCall)
+    (record { links = x .links; actors = x .actors; next = next.Ended (parked.Blocked (wake.At (deadlineOf (actorAt (x .actors) slot .run)))) })
+    (evalFinish x slot outcome.StuckHostCall)
 
 -- ---- from a question and its reply to the next; a reply that does not fit changes nothing
 
@@ -146,53 +149,53 @@ evalDispatched t rows l slot n =
 abbrev pub still : Table → Table → EvalAsk → EvalBoth
 still t l a = record { links = t; actors = l; next = next.Asks a }
 
-abbrev pub clockBy : Table → Table → Table → ℕ → ClockIn → EvalBoth
-clockBy t rows l slot (clock.Of ns) = evalClocked t rows l slot ns
-clockBy t rows l slot clock.Other = still t l ask.Clock
+abbrev pub clockBy : StepTables → ℕ → ClockIn → EvalBoth
+clockBy x slot (clock.Of ns) = evalClocked x slot ns
+clockBy x slot clock.Other = still (x .links) (x .actors) ask.Clock
 
-abbrev pub bootBy : Table → Table → Table → ℕ → YesIn → EvalBoth
-bootBy t rows l slot yes.Yes = evalBooted t rows l slot true
-bootBy t rows l slot yes.No = evalBooted t rows l slot false
-bootBy t rows l slot yes.Other = still t l ask.Boot
+abbrev pub bootBy : StepTables → ℕ → YesIn → EvalBoth
+bootBy x slot yes.Yes = evalBooted x slot true
+bootBy x slot yes.No = evalBooted x slot false
+bootBy x slot yes.Other = still (x .links) (x .actors) ask.Boot
 
 abbrev pub startBy : Table → Table → ℕ → Limit → ClockIn → EvalBoth
 startBy t l slot limit (clock.Of ns) = evalStarted t l slot limit ns
 startBy t l slot limit clock.Other = still t l ask.StartClock
 
-abbrev pub runBy : Table → Table → Table → ℕ → Bool → RanIn → EvalBoth
-runBy t rows l slot start (ran.Of s) = evalRan t rows l slot s
-runBy t rows l slot start ran.Other = still t l (ask.Run start)
+abbrev pub runBy : StepTables → ℕ → Bool → RanIn → EvalBoth
+runBy x slot start (ran.Of s) = evalRan x slot s
+runBy x slot start ran.Other = still (x .links) (x .actors) (ask.Run start)
 
-abbrev pub dispatchBy : Table → Table → Table → ℕ → CountIn → EvalBoth
-dispatchBy t rows l slot (count.Of n) = evalDispatched t rows l slot n
-dispatchBy t rows l slot count.Other = still t l ask.Dispatch
+abbrev pub dispatchBy : StepTables → ℕ → CountIn → EvalBoth
+dispatchBy x slot (count.Of n) = evalDispatched x slot n
+dispatchBy x slot count.Other = still (x .links) (x .actors) ask.Dispatch
 
-unfoldable pub clockReply : Table → Table → Table → ℕ → Reply → EvalBoth
-clockReply t rows l slot r = clockBy t rows l slot (clockIn r)
+unfoldable pub clockReply : StepTables → ℕ → Reply → EvalBoth
+clockReply x slot r = clockBy x slot (clockIn r)
 
-unfoldable pub bootReply : Table → Table → Table → ℕ → Reply → EvalBoth
-bootReply t rows l slot r = bootBy t rows l slot (yesIn r)
+unfoldable pub bootReply : StepTables → ℕ → Reply → EvalBoth
+bootReply x slot r = bootBy x slot (yesIn r)
 
 unfoldable pub startReply : Table → Table → ℕ → Limit → Reply → EvalBoth
 startReply t l slot limit r = startBy t l slot limit (clockIn r)
 
-unfoldable pub runReply : Table → Table → Table → ℕ → Bool → Reply → EvalBoth
-runReply t rows l slot start r = runBy t rows l slot start (ranIn r)
+unfoldable pub runReply : StepTables → ℕ → Bool → Reply → EvalBoth
+runReply x slot start r = runBy x slot start (ranIn r)
 
-unfoldable pub dispatchReply : Table → Table → Table → ℕ → Reply → EvalBoth
-dispatchReply t rows l slot r = dispatchBy t rows l slot (countIn r)
+unfoldable pub dispatchReply : StepTables → ℕ → Reply → EvalBoth
+dispatchReply x slot r = dispatchBy x slot (countIn r)
 
 -- a message is over once its caller was told
-unfoldable pub tellReply : Table → Table → Table → ℕ → Outcome → Reply → EvalBoth
-tellReply t rows l slot o r = pick (isTold r) (evalOver t rows l slot) (still t l (ask.Tell o))
+unfoldable pub tellReply : StepTables → ℕ → Outcome → Reply → EvalBoth
+tellReply x slot o r = pick (isTold r) (evalOver x slot) (still (x .links) (x .actors) (ask.Tell o))
 
-unfoldable pub stepEval : Table → Table → Table → ℕ → Limit → EvalAsk → Reply → EvalBoth
-stepEval t rows l slot limit ask.Clock r = clockReply t rows l slot r
-stepEval t rows l slot limit ask.Boot r = bootReply t rows l slot r
-stepEval t rows l slot limit ask.StartClock r = startReply t l slot limit r
-stepEval t rows l slot limit (ask.Run start) r = runReply t rows l slot start r
-stepEval t rows l slot limit ask.Dispatch r = dispatchReply t rows l slot r
-stepEval t rows l slot limit (ask.Tell o) r = tellReply t rows l slot o r
+unfoldable pub stepEval : StepTables → ℕ → Limit → EvalAsk → Reply → EvalBoth
+stepEval x slot limit ask.Clock r = clockReply x slot r
+stepEval x slot limit ask.Boot r = bootReply x slot r
+stepEval x slot limit ask.StartClock r = startReply (x .links) (x .actors) slot limit r
+stepEval x slot limit (ask.Run start) r = runReply x slot start r
+stepEval x slot limit ask.Dispatch r = dispatchReply x slot r
+stepEval x slot limit (ask.Tell o) r = tellReply x slot o r
 
 -- ---- the question that is open, as it is shown; Run shows the message of a start, which is the program
 

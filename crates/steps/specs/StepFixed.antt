@@ -28,7 +28,7 @@ use Rattle.steps.specs.declared.fixed.FixedStep as words
 use Rattle.actor.specs.Questions.{yesIn, countIn, ranIn}
 use Rattle.actor.specs.Actors.{actorAt, putActor, startedAs, consumedAs}
 use Rattle.steps.specs.Words.{fixedNextOf}
-use Rattle.steps.specs.Steps.{HAND, overFirst, idledAt, MailTaken, takeMail}
+use Rattle.steps.specs.Steps.{StepTables, HAND, overFirst, idledAt, MailTaken, takeMail}
 
 -- what comes next, and the new queued
 pub record FixedStep : Type 0 where
@@ -155,11 +155,12 @@ dispatchReply t slot r = dispatchBy t slot (countIn r)
 abbrev pub keptFixed : Table → ℕ → FixedLinks → FixedBoth
 keptFixed l queued f = record { links = f .links; actors = l; step = record { next = f .next; queued = queued } }
 
-unfoldable pub stepFixed : Table → Table → Table → ℕ → ℕ → FixedAsk → Reply → FixedBoth
-stepFixed t rows l slot queued (ask.Run start) r = keptFixed l queued (runReply t rows slot start r)
-stepFixed t rows l slot queued ask.Drain r = drainReply t l slot queued r
-stepFixed t rows l slot queued ask.Push r = pushReply t l slot queued r
-stepFixed t rows l slot queued ask.Dispatch r = keptFixed l queued (dispatchReply t slot r)
+unfoldable pub stepFixed : StepTables → ℕ → ℕ → FixedAsk → Reply → FixedBoth
+stepFixed x slot queued (ask.Run start) r =
+    keptFixed (x .actors) queued (runReply (x .links) (x .rows) slot start r)
+stepFixed x slot queued ask.Drain r = drainReply (x .links) (x .actors) slot queued r
+stepFixed x slot queued ask.Push r = pushReply (x .links) (x .actors) slot queued r
+stepFixed x slot queued ask.Dispatch r = keptFixed (x .actors) queued (dispatchReply (x .links) slot r)
 
 -- ---- the question that is open, as it is shown; Run of a fixed actor shows no message
 

@@ -14,6 +14,15 @@ use Rattle.steps.specs.declared.step.Mail.{Mail}
 use Rattle.actor.specs.Messages.{messageAt}
 use Rattle.actor.specs.Actors.{actorAt, putActor, idledAs}
 
+-- what a step works on: lists of messages, their rows, and actors
+pub record StepTables : Type 0 where
+  pub links : Table
+  pub rows : Table
+  pub actors : Table
+
+abbrev pub stepTables : Table → Table → Table → StepTables
+stepTables t rows l = record { links = t; rows = rows; actors = l }
+
 -- the lists of the places that a step knows
 abbrev pub FREE : ℕ
 FREE = 0

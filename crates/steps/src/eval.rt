@@ -27,6 +27,7 @@ ghost use Rattle.steps.specs.StepEval.{
 };
 ghost use Rattle.steps.specs.Words.{parkedOf, evalNumber, evalKindOf, outcomeNumber, outcomeOf};
 ghost use Rattle.steps.specs.Words.{evalAskOf, evalNextOf};
+ghost use Rattle.steps.specs.Steps.{stepTables};
 use crate::step;
 use crate::step::Parked;
 use crate::step::StepWords;
@@ -308,7 +309,7 @@ fn eval_over(
 ) -> EvalWords
     ensures { λ r.
         ⌜ record { links = now (links .exit); actors = now (actors .exit); next = evalNextOf r }
-        ≡ evalOver (now (links .entry)) (now (rows .entry)) (now (actors .entry)) slot ⌝ }
+        ≡ evalOver (stepTables (now (links .entry)) (now (rows .entry)) (now (actors .entry))) slot ⌝ }
 {
     step::over_first(links, rows, lists::HAND);
     let mailbox = lists::mailbox(slot);
@@ -333,7 +334,7 @@ fn eval_tell(
 ) -> EvalWords
     ensures { λ r.
         ⌜ record { links = now (links .exit); actors = now (actors .exit); next = evalNextOf r }
-        ≡ evalTell (now (links .entry)) (now (rows .entry)) (now (actors .entry)) slot outcome ⌝ }
+        ≡ evalTell (stepTables (now (links .entry)) (now (rows .entry)) (now (actors .entry))) slot outcome ⌝ }
 {
     let found = lists::first(links, lists::HAND);
     let caller = step::caller_first(rows, found);
@@ -353,7 +354,7 @@ fn eval_finish(
 ) -> EvalWords
     ensures { λ r.
         ⌜ record { links = now (links .exit); actors = now (actors .exit); next = evalNextOf r }
-        ≡ evalFinish (now (links .entry)) (now (rows .entry)) (now (actors .entry)) slot outcome ⌝ }
+        ≡ evalFinish (stepTables (now (links .entry)) (now (rows .entry)) (now (actors .entry))) slot outcome ⌝ }
 {
     let none = EvalRun::Nothing;
     state::running_at(actors, slot, none);
@@ -372,7 +373,7 @@ pub fn eval_clocked(
 ) -> EvalWords
     ensures { λ r.
         ⌜ record { links = now (links .exit); actors = now (actors .exit); next = evalNextOf r }
-        ≡ evalClocked (now (links .entry)) (now (rows .entry)) (now (actors .entry)) slot clock ⌝ }
+        ≡ evalClocked (stepTables (now (links .entry)) (now (rows .entry)) (now (actors .entry))) slot clock ⌝ }
 {
     let a = state::actor_at(actors, slot);
     let until = state::deadline_of(a);
@@ -394,7 +395,7 @@ pub fn eval_booted(
 ) -> EvalWords
     ensures { λ r.
         ⌜ record { links = now (links .exit); actors = now (actors .exit); next = evalNextOf r }
-        ≡ evalBooted (now (links .entry)) (now (rows .entry)) (now (actors .entry)) slot booted ⌝ }
+        ≡ evalBooted (stepTables (now (links .entry)) (now (rows .entry)) (now (actors .entry))) slot booted ⌝ }
 {
     if booted {
         asks_for(EvalKind::StartClock)
@@ -434,7 +435,7 @@ pub fn eval_ran(
 ) -> EvalWords
     ensures { λ r.
         ⌜ record { links = now (links .exit); actors = now (actors .exit); next = evalNextOf r }
-        ≡ evalRan (now (links .entry)) (now (rows .entry)) (now (actors .entry)) slot status ⌝ }
+        ≡ evalRan (stepTables (now (links .entry)) (now (rows .entry)) (now (actors .entry))) slot status ⌝ }
 {
     match status {
         Status::Done => {
@@ -476,7 +477,7 @@ pub fn eval_dispatched(
 ) -> EvalWords
     ensures { λ r.
         ⌜ record { links = now (links .exit); actors = now (actors .exit); next = evalNextOf r }
-        ≡ evalDispatched (now (links .entry)) (now (rows .entry)) (now (actors .entry)) slot count ⌝ }
+        ≡ evalDispatched (stepTables (now (links .entry)) (now (rows .entry)) (now (actors .entry))) slot count ⌝ }
 {
     if 0 < count {
         let a = state::actor_at(actors, slot);
@@ -498,7 +499,7 @@ fn clock_reply(
 ) -> EvalWords
     ensures { λ r.
         ⌜ record { links = now (links .exit); actors = now (actors .exit); next = evalNextOf r }
-        ≡ clockReply (now (links .entry)) (now (rows .entry)) (now (actors .entry)) slot reply ⌝ }
+        ≡ clockReply (stepTables (now (links .entry)) (now (rows .entry)) (now (actors .entry))) slot reply ⌝ }
 {
     let came = question::clock_in(reply);
     match came {
@@ -517,7 +518,7 @@ fn boot_reply(
 ) -> EvalWords
     ensures { λ r.
         ⌜ record { links = now (links .exit); actors = now (actors .exit); next = evalNextOf r }
-        ≡ bootReply (now (links .entry)) (now (rows .entry)) (now (actors .entry)) slot reply ⌝ }
+        ≡ bootReply (stepTables (now (links .entry)) (now (rows .entry)) (now (actors .entry))) slot reply ⌝ }
 {
     let came = question::yes_in(reply);
     match came {
@@ -557,7 +558,7 @@ fn run_reply(
 ) -> EvalWords
     ensures { λ r.
         ⌜ record { links = now (links .exit); actors = now (actors .exit); next = evalNextOf r }
-        ≡ runReply (now (links .entry)) (now (rows .entry)) (now (actors .entry)) slot start reply ⌝ }
+        ≡ runReply (stepTables (now (links .entry)) (now (rows .entry)) (now (actors .entry))) slot start reply ⌝ }
 {
     let came = question::ran_in(reply);
     match came {
@@ -576,7 +577,7 @@ fn dispatch_reply(
 ) -> EvalWords
     ensures { λ r.
         ⌜ record { links = now (links .exit); actors = now (actors .exit); next = evalNextOf r }
-        ≡ dispatchReply (now (links .entry)) (now (rows .entry)) (now (actors .entry)) slot reply ⌝ }
+        ≡ dispatchReply (stepTables (now (links .entry)) (now (rows .entry)) (now (actors .entry))) slot reply ⌝ }
 {
     let came = question::count_in(reply);
     match came {
@@ -596,7 +597,7 @@ fn tell_reply(
 ) -> EvalWords
     ensures { λ r.
         ⌜ record { links = now (links .exit); actors = now (actors .exit); next = evalNextOf r }
-        ≡ tellReply (now (links .entry)) (now (rows .entry)) (now (actors .entry)) slot outcome reply ⌝ }
+        ≡ tellReply (stepTables (now (links .entry)) (now (rows .entry)) (now (actors .entry))) slot outcome reply ⌝ }
 {
     let told = question::is_told(reply);
     if told {
@@ -619,8 +620,7 @@ pub fn step_eval(
 ) -> EvalWords
     ensures { λ r.
         ⌜ record { links = now (links .exit); actors = now (actors .exit); next = evalNextOf r }
-        ≡ stepEval (now (links .entry)) (now (rows .entry)) (now (actors .entry)) slot limit
-        (evalAskOf ask outcome) reply ⌝ }
+        ≡ stepEval (stepTables (now (links .entry)) (now (rows .entry)) (now (actors .entry))) slot limit (evalAskOf ask outcome) reply ⌝ }
 {
     match ask {
         EvalKind::Clock => clock_reply(links, rows, actors, slot, reply),

@@ -17,6 +17,7 @@ ghost use Rattle.steps.specs.StepFixed.{
   fixedStepOf,
 };
 ghost use Rattle.steps.specs.Words.{stepOf, fixedNumber, fixedKindOf, fixedAskOf, fixedNextOf};
+ghost use Rattle.steps.specs.Steps.{stepTables};
 use crate::step;
 use crate::step::Step;
 use crate::step::StepWords;
@@ -374,8 +375,7 @@ pub fn step_fixed(
 ) -> FixedStep
     ensures { λ r.
         ⌜ record { links = now (links .exit); actors = now (actors .exit); step = fixedStepOf r }
-        ≡ stepFixed (now (links .entry)) (now (rows .entry)) (now (actors .entry)) slot queued (fixedAskOf ask)
-        reply ⌝ }
+        ≡ stepFixed (stepTables (now (links .entry)) (now (rows .entry)) (now (actors .entry))) slot queued (fixedAskOf ask) reply ⌝ }
 {
     match ask {
         FixedKind::Start => {

@@ -8,7 +8,7 @@ use Rattle.lists.specs.declared.Found.{Found}
 use Rattle.lists.specs.declared.Found.the-variants as found
 use Rattle.lists.specs.declared.keys.Key.{Key}
 use Rattle.lists.specs.declared.keys.Key.the-variants as key
-use Rattle.lists.specs.Links.{pick, Table, lenOf, capped, firstOf, moveFirst, moveAll, mailboxOf, handOf}
+use Rattle.lists.specs.Links.{pick, Table, capped, firstOf, moveFirst, moveAll, mailboxOf, handOf}
 use Rattle.lists.specs.KeyLists.{blankRow, keysAt, frontOf, popFront}
 use Rattle.lists.specs.Slabs.{nextKey}
 use Rattle.actor.specs.declared.question.Reply.{Reply}
@@ -24,7 +24,7 @@ use Rattle.group.specs.declared.at.Point.the-variants as point
 use Rattle.group.specs.declared.at.Cursor.{Cursor}
 use Rattle.group.specs.At.{readyAfter}
 use Rattle.group.specs.Settings.{groupAt}
-use Rattle.group.specs.Roster.{DOOMED, slabRow, slotAt, pushKey}
+use Rattle.group.specs.Roster.{DOOMED, slabRow, slotAt, pushKey, queuedAfter}
 use Rattle.ticking.specs.declared.crash.Losses.{Losses}
 use Rattle.ticking.specs.declared.crash.Crashed as words
 use Rattle.ticking.specs.Waking.{Listed}
@@ -46,10 +46,24 @@ pub record Dying : Type 0 where
   pub rows : Table
   pub dead : ℕ
 
+abbrev pub dying : Table → Table → ℕ → Dying
+dying t rows dead = record { links = t; rows = rows; dead = dead }
+
 pub record Losing : Type 0 where
   pub links : Table
   pub rows : Table
   pub losses : Losses
+
+-- what retiring works on: lists of messages, their rows, keys, how many messages are in mailboxes, dead and crashes
+pub record Retiring : Type 0 where
+  pub links : Table
+  pub rows : Table
+  pub keys : Table
+  pub queued : ℕ
+  pub losses : Losses
+
+abbrev pub retiring : Table → Table → Table → ℕ → Losses → Retiring
+retiring t rows keys queued l = record { links = t; rows = rows; keys = keys; queued = queued; losses = l }
 
 pub record Crashing : Type 0 where
   pub links : Table
@@ -58,25 +72,25 @@ pub record Crashing : Type 0 where
   pub crashed : Crashed
 
 -- the first message of a list crashed
-unfoldable pub crashedEntry : Table → Table → Table → ℕ → ℕ → ℕ → ℕ → Dying
-crashedEntry groups t rows g from e dead =
-    pick (ltb (messageAt rows e .attempts) (groupAt groups g .retry))
-    (record { links = moveFirst t from PENDING; rows = putMessage rows e (triedOf (messageAt rows e)); dead = dead })
-    (record { links = overFirst t rows from; rows = rows; dead = capped (dead + 1) })
+unfoldable pub crashedEntry : Table → Dying → ℕ → ℕ → ℕ → Dying
+crashedEntry groups x g from e =
+    pick (ltb (messageAt (x .rows) e .attempts) (groupAt groups g .retry))
+    (dying (moveFirst (x .links) from PENDING) (putMessage (x .rows) e (triedOf (messageAt (x .rows) e))) (x .dead))
+    (dying (overFirst (x .links) (x .rows) from) (x .rows) (capped (x .dead + 1)))
 
-abbrev pub crashedFound : Table → Table → Table → ℕ → ℕ → ℕ → Found → Dying
-crashedFound groups t rows g from dead (found.Entry e) = crashedEntry groups t rows g from e dead
-crashedFound groups t rows g from dead found.Nothing = record { links = t; rows = rows; dead = dead }
+abbrev pub crashedFound : Table → Dying → ℕ → ℕ → Found → Dying
+crashedFound groups x g from (found.Entry e) = crashedEntry groups x g from e
+crashedFound groups x g from found.Nothing = x
 
-unfoldable pub crashedFirst : Table → Table → Table → ℕ → ℕ → ℕ → Dying
-crashedFirst groups t rows g from dead = crashedFound groups t rows g from dead (firstOf t from)
+unfoldable pub crashedFirst : Table → Dying → ℕ → ℕ → Dying
+crashedFirst groups x g from = crashedFound groups x g from (firstOf (x .links) from)
 
 abbrev pub losing : Dying → ℕ → Losing
 losing d crashes = record { links = d .links; rows = d .rows; losses = record { dead = d .dead; crashes = crashes } }
 
 -- the message in the step's hand crashed with its actor
 unfoldable pub crashOf : Table → Table → Table → Cursor → Losses → Losing
-crashOf groups t rows c l = losing (crashedFirst groups t rows (c .group) HAND (l .dead)) (capped (l .crashes + 1))
+crashOf groups t rows c l = losing (crashedFirst groups (dying t rows (l .dead)) (c .group) HAND) (capped (l .crashes + 1))
 
 -- ---- Trap, and Trapped of each actor in key order
 
@@ -122,31 +136,34 @@ doomedBy d keys a queued crashes =
 abbrev pub mailBack : Table → ℕ → Table
 mailBack t slot = moveAll t (mailboxOf slot) PENDING
 
-unfoldable pub doomedKey : Table → Table → Table → Table → Cursor → ℕ → ℕ → ℕ → Losses → Crashing
-doomedKey groups t rows keys c k left queued l =
+unfoldable pub doomedKey : Table → Retiring → Cursor → ℕ → ℕ → Crashing
+doomedKey groups x c k left =
     doomedBy
-    (crashedFirst groups (mailBack t (slotAt (c .group) k)) rows (c .group) (handOf (slotAt (c .group) k)) (l .dead))
-    (removeKey keys (c .group) k)
+    (crashedFirst groups (dying (mailBack (x .links) (slotAt (c .group) k)) (x .rows) (x .losses .dead)) (c .group)
+    (handOf (slotAt (c .group) k)))
+    (removeKey (x .keys) (c .group) k)
     (at.Runs (point.Doomed c left))
-    (capped (queued + lenOf (mailBack t (slotAt (c .group) k)) (mailboxOf (slotAt (c .group) k)))
-    - lenOf t (mailboxOf (slotAt (c .group) k)))
-    (capped (l .crashes + 1))
+    (queuedAfter (x .links) (mailBack (x .links) (slotAt (c .group) k)) (slotAt (c .group) k) (x .queued))
+    (capped (x .losses .crashes + 1))
 
-abbrev pub doomedDone : Table → Table → Table → Cursor → ℕ → Losses → Crashing
-doomedDone t rows keys c queued l =
+abbrev pub doomedDone : Retiring → Cursor → Crashing
+doomedDone x c =
     record {
-      links = t;
-      rows = rows;
-      keys = keys;
-      crashed = record { at = readyAfter c; queued = queued; losses = l };
+      links = x .links;
+      rows = x .rows;
+      keys = x .keys;
+      crashed = record { at = readyAfter c; queued = x .queued; losses = x .losses };
     }
 
-abbrev pub doomedFront : Table → Table → Table → Table → Cursor → ℕ → ℕ → Losses → Key → Crashing
-doomedFront groups t rows keys c left queued l (key.At k) =
-    doomedKey groups t rows (set keys DOOMED (popFront (keysAt keys DOOMED))) c k (left - 1) queued l
-doomedFront groups t rows keys c left queued l key.Nothing = doomedDone t rows keys c queued l
+-- without the first of those that were trapped
+abbrev pub doomedPopped : Retiring → Retiring
+doomedPopped x =
+    retiring (x .links) (x .rows) (set (x .keys) DOOMED (popFront (keysAt (x .keys) DOOMED))) (x .queued) (x .losses)
 
-unfoldable pub doomedOf : Table → Table → Table → Table → Cursor → ℕ → ℕ → Losses → Crashing
-doomedOf groups t rows keys c left queued l =
-    pick (eqb left 0) (doomedDone t rows keys c queued l)
-    (doomedFront groups t rows keys c left queued l (frontOf (keysAt keys DOOMED)))
+abbrev pub doomedFront : Table → Retiring → Cursor → ℕ → Key → Crashing
+doomedFront groups x c left (key.At k) = doomedKey groups (doomedPopped x) c k (left - 1)
+doomedFront groups x c left key.Nothing = doomedDone x c
+
+unfoldable pub doomedOf : Table → Retiring → Cursor → ℕ → Crashing
+doomedOf groups x c left =
+    pick (eqb left 0) (doomedDone x c) (doomedFront groups x c left (frontOf (keysAt (x .keys) DOOMED)))

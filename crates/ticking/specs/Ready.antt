@@ -20,7 +20,7 @@ use Rattle.group.specs.declared.at.Ask.the-variants as asks
 use Rattle.group.specs.declared.at.Point.the-variants as point
 use Rattle.group.specs.declared.at.Cursor.{Cursor}
 use Rattle.group.specs.At.{nextGroup, readyAfter, evalAfter}
-use Rattle.group.specs.Roster.{readyRow, slotAt, liveOf}
+use Rattle.group.specs.Roster.{Mailed, mailed, readyRow, slotOn, liveOf}
 use Rattle.ticking.specs.declared.ready.Begun as words
 use Rattle.group.specs.Words.{atOf}
 
@@ -33,6 +33,19 @@ pub record Begun : Type 0 where
 -- the same of the words that code hands on
 abbrev pub begunOf : words.Begun → Begun
 begunOf w = record { at = atOf (w .at); queued = w .queued; stepped = w .stepped }
+
+-- what a ready list works on: lists of messages, keys, actors, how many messages are in mailboxes, and whether an
+-- actor was stepped in this turn
+pub record Readying : Type 0 where
+  pub links : Table
+  pub keys : Table
+  pub actors : Table
+  pub queued : ℕ
+  pub stepped : Bool
+
+abbrev pub readying : Table → Table → Table → ℕ → Bool → Readying
+readying t keys actors queued stepped =
+    record { links = t; keys = keys; actors = actors; queued = queued; stepped = stepped }
 
 pub record Started : Type 0 where
   pub actors : Table
@@ -76,40 +89,41 @@ beginEval t actors c slot queued = startedEval c (evalStart t actors slot queued
 abbrev pub fixedBegun : Table → ℕ → Started → Stepping
 fixedBegun t queued s = record { links = t; actors = s .actors; begun = begunAt (s .at) queued true }
 
-abbrev pub beginBy : Table → Table → Cursor → ℕ → ℕ → Mode → Stepping
-beginBy t actors c slot queued mode.Fixed = fixedBegun t queued (beginFixed actors c slot)
-beginBy t actors c slot queued mode.Eval = beginEval t actors c slot queued
+abbrev pub beginBy : Mailed → Table → Cursor → ℕ → Mode → Stepping
+beginBy m actors c slot mode.Fixed = fixedBegun (m .links) (m .queued) (beginFixed actors c slot)
+beginBy m actors c slot mode.Eval = beginEval (m .links) actors c slot (m .queued)
 
 unfoldable pub beginStep : Table → Table → Cursor → ℕ → ℕ → Stepping
 beginStep t actors c slot queued =
-    beginBy t (putActor actors slot (beganStep (actorAt actors slot))) c slot queued (actorAt actors slot .mode)
+    beginBy (mailed t queued) (putActor actors slot (beganStep (actorAt actors slot))) c slot
+    (actorAt actors slot .mode)
 
 -- the actor is scheduled no more, and stepped if it has work
 abbrev pub unscheduled : Table → ℕ → Table
 unscheduled actors slot = putActor actors slot (scheduledAs (actorAt actors slot) false)
 
-unfoldable pub readyKey : Table → Table → Table → Cursor → ℕ → Bool → Stepping
-readyKey t keys actors c queued stepped =
-    pick (liveOf keys (c .group) (c .key))
-    (pick (restsOf (actorAt actors (slotAt (c .group) (c .key))) (lenOf t (mailboxOf (slotAt (c .group) (c .key)))))
+unfoldable pub readyKey : Readying → Cursor → Stepping
+readyKey x c =
+    pick (liveOf (x .keys) (c .group) (c .key))
+    (pick (restsOf (actorAt (x .actors) (slotOn c)) (lenOf (x .links) (mailboxOf (slotOn c))))
     (record {
-      links = t;
-      actors = unscheduled actors (slotAt (c .group) (c .key));
-      begun = begunAt (readyAfter c) queued stepped;
+      links = x .links;
+      actors = unscheduled (x .actors) (slotOn c);
+      begun = begunAt (readyAfter c) (x .queued) (x .stepped);
     })
-    (beginStep t (unscheduled actors (slotAt (c .group) (c .key))) c (slotAt (c .group) (c .key)) queued))
-    (record { links = t; actors = actors; begun = begunAt (readyAfter c) queued stepped })
+    (beginStep (x .links) (unscheduled (x .actors) (slotOn c)) c (slotOn c) (x .queued)))
+    (record { links = x .links; actors = x .actors; begun = begunAt (readyAfter c) (x .queued) (x .stepped) })
 
 abbrev pub readiedWith : Table → Stepping → Readied
 readiedWith keys s = record { links = s .links; keys = keys; actors = s .actors; begun = s .begun }
 
-abbrev pub wakeAfter : Table → Table → Table → ℕ → Bool → ℕ → ℕ → Readied
-wakeAfter t keys actors queued stepped g clock =
+abbrev pub wakeAfter : Readying → ℕ → ℕ → Readied
+wakeAfter x g clock =
     record {
-      links = t;
-      keys = keys;
-      actors = actors;
-      begun = begunAt (at.Runs (point.Wake (nextGroup g) clock)) queued stepped;
+      links = x .links;
+      keys = x .keys;
+      actors = x .actors;
+      begun = begunAt (at.Runs (point.Wake (nextGroup g) clock)) (x .queued) (x .stepped);
     }
 
 -- the cursor of a key that is popped
@@ -119,12 +133,15 @@ cursorAt g k clock pops = record { group = g; key = k; now = clock; pops = pops 
 abbrev pub popReady : Table → ℕ → Table
 popReady keys g = set keys (readyRow g) (popFront (keysAt keys (readyRow g)))
 
-abbrev pub readyFront : Table → Table → Table → ℕ → Bool → ℕ → ℕ → ℕ → Key → Readied
-readyFront t keys actors queued stepped g clock pops (key.At k) =
-    readiedWith (popReady keys g) (readyKey t (popReady keys g) actors (cursorAt g k clock (pops - 1)) queued stepped)
-readyFront t keys actors queued stepped g clock pops key.Nothing = wakeAfter t keys actors queued stepped g clock
+abbrev pub readyPopped : Readying → ℕ → Readying
+readyPopped x g = readying (x .links) (popReady (x .keys) g) (x .actors) (x .queued) (x .stepped)
 
-unfoldable pub readyOf : Table → Table → Table → ℕ → Bool → ℕ → ℕ → ℕ → Readied
-readyOf t keys actors queued stepped g clock pops =
-    pick (eqb pops 0) (wakeAfter t keys actors queued stepped g clock)
-    (readyFront t keys actors queued stepped g clock pops (frontOf (keysAt keys (readyRow g))))
+abbrev pub readyFront : Readying → ℕ → ℕ → ℕ → Key → Readied
+readyFront x g clock pops (key.At k) =
+    readiedWith (popReady (x .keys) g) (readyKey (readyPopped x g) (cursorAt g k clock (pops - 1)))
+readyFront x g clock pops key.Nothing = wakeAfter x g clock
+
+unfoldable pub readyOf : Readying → ℕ → ℕ → ℕ → Readied
+readyOf x g clock pops =
+    pick (eqb pops 0) (wakeAfter x g clock)
+    (readyFront x g clock pops (frontOf (keysAt (x .keys) (readyRow g))))

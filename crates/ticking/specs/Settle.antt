@@ -1,9 +1,9 @@
 -- A step's end: Sends is asked of a fixed actor; then the actor is put into a list, or leaves its group. One that
 -- ended or raised sends its mailbox back to pending if it ever took a message, else its mail is over.
 use mathlib.Core.Bool.{Bool, true, false}
-use Prim.Native.Nat.{ℕ, _+_, _-_}
+use Prim.Native.Nat.{ℕ}
 use lib.ListN.{set}
-use Rattle.lists.specs.Links.{Table, lenOf, capped, moveAll, mailboxOf}
+use Rattle.lists.specs.Links.{Table, lenOf, moveAll, mailboxOf}
 use Rattle.lists.specs.KeyLists.{keysAt}
 use Rattle.lists.specs.Slabs.{removeOf}
 use Rattle.actor.specs.declared.state.Wake.{Wake}
@@ -20,7 +20,8 @@ use Rattle.group.specs.declared.at.Ask.the-variants as asks
 use Rattle.group.specs.declared.at.Point.the-variants as point
 use Rattle.group.specs.declared.at.Cursor.{Cursor}
 use Rattle.group.specs.At.{readyAfter}
-use Rattle.group.specs.Roster.{slabRow, idleRow, waitingRow, slotAt, Keyed, pushKey, scheduleOf, overAll}
+use Rattle.group.specs.Roster.{Keyed, Mailed, Tables, mailed, queuedAfter, slotOn}
+use Rattle.group.specs.Roster.{slabRow, idleRow, waitingRow, pushKey, scheduleOf, overAll}
 use Rattle.ticking.specs.declared.settle.Settled as words
 use Rattle.group.specs.Words.{atOf}
 
@@ -36,10 +37,6 @@ settledOf w = record { at = atOf (w .at); queued = w .queued }
 abbrev pub PENDING : ℕ
 PENDING = 2
 
-pub record LetGo : Type 0 where
-  pub links : Table
-  pub queued : ℕ
-
 pub record Released : Type 0 where
   pub links : Table
   pub keys : Table
@@ -52,10 +49,6 @@ pub record Settling : Type 0 where
   pub actors : Table
   pub settled : Settled
 
--- the slot of the step's actor
-abbrev pub slotOn : Cursor → ℕ
-slotOn c = slotAt (c .group) (c .key)
-
 -- what the step finished has its marks
 abbrev pub stepEnd : Cursor → End → At
 stepEnd c (end.Fixed s) = at.Asks (asks.Sends c s)
@@ -64,23 +57,21 @@ stepEnd c (end.Eval p) = at.Runs (point.Settle c (step.Parked p))
 unfoldable pub removeKey : Table → ℕ → ℕ → Table
 removeKey keys g k = set keys (slabRow g) (removeOf (keysAt keys (slabRow g)) k)
 
--- queued changes as the mailbox's length does
-abbrev pub letGoTo : Table → Table → ℕ → ℕ → LetGo
-letGoTo t r slot queued =
-    record { links = r; queued = capped (queued + lenOf r (mailboxOf slot)) - lenOf t (mailboxOf slot) }
+abbrev pub letGoTo : Table → Table → ℕ → ℕ → Mailed
+letGoTo t r slot queued = mailed r (queuedAfter t r slot queued)
 
-unfoldable pub letGo : Table → Table → ℕ → Bool → ℕ → LetGo
+unfoldable pub letGo : Table → Table → ℕ → Bool → ℕ → Mailed
 letGo t rows slot true queued = letGoTo t (moveAll t (mailboxOf slot) PENDING) slot queued
 letGo t rows slot false queued = letGoTo t (overAll t rows (mailboxOf slot) (lenOf t (mailboxOf slot))) slot queued
 
-abbrev pub releasedBy : LetGo → Table → Released
-releasedBy l keys = record { links = l .links; keys = keys; queued = l .queued }
+abbrev pub releasedBy : Mailed → Table → Released
+releasedBy m keys = record { links = m .links; keys = keys; queued = m .queued }
 
-unfoldable pub releaseOf : Table → Table → Table → Table → Cursor → ℕ → Released
-releaseOf t rows keys actors c queued =
+unfoldable pub releaseOf : Table → Tables → Cursor → Released
+releaseOf rows x c =
     releasedBy
-    (letGo t rows (slotOn c) (actorAt actors (slotOn c) .consumed) queued)
-    (removeKey keys (c .group) (c .key))
+    (letGo (x .links) rows (slotOn c) (actorAt (x .actors) (slotOn c) .consumed) (x .queued))
+    (removeKey (x .keys) (c .group) (c .key))
 
 unfoldable pub blockAt : Table → Table → Cursor → Wake → Keyed
 blockAt keys actors c until =
@@ -110,9 +101,8 @@ abbrev pub settledKeys : Table → Keyed → At → ℕ → Settling
 settledKeys t k a queued =
     record { links = t; keys = k .keys; actors = k .actors; settled = settledAt a queued }
 
-unfoldable pub settleOf : Table → Table → Table → Table → Cursor → Step → ℕ → Settling
-settleOf t rows keys actors c step.Done queued =
-    settledRelease (releaseOf t rows keys actors c queued) actors (readyAfter c)
-settleOf t rows keys actors c (step.Parked p) queued = settledKeys t (parkAt keys actors c p) (readyAfter c) queued
-settleOf t rows keys actors c step.Failed queued =
-    settledRelease (releaseOf t rows keys actors c queued) actors (at.Runs (point.Crash c))
+unfoldable pub settleOf : Table → Tables → Cursor → Step → Settling
+settleOf rows x c step.Done = settledRelease (releaseOf rows x c) (x .actors) (readyAfter c)
+settleOf rows x c (step.Parked p) =
+    settledKeys (x .links) (parkAt (x .keys) (x .actors) c p) (readyAfter c) (x .queued)
+settleOf rows x c step.Failed = settledRelease (releaseOf rows x c) (x .actors) (at.Runs (point.Crash c))

@@ -10,6 +10,7 @@ use Rattle.lists.specs.Links.{pick, Table}
 use Rattle.lists.specs.KeyLists.{blankRow, keysAt, countOf, frontOf, popFront}
 use Rattle.actor.specs.declared.question.Reply.{Reply}
 use Rattle.actor.specs.declared.question.CountIn.{CountIn}
+use Rattle.actor.specs.declared.question.Who.{Who}
 use Rattle.actor.specs.declared.question.CountIn.the-variants as count
 use Rattle.actor.specs.declared.state.Actor.{Actor}
 use Rattle.actor.specs.declared.state.Mode.{Mode}
@@ -22,7 +23,7 @@ use Rattle.group.specs.declared.at.At.{At}
 use Rattle.group.specs.declared.at.At.the-variants as at
 use Rattle.group.specs.declared.at.Ask.the-variants as asks
 use Rattle.group.specs.declared.at.Point.the-variants as point
-use Rattle.group.specs.Roster.{REST, readyRow, waitingRow, slotAt, Keyed, pushKey, liveOf, scheduleOf}
+use Rattle.group.specs.Roster.{REST, readyRow, waitingRow, slotAt, Keyed, keyed, pushKey, liveOf, scheduleOf}
 
 -- what a step over keys changes, and where the turn stands then
 pub record Listed : Type 0 where
@@ -73,41 +74,36 @@ abbrev pub wakedTo : Keyed → At → Waked
 wakedTo k a = record { keys = k .keys; actors = k .actors; at = a }
 
 -- past its deadline it is awake; else it may be polled
-unfoldable pub wakeOne : Table → Table → ℕ → ℕ → ℕ → ℕ → Waked
-wakeOne keys actors g k clock left =
-    pick (liveOf keys g k)
-    (pick (lateAt (actorAt actors (slotAt g k) .«wake_at») clock)
-    (wakedTo (wokenTo keys actors g k true) (at.Runs (point.WakeNext g clock left)))
-    (pick (pollsOf (actorAt actors (slotAt g k)))
-    (record { keys = keys; actors = actors; at = at.Asks (asks.WakePoll g k clock left) })
-    (wakedTo (wokenTo keys actors g k false) (at.Runs (point.WakeNext g clock left)))))
-    (record { keys = keys; actors = actors; at = at.Runs (point.WakeNext g clock left) })
+unfoldable pub wakeOne : Keyed → ℕ → ℕ → ℕ → ℕ → Waked
+wakeOne x g k clock left =
+    pick (liveOf (x .keys) g k)
+    (pick (lateAt (actorAt (x .actors) (slotAt g k) .«wake_at») clock)
+    (wakedTo (wokenTo (x .keys) (x .actors) g k true) (at.Runs (point.WakeNext g clock left)))
+    (pick (pollsOf (actorAt (x .actors) (slotAt g k)))
+    (wakedTo x (at.Asks (asks.WakePoll g k clock left)))
+    (wakedTo (wokenTo (x .keys) (x .actors) g k false) (at.Runs (point.WakeNext g clock left)))))
+    (wakedTo x (at.Runs (point.WakeNext g clock left)))
 
 -- pops: how many keys the ready list has at the end of the group's own wake
-abbrev pub readyNow : Table → Table → ℕ → ℕ → Waked
-readyNow keys actors g clock =
-    record {
-      keys = keys;
-      actors = actors;
-      at = at.Runs (point.Ready g clock (atMost64 (countOf (keysAt keys (readyRow g)))));
-    }
+abbrev pub readyNow : Keyed → ℕ → ℕ → Waked
+readyNow x g clock =
+    wakedTo x (at.Runs (point.Ready g clock (atMost64 (countOf (keysAt (x .keys) (readyRow g))))))
 
-abbrev pub wakeFirst : Table → Table → ℕ → ℕ → ℕ → Key → Waked
-wakeFirst keys actors g clock left (key.At k) =
-    wakeOne (set keys REST (popFront (keysAt keys REST))) actors g k clock (left - 1)
-wakeFirst keys actors g clock left key.Nothing = readyNow keys actors g clock
+abbrev pub wakeFirst : Keyed → ℕ → ℕ → ℕ → Key → Waked
+wakeFirst x g clock left (key.At k) =
+    wakeOne (keyed (set (x .keys) REST (popFront (keysAt (x .keys) REST))) (x .actors)) g k clock (left - 1)
+wakeFirst x g clock left key.Nothing = readyNow x g clock
 
-unfoldable pub wakeNext : Table → Table → ℕ → ℕ → ℕ → Waked
-wakeNext keys actors g clock left =
-    pick (eqb left 0) (readyNow keys actors g clock) (wakeFirst keys actors g clock left (frontOf (keysAt keys REST)))
+unfoldable pub wakeNext : Keyed → ℕ → ℕ → ℕ → Waked
+wakeNext x g clock left =
+    pick (eqb left 0) (readyNow x g clock) (wakeFirst x g clock left (frontOf (keysAt (x .keys) REST)))
 
 -- Poll: above 0 it is awake
-abbrev pub pollBy : Table → Table → ℕ → ℕ → ℕ → ℕ → CountIn → Waked
-pollBy keys actors g k clock left (count.Of n) =
-    pick (ltb 0 n) (wakedTo (wokenTo keys actors g k true) (at.Runs (point.WakeNext g clock left)))
-    (wakedTo (wokenTo keys actors g k false) (at.Runs (point.WakeNext g clock left)))
-pollBy keys actors g k clock left count.Other =
-    record { keys = keys; actors = actors; at = at.Asks (asks.WakePoll g k clock left) }
+abbrev pub pollBy : Keyed → Who → ℕ → ℕ → CountIn → Waked
+pollBy x who clock left (count.Of n) =
+    wakedTo (wokenTo (x .keys) (x .actors) (who .group) (who .key) (ltb 0 n))
+    (at.Runs (point.WakeNext (who .group) clock left))
+pollBy x who clock left count.Other = wakedTo x (at.Asks (asks.WakePoll (who .group) (who .key) clock left))
 
-unfoldable pub pollReply : Table → Table → ℕ → ℕ → ℕ → ℕ → Reply → Waked
-pollReply keys actors g k clock left r = pollBy keys actors g k clock left (countIn r)
+unfoldable pub pollReply : Keyed → Who → ℕ → ℕ → Reply → Waked
+pollReply x who clock left r = pollBy x who clock left (countIn r)

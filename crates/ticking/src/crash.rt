@@ -14,6 +14,7 @@ ghost use Rattle.ticking.specs.Crash.{
   doomedOf,
   crashedOf,
 };
+ghost use Rattle.ticking.specs.Crash.{retiring, dying};
 use crate::settle;
 use actor::message;
 use actor::question;
@@ -57,7 +58,7 @@ fn crashed_entry(
 ) -> u64
     ensures { λ r.
         ⌜ record { links = now (links .exit); rows = now (rows .exit); dead = r }
-        ≡ crashedEntry (now (groups .entry)) (now (links .entry)) (now (rows .entry)) g from entry dead ⌝ }
+        ≡ crashedEntry (now (groups .entry)) (dying (now (links .entry)) (now (rows .entry)) dead) g from entry ⌝ }
 {
     let s = settings::group_at(groups, g);
     let retry = s.retry;
@@ -84,7 +85,7 @@ fn crashed_first(
 ) -> u64
     ensures { λ r.
         ⌜ record { links = now (links .exit); rows = now (rows .exit); dead = r }
-        ≡ crashedFirst (now (groups .entry)) (now (links .entry)) (now (rows .entry)) g from dead ⌝ }
+        ≡ crashedFirst (now (groups .entry)) (dying (now (links .entry)) (now (rows .entry)) dead) g from ⌝ }
 {
     match lists::first(links, from) {
         Found::Entry(e) => crashed_entry(groups, links, rows, g, from, e, dead),
@@ -173,8 +174,7 @@ fn doomed_key(
 ) -> Crashed
     ensures { λ r.
         ⌜ record { links = now (links .exit); rows = now (rows .exit); keys = now (lists .exit); crashed = crashedOf r }
-        ≡ doomedKey (now (groups .entry)) (now (links .entry)) (now (rows .entry)) (now (lists .entry)) c key
-        left queued losses ⌝ }
+        ≡ doomedKey (now (groups .entry)) (retiring (now (links .entry)) (now (rows .entry)) (now (lists .entry)) queued losses) c key left ⌝ }
 {
     let slot = roster::slot_at(c.group, key);
     settle::remove_key(lists, c.group, key);
@@ -208,8 +208,7 @@ pub fn doomed(
 ) -> Crashed
     ensures { λ r.
         ⌜ record { links = now (links .exit); rows = now (rows .exit); keys = now (lists .exit); crashed = crashedOf r }
-        ≡ doomedOf (now (groups .entry)) (now (links .entry)) (now (rows .entry)) (now (lists .entry)) c left
-        queued losses ⌝ }
+        ≡ doomedOf (now (groups .entry)) (retiring (now (links .entry)) (now (rows .entry)) (now (lists .entry)) queued losses) c left ⌝ }
 {
     let next = at::ready_after(c);
     if left == 0 {

@@ -2,6 +2,7 @@
 ghost use mathlib.Core.Path.{_≡_};
 ghost use Rattle.group.specs.Words.{atOf};
 ghost use Rattle.ticking.specs.Ready.{restsOf, beginFixed, beginEval, beginStep, readyKey, readyOf, begunOf};
+ghost use Rattle.ticking.specs.Ready.{readying};
 use actor::state;
 use actor::state::Actor;
 use actor::state::Mode;
@@ -104,7 +105,7 @@ fn ready_key(
 ) -> Begun
     ensures { λ r.
         ⌜ record { links = now (links .exit); actors = now (actors .exit); begun = begunOf r }
-        ≡ readyKey (now (links .entry)) (now (lists .entry)) (now (actors .entry)) c queued stepped ⌝ }
+        ≡ readyKey (readying (now (links .entry)) (now (lists .entry)) (now (actors .entry)) queued stepped) c ⌝ }
 {
     let next = at::ready_after(c);
     let there = roster::live(lists, c.group, c.key);
@@ -143,7 +144,7 @@ pub fn ready(
 ) -> Begun
     ensures { λ r.
         ⌜ record { links = now (links .exit); keys = now (lists .exit); actors = now (actors .exit); begun = begunOf r }
-        ≡ readyOf (now (links .entry)) (now (lists .entry)) (now (actors .entry)) queued stepped g clock pops ⌝ }
+        ≡ readyOf (readying (now (links .entry)) (now (lists .entry)) (now (actors .entry)) queued stepped) g clock pops ⌝ }
 {
     let after = at::next_group(g);
     if pops == 0 {

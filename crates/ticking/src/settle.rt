@@ -4,6 +4,7 @@ ghost use Rattle.steps.specs.Words.{parkedOf, stepOf};
 ghost use Rattle.group.specs.Words.{atOf};
 ghost use Rattle.ticking.specs.Settle.{stepEnd, removeKey, letGo, releaseOf, blockAt, yieldAt, parkAt};
 ghost use Rattle.ticking.specs.Settle.{settleOf, settledOf};
+ghost use Rattle.group.specs.Roster.{tables};
 use actor::state;
 use actor::state::Wake;
 use group::at;
@@ -87,7 +88,7 @@ fn release(
 ) -> u64
     ensures { λ r.
         ⌜ record { links = now (links .exit); keys = now (lists .exit); queued = r }
-        ≡ releaseOf (now (links .entry)) (now (rows .entry)) (now (lists .entry)) (now (actors .entry)) c queued
+        ≡ releaseOf (now (rows .entry)) (tables (now (links .entry)) (now (lists .entry)) (now (actors .entry)) queued) c
         ⌝ }
 {
     let slot = roster::slot_at(c.group, c.key);
@@ -155,8 +156,7 @@ pub fn settle(
           actors = now (actors .exit);
           settled = settledOf r;
         }
-        ≡ settleOf (now (links .entry)) (now (rows .entry)) (now (lists .entry)) (now (actors .entry)) c
-        (stepOf step) queued ⌝ }
+        ≡ settleOf (now (rows .entry)) (tables (now (links .entry)) (now (lists .entry)) (now (actors .entry)) queued) c (stepOf step) ⌝ }
 {
     let next = at::ready_after(c);
     let kind = step::step_kind(step.end);

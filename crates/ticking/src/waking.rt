@@ -2,6 +2,8 @@
 ghost use mathlib.Core.Path.{_≡_};
 ghost use Rattle.group.specs.Words.{atOf};
 ghost use Rattle.ticking.specs.Waking.{atMost64, wakeOf, lateAt, pollsOf, wokenTo, wakeOne, wakeNext, pollReply};
+ghost use Rattle.group.specs.Roster.{keyed};
+ghost use Rattle.group.specs.At.{whoOf};
 use actor::question;
 use actor::question::CountIn;
 use actor::question::Reply;
@@ -94,7 +96,7 @@ fn wake_one(
 ) -> Where
     ensures { λ r.
         ⌜ record { keys = now (lists .exit); actors = now (actors .exit); at = atOf r }
-        ≡ wakeOne (now (lists .entry)) (now (actors .entry)) g key clock left ⌝ }
+        ≡ wakeOne (keyed (now (lists .entry)) (now (actors .entry))) g key clock left ⌝ }
 {
     let there = roster::live(lists, g, key);
     if there {
@@ -126,7 +128,7 @@ pub fn wake_next(
 ) -> Where
     ensures { λ r.
         ⌜ record { keys = now (lists .exit); actors = now (actors .exit); at = atOf r }
-        ≡ wakeNext (now (lists .entry)) (now (actors .entry)) g clock left ⌝ }
+        ≡ wakeNext (keyed (now (lists .entry)) (now (actors .entry))) g clock left ⌝ }
 {
     let n = keys::count_at(lists, roster::ready_row(g)) as u64;
     let pops = at_most_64(n);
@@ -155,7 +157,7 @@ pub fn poll_reply(
 ) -> Where
     ensures { λ r.
         ⌜ record { keys = now (lists .exit); actors = now (actors .exit); at = atOf r }
-        ≡ pollReply (now (lists .entry)) (now (actors .entry)) g key clock left reply ⌝ }
+        ≡ pollReply (keyed (now (lists .entry)) (now (actors .entry))) (whoOf g key) clock left reply ⌝ }
 {
     let came = question::count_in(reply);
     match came {

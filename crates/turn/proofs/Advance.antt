@@ -39,7 +39,7 @@ use Rattle.group.specs.Roster.{leastOf}
 use Rattle.routing.specs.Seed.{Seeded, seedOf}
 use Rattle.routing.specs.Intake.{INBOX, PENDING, BATCH, Linked, batchSize, batchOf, intakeOf}
 use Rattle.routing.specs.Route.{Sent, undeliverable, deliver, deliverKey, routeLeast, spawnedSent, routeSpawned}
-use Rattle.routing.specs.Route.{routeNew, routeIdle, routeTo, routeNamed, routeOne, routeFirst, routeOf}
+use Rattle.routing.specs.Route.{routeNew, idleElse, routeTo, routeNamed, routeOne, routeFirst, routeOf}
 use Rattle.ticking.specs.declared.crash.Losses.{Losses}
 use Rattle.ticking.specs.Waking.{Listed, Waked, atMost64, wakeOf, lateAt, pollsOf, wakeOne, wakeFirst, wakeNext}
 use Rattle.ticking.specs.Ready.{Stepping, Readied, restsOf, beginFixed, beginEval, beginBy, beginStep, unscheduled}
@@ -53,6 +53,10 @@ use Rattle.turn.specs.Go.{goOf}
 use Rattle.turn.specs.Weight.{popsLeft, weightAt, weightIn, weightBy, weightOf}
 use Rattle.turn.specs.Step.{markAt, goFree, stepAt, stepOf, advanceOf, advanced}
 use Rattle.turn.specs.Advance.{GoesOn, here, step, Stops, Advances, AdvancesOnly}
+use Rattle.group.specs.Roster.{tables, keyed, mailed}
+use Rattle.routing.specs.Route.{programs}
+use Rattle.ticking.specs.Ready.{readying}
+use Rattle.ticking.specs.Crash.{retiring}
 
 pick-rule : {A : Type 0} (P : A → Type 0) (b : Bool) {x y : A} → (b ≡ true → P x) → (b ≡ false → P y) → P (pick b x y)
 pick-rule P true f g = f refl
@@ -103,33 +107,33 @@ module _ (left : ℕ) (some : 0 < left) where
   unfolding undeliverable weightIn weightAt
   lost-less t rows = omega arith
 
-  deliver-less : (t keys actors : Table) (g k queued : ℕ) → Less (deliver t keys actors g k queued left)
+  deliver-less : (t keys actors : Table) (g k queued : ℕ) → Less (deliver (tables t keys actors queued) g k left)
   unfolding deliver weightIn weightAt
   deliver-less t keys actors g k queued = omega arith
 
   key-less : (t rows keys actors : Table) (g : ℕ) (k : Key) (queued : ℕ)
-      → Less (deliverKey t rows keys actors g k queued left)
+      → Less (deliverKey rows (tables t keys actors queued) g k left)
   unfolding deliverKey
   key-less t rows keys actors g (key.At k) queued = deliver-less t keys actors g k queued
   key-less t rows keys actors g key.Nothing queued = lost-less t rows
 
-  least-less : (t rows keys actors : Table) (g queued : ℕ) → Less (routeLeast t rows keys actors g queued left)
+  least-less : (t rows keys actors : Table) (g queued : ℕ) → Less (routeLeast rows (tables t keys actors queued) g left)
   unfolding routeLeast
   least-less t rows keys actors g queued = key-less t rows keys actors g (leastOf keys t g) queued
 
   spawned-less : (t rows : Table) (g queued : ℕ) (keys actors : Table) (k : Key)
-      → Less (spawnedSent t rows g queued left keys actors k)
+      → Less (spawnedSent rows (tables t keys actors queued) g left k)
   spawned-less t rows g queued keys actors (key.At k) = deliver-less t keys actors g k queued
   spawned-less t rows g queued keys actors key.Nothing = least-less t rows keys actors g queued
 
   spawn-less : (t rows keys actors : Table) (g : ℕ) (eval : Bool) (queued : ℕ)
-      → Less (routeSpawned t rows keys actors g eval queued left)
+      → Less (routeSpawned rows (tables t keys actors queued) g eval left)
   unfolding routeSpawned
   spawn-less t rows keys actors g eval queued =
       let s = spawnOf keys actors g eval in spawned-less t rows g queued (s .keys) (s .actors) (s .key)
 
   new-less : (groups t rows keys actors : Table) (g queued : ℕ)
-      → Less (routeNew groups t rows keys actors g queued left)
+      → Less (routeNew groups rows (tables t keys actors queued) g left)
   unfolding routeNew weightIn weightAt
   new-less groups t rows keys actors g queued =
       pick-rule Less (ltb (liveLen keys g) (groupAt groups g .ceiling))
@@ -138,29 +142,29 @@ module _ (left : ℕ) (some : 0 < left) where
       (λ e. least-less t rows keys actors g queued)
 
   idle-less : (groups t rows actors : Table) (g queued : ℕ) (keys : Table) (k : Key)
-      → Less (routeIdle groups t rows actors g queued left keys k)
+      → Less (idleElse (tables t keys actors queued) g left k (routeNew groups rows (tables t keys actors queued) g left))
   idle-less groups t rows actors g queued keys (key.At k) = deliver-less t keys actors g k queued
   idle-less groups t rows actors g queued keys key.Nothing = new-less groups t rows keys actors g queued
 
-  to-less : (groups t rows keys actors : Table) (g queued : ℕ) → Less (routeTo groups t rows keys actors g queued left)
+  to-less : (groups t rows keys actors : Table) (g queued : ℕ) → Less (routeTo groups rows (tables t keys actors queued) g left)
   unfolding routeTo
   to-less groups t rows keys actors g queued = let p = popIdleOf keys actors g in idle-less groups t rows actors g
       queued (p .keys) (p .key)
 
   named-less : (groups t rows keys actors : Table) (queued : ℕ) (n : Named)
-      → Less (routeNamed groups t rows keys actors queued left n)
+      → Less (routeNamed groups rows (tables t keys actors queued) left n)
   named-less groups t rows keys actors queued (named.Group g) = to-less groups t rows keys actors g queued
   named-less groups t rows keys actors queued named.Nothing = lost-less t rows
 
   first-less : (groups : Table) (count : ℕ) (store : List ℕ) (t rows keys actors : Table) (queued : ℕ) (f : Found)
-      → Less (routeFirst groups count store t rows keys actors queued left f)
+      → Less (routeFirst (programs groups count store) rows (tables t keys actors queued) left f)
   unfolding routeOne weightIn weightAt
   first-less groups count store t rows keys actors queued (found.Entry e) =
       named-less groups t rows keys actors queued (groupFor groups store e (messageAt rows e .name) count)
   first-less groups count store t rows keys actors queued found.Nothing = omega arith
 
 route-falls : (groups : Table) (count : ℕ) (store : List ℕ) (t rows keys actors : Table) (queued left : ℕ)
-    → weightIn (routeOf groups count store t rows keys actors queued left .routed .at)
+    → weightIn (routeOf (programs groups count store) rows (tables t keys actors queued) left .routed .at)
     < weightIn (at.Runs (point.Route left))
 unfolding routeOf weightIn weightAt
 route-falls groups count store t rows keys actors queued left =
@@ -183,7 +187,7 @@ wake-falls keys n g clock =
     (λ e. pick-rule P (leb 8 g) (λ f. omega arith)
     (λ f. omega (arith, leb-false 8 g f, at-most (countOf (keysAt keys (waitingRow g))))))
 
-one-falls : (keys actors : Table) (g k clock left : ℕ) → weightIn (wakeOne keys actors g k clock left .at) ≤ weightIn
+one-falls : (keys actors : Table) (g k clock left : ℕ) → weightIn (wakeOne (keyed keys actors) g k clock left .at) ≤ weightIn
     (at.Runs (point.WakeNext g clock left))
 unfolding wakeOne weightIn weightAt
 one-falls keys actors g k clock left =
@@ -200,13 +204,13 @@ unfolding weightIn weightAt
 ready-now keys g clock left = omega (arith, at-most (countOf (keysAt keys (readyRow g))))
 
 front-falls : (keys actors : Table) (g clock left : ℕ) (k : Key) → 0 < left
-    → weightIn (wakeFirst keys actors g clock left k .at) < weightIn (at.Runs (point.WakeNext g clock left))
+    → weightIn (wakeFirst (keyed keys actors) g clock left k .at) < weightIn (at.Runs (point.WakeNext g clock left))
 unfolding weightIn weightAt
 front-falls keys actors g clock left (key.At k) some =
     omega (arith, one-falls (set keys REST (popFront (keysAt keys REST))) actors g k clock (left - 1))
 front-falls keys actors g clock left key.Nothing some = ready-now keys g clock left
 
-next-falls : (keys actors : Table) (g clock left : ℕ) → weightIn (wakeNext keys actors g clock left .at) < weightIn
+next-falls : (keys actors : Table) (g clock left : ℕ) → weightIn (wakeNext (keyed keys actors) g clock left .at) < weightIn
     (at.Runs (point.WakeNext g clock left))
 unfolding wakeNext
 next-falls keys actors g clock left =
@@ -222,13 +226,13 @@ eval-begun c (eval.Asks a) = omega arith
 eval-begun c (eval.Ended p) = omega arith
 
 begin-by : (t actors : Table) (c : Cursor) (slot queued : ℕ) (m : Mode)
-    → weightIn (beginBy t actors c slot queued m .begun .at) ≤ popsLeft (c .group) (c .pops) + 60
+    → weightIn (beginBy (mailed t queued) actors c slot m .begun .at) ≤ popsLeft (c .group) (c .pops) + 60
 unfolding beginFixed beginEval weightIn weightAt
 begin-by t actors c slot queued mode.Fixed = omega arith
 begin-by t actors c slot queued mode.Eval = eval-begun c (evalStart t actors slot queued .step .next)
 
 key-begun : (t keys actors : Table) (c : Cursor) (queued : ℕ) (stepped : Bool)
-    → weightIn (readyKey t keys actors c queued stepped .begun .at) ≤ popsLeft (c .group) (c .pops) + 60
+    → weightIn (readyKey (readying t keys actors queued stepped) c .begun .at) ≤ popsLeft (c .group) (c .pops) + 60
 unfolding readyKey beginStep weightIn weightAt
 key-begun t keys actors c queued stepped =
     let slot = slotAt (c .group) (c .key) in
@@ -248,7 +252,7 @@ wake-after g clock pops =
     (λ e. omega arith)
 
 ready-front : (t keys actors : Table) (queued : ℕ) (stepped : Bool) (g clock pops : ℕ) (k : Key) → 0 < pops
-    → weightIn (readyFront t keys actors queued stepped g clock pops k .begun .at)
+    → weightIn (readyFront (readying t keys actors queued stepped) g clock pops k .begun .at)
     < weightIn (at.Runs (point.Ready g clock pops))
 unfolding weightIn weightAt
 ready-front t keys actors queued stepped g clock pops (key.At k) some =
@@ -256,7 +260,7 @@ ready-front t keys actors queued stepped g clock pops (key.At k) some =
 ready-front t keys actors queued stepped g clock pops key.Nothing some = wake-after g clock pops
 
 ready-falls : (t keys actors : Table) (queued : ℕ) (stepped : Bool) (g clock pops : ℕ)
-    → weightIn (readyOf t keys actors queued stepped g clock pops .begun .at)
+    → weightIn (readyOf (readying t keys actors queued stepped) g clock pops .begun .at)
     < weightIn (at.Runs (point.Ready g clock pops))
 unfolding readyOf
 ready-falls t keys actors queued stepped g clock pops =
@@ -273,7 +277,7 @@ end-falls c (end.Fixed s) = omega arith
 end-falls c (end.Eval p) = omega arith
 
 settle-falls : (t rows keys actors : Table) (c : Cursor) (s : Step) (queued : ℕ)
-    → weightIn (settleOf t rows keys actors c s queued .settled .at) < weightIn (at.Runs (point.Settle c s))
+    → weightIn (settleOf rows (tables t keys actors queued) c s .settled .at) < weightIn (at.Runs (point.Settle c s))
 unfolding settleOf weightIn weightAt
 settle-falls t rows keys actors c ended.Done queued = omega arith
 settle-falls t rows keys actors c (ended.Parked p) queued = omega arith
@@ -288,14 +292,14 @@ unfolding weightIn weightAt
 trap-falls c = omega arith
 
 doomed-front : (groups t rows keys : Table) (c : Cursor) (left queued : ℕ) (l : Losses) (k : Key) → 0 < left
-    → weightIn (doomedFront groups t rows keys c left queued l k .crashed .at)
+    → weightIn (doomedFront groups (retiring t rows keys queued l) c left k .crashed .at)
     < weightIn (at.Runs (point.Doomed c left))
 unfolding doomedKey weightIn weightAt
 doomed-front groups t rows keys c left queued l (key.At k) some = omega arith
 doomed-front groups t rows keys c left queued l key.Nothing some = omega arith
 
 doomed-falls : (groups t rows keys : Table) (c : Cursor) (left queued : ℕ) (l : Losses)
-    → weightIn (doomedOf groups t rows keys c left queued l .crashed .at) < weightIn (at.Runs (point.Doomed c left))
+    → weightIn (doomedOf groups (retiring t rows keys queued l) c left .crashed .at) < weightIn (at.Runs (point.Doomed c left))
 unfolding doomedOf weightIn weightAt
 doomed-falls groups t rows keys c left queued l =
     pick-rule (λ (s : Crashing). weightIn (s .crashed .at) < weightIn (at.Runs (point.Doomed c left))) (eqb left 0)

@@ -4,13 +4,14 @@ use Rattle.group.specs.declared.at.Ask.the-variants as asks
 use Rattle.group.specs.declared.at.Point.{Point}
 use Rattle.group.specs.declared.at.Point.the-variants as point
 use Rattle.group.specs.declared.at.Cursor.{Cursor}
+use Rattle.group.specs.Roster.{Tables, keyed, tables}
 use Rattle.routing.specs.Seed.{Seeded, seedOf}
 use Rattle.routing.specs.Intake.{Linked, intakeOf}
-use Rattle.routing.specs.Route.{Sent, routeOf}
+use Rattle.routing.specs.Route.{Sent, programs, routeOf}
 use Rattle.ticking.specs.Waking.{Listed, Waked, wakeOf, wakeNext}
-use Rattle.ticking.specs.Ready.{Readied, readyOf}
+use Rattle.ticking.specs.Ready.{Readied, readying, readyOf}
 use Rattle.ticking.specs.Settle.{Settling, stepEnd, settleOf}
-use Rattle.ticking.specs.Crash.{Losing, Crashing, crashOf, doomedOf}
+use Rattle.ticking.specs.Crash.{Losing, Crashing, retiring, crashOf, doomedOf}
 use Rattle.turn.specs.State.{State, withPool, withLinks, withRows, withKeys, withActors}
 use Rattle.turn.specs.State.{stoodAt, queuedAt, steppedAt, lostAt}
 
@@ -69,6 +70,10 @@ retired s d =
     (d .rows))
     (d .keys)
 
+-- the tables that routing and settling work on
+abbrev pub tablesOf : State → Tables
+tablesOf s = tables (s .links) (s .keys) (s .actors) (s .pool .turn .counts .queued)
+
 -- ---- the points
 
 unfoldable pub goOf : State → Point → State
@@ -77,20 +82,19 @@ goOf s (point.Intake left) =
     linked s (intakeOf (s .links) (s .pool .turn .counts .queued) (s .pool .limits .backlog) left)
 goOf s (point.Route left) =
     routed s
-    (routeOf (s .groups) (s .pool .limits .groups) (s .store) (s .links) (s .rows) (s .keys) (s .actors)
-    (s .pool .turn .counts .queued) left)
+    (routeOf (programs (s .groups) (s .pool .limits .groups) (s .store)) (s .rows) (tablesOf s) left)
 goOf s (point.Wake g clock) = listed s (wakeOf (s .keys) (s .pool .limits .groups) g clock)
-goOf s (point.WakeNext g clock left) = waked s (wakeNext (s .keys) (s .actors) g clock left)
+goOf s (point.WakeNext g clock left) = waked s (wakeNext (keyed (s .keys) (s .actors)) g clock left)
 goOf s (point.Ready g clock pops) =
     readied s
-    (readyOf (s .links) (s .keys) (s .actors) (s .pool .turn .counts .queued) (s .pool .turn .counts .stepped) g clock
-    pops)
+    (readyOf
+    (readying (s .links) (s .keys) (s .actors) (s .pool .turn .counts .queued) (s .pool .turn .counts .stepped)) g
+    clock pops)
 goOf s (point.StepEnd c e) = withPool s (stoodAt (s .pool) (stepEnd c e))
-goOf s (point.Settle c step) =
-    settled s (settleOf (s .links) (s .rows) (s .keys) (s .actors) c step (s .pool .turn .counts .queued))
+goOf s (point.Settle c step) = settled s (settleOf (s .rows) (tablesOf s) c step)
 goOf s (point.Crash c) = crashed s c (crashOf (s .groups) (s .links) (s .rows) c (s .pool .turn .counts .losses))
 goOf s (point.AskTrap c) = withPool s (stoodAt (s .pool) (at.Asks (asks.Trap c)))
 goOf s (point.Doomed c left) =
     retired s
-    (doomedOf (s .groups) (s .links) (s .rows) (s .keys) c left (s .pool .turn .counts .queued)
-    (s .pool .turn .counts .losses))
+    (doomedOf (s .groups)
+    (retiring (s .links) (s .rows) (s .keys) (s .pool .turn .counts .queued) (s .pool .turn .counts .losses)) c left)

@@ -6,6 +6,7 @@ use Rattle.actor.specs.declared.question.ClockIn.the-variants as clock
 use Rattle.actor.specs.Questions.{clockIn}
 use Rattle.steps.specs.declared.step.Step.{Step}
 use Rattle.steps.specs.declared.eval.Limit.{Limit}
+use Rattle.steps.specs.Steps.{stepTables}
 use Rattle.steps.specs.StepFixed.{FixedBoth, stepFixed}
 use Rattle.steps.specs.StepEval.{EvalBoth, stepEval}
 use Rattle.group.specs.declared.at.At.{At}
@@ -14,15 +15,15 @@ use Rattle.group.specs.declared.at.Ask.{Ask}
 use Rattle.group.specs.declared.at.Ask.the-variants as asks
 use Rattle.group.specs.declared.at.Point.the-variants as point
 use Rattle.group.specs.declared.at.Cursor.{Cursor}
-use Rattle.group.specs.At.{fixedAfter, evalAfter}
+use Rattle.group.specs.At.{whoOf, fixedAfter, evalAfter}
 use Rattle.group.specs.Settings.{groupAt}
-use Rattle.group.specs.Roster.{slotAt}
+use Rattle.group.specs.Roster.{keyed, slotOn}
 use Rattle.routing.specs.Seed.{seedReply}
 use Rattle.routing.specs.Route.{routeReply}
 use Rattle.ticking.specs.Waking.{pollReply}
 use Rattle.ticking.specs.Crash.{trapReply, trappedReply}
 use Rattle.turn.specs.State.{State, withPool, withLinks, withActors, stoodAt, queuedAt}
-use Rattle.turn.specs.Go.{seeded, routed, listed, waked}
+use Rattle.turn.specs.Go.{seeded, routed, listed, waked, tablesOf}
 
 -- the tick's clock: the waiting actors of the first group are looked at
 abbrev pub clockBy : ClockIn → At
@@ -65,17 +66,15 @@ limitOf s c = record { timeout = groupAt (s .groups) (c .group) .timeout; tick =
 
 unfoldable pub resumeOf : State → Ask → Reply → State
 resumeOf s (asks.SeedBoot g) r = seeded s (seedReply (s .keys) (s .actors) g r)
-resumeOf s (asks.RouteBoot g left) r =
-    routed s
-    (routeReply (s .links) (s .rows) (s .keys) (s .actors) g (s .pool .turn .counts .queued) left r)
+resumeOf s (asks.RouteBoot g left) r = routed s (routeReply (s .rows) (tablesOf s) g left r)
 resumeOf s asks.TickClock r = withPool s (stoodAt (s .pool) (clockReply r))
-resumeOf s (asks.WakePoll g k clock left) r = waked s (pollReply (s .keys) (s .actors) g k clock left r)
+resumeOf s (asks.WakePoll g k clock left) r =
+    waked s (pollReply (keyed (s .keys) (s .actors)) (whoOf g k) clock left r)
 resumeOf s (asks.Fixed c a) r =
     fixedStepped s c
-    (stepFixed (s .links) (s .rows) (s .actors) (slotAt (c .group) (c .key)) (s .pool .turn .counts .queued) a r)
+    (stepFixed (stepTables (s .links) (s .rows) (s .actors)) (slotOn c) (s .pool .turn .counts .queued) a r)
 resumeOf s (asks.Eval c a) r =
-    evalStepped s c
-    (stepEval (s .links) (s .rows) (s .actors) (slotAt (c .group) (c .key)) (limitOf s c) a r)
+    evalStepped s c (stepEval (stepTables (s .links) (s .rows) (s .actors)) (slotOn c) (limitOf s c) a r)
 resumeOf s (asks.Sends c step) r = withPool s (stoodAt (s .pool) (sendsReply c step r))
 resumeOf s (asks.Trap c) r = listed s (trapReply (s .keys) c r)
 resumeOf s (asks.Trapped c k) r = listed s (trappedReply (s .keys) c k r)

@@ -11,9 +11,10 @@ use Rattle.group.proofs.Loops.{least-more, least-end}
 use borrow.Author.Needs.{needs}
 use Rattle.group.proofs.roster.least_loaded.Statement.{statement}
 use Rattle.group.proofs.roster.least_loaded.Tie as tie
+use Rattle.group.specs.Roster.{betterOf}
 
 abbrev Inv-loop : tie.InvT-loop
-Inv-loop lists links g row best₀ key₀ best key = leastFrom (keysAt lists row) links g 16 0 keys.Nothing ≡ leastFrom (keysAt lists row) links g (16 - key) key best
+Inv-loop lists links g row best₀ key₀ best key = leastFrom (keysAt lists row) (betterOf links g) 16 0 keys.Nothing ≡ leastFrom (keysAt lists row) (betterOf links g) (16 - key) key best
 
 abbrev μ-loop : tie.MeasureT-loop
 μ-loop lists links g row best₀ key₀ best key = 16 - key

@@ -49,8 +49,15 @@ returns c =
     let d4 =
     c .before .before .before .before .before .before .pour-tables .ensures
     ∙ ap
-    (λ d. pourTables (args .show) d (args .records .now) (args .groups .now) (args .links .now) (args .rows .now)
-    (args .lists .now) (args .actors .now))
+    (λ d. pourTables (args .show) d
+    (record {
+      records = args .records .now;
+      groups = args .groups .now;
+      links = args .links .now;
+      rows = args .rows .now;
+      keys = args .lists .now;
+      actors = args .actors .now;
+    }))
     d3 in
     simp (size, said) at (c .before .before .pour-store .ensures ∙ ap (λ d. pourStore (args .show) d (args .store .now)) d4)
 

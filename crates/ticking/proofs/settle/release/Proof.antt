@@ -1,5 +1,6 @@
 -- `settle::release` meets its contract: the key is free, and then the mailbox is let go. Assumes nothing.
-use Rattle.ticking.specs.Settle.{LetGo, releaseOf}
+use Rattle.ticking.specs.Settle.{releaseOf}
+use Rattle.group.specs.Roster.{Mailed}
 use mathlib.Core.Path.{ap}
 use borrow.Author.Needs.{needs}
 use Rattle.ticking.proofs.settle.release.Statement.{statement}
@@ -30,8 +31,8 @@ returns c =
     let e2 = c .before .before .before .before .before .before .actor-at .ensures in
     let e3 = c .before .before .before .before .remove-key .ensures in
     let e4 = c .before .let-go .ensures in
-    let e4-links = ap (λ (s : LetGo). s .links) e4 in
-    let e4-queued = ap (λ (s : LetGo). s .queued) e4 in
+    let e4-links = ap (λ (s : Mailed). s .links) e4 in
+    let e4-queued = ap (λ (s : Mailed). s .queued) e4 in
     simp (e1, e2, e3, e4-links, e4-queued)
 
 pub release-spec : {M : Type 1} → statement M
