@@ -54,24 +54,24 @@ use denote.Triple.Spec.{Meets, tripleOf}
 use denote.Triple.Table.{entered, cited}
 use denote.Triple.Walked.{says, needs, Stays, stay-slice, stay-none, stay-none-slice, walkOf, goes-slice, goes-none, goes-none-slice, Walks, ends-at, walked, walk-meets}
 use borrow.Within.Token.{Rest, within-token, within-end}
-use Rattle.lines.proofs.Local.{lends-local, local-back}
-use Rattle.lines.specs.Lines.{turnAt}
-use Rattle.lines.specs.declared.Lines.{Lines}
-use Rattle.lines.specs.declared.Turn.{Turn}
-use Rattle.lines.specs.declared.Line.{Line}
-use Rattle.lines.proofs.Lines as T
-use Rattle.lines.proofs.Lines.Laws as T′
-use Rattle.lines.proofs.Line as S
-use Rattle.lines.proofs.Line.Laws as S′
-use Rattle.lines.proofs.reader as reader
-use Rattle.lines.proofs.reader.Symbol as reader-def
-use Rattle.lines.proofs.reader.Symbol.{name as #reader}
-use Rattle.lines.proofs.reader.Met as reader-thm
-use Rattle.lines.proofs.next as next
-use Rattle.lines.proofs.next.Symbol as next-def
-use Rattle.lines.proofs.next.Symbol.{name as #next}
-use Rattle.lines.proofs.next.Met as next-thm
-use Rattle.log.specs.Scan.{begun, CanTake, TookTurn, Scanned}
+use Rattle.text.proofs.Local.{lends-local, local-back}
+use Rattle.text.specs.Lines.{nextAt}
+use Rattle.text.specs.declared.lines.Lines.{Lines}
+use Rattle.text.specs.declared.lines.NextLine.{NextLine}
+use Rattle.text.specs.declared.lines.Line.{Line}
+use Rattle.text.proofs.lines.Lines as T
+use Rattle.text.proofs.lines.Lines.Laws as T′
+use Rattle.text.proofs.lines.Line as S
+use Rattle.text.proofs.lines.Line.Laws as S′
+use Rattle.text.proofs.lines.reader as reader
+use Rattle.text.proofs.lines.reader.Symbol as reader-def
+use Rattle.text.proofs.lines.reader.Symbol.{name as #reader}
+use Rattle.text.proofs.lines.reader.Met as reader-thm
+use Rattle.text.proofs.lines.next as next
+use Rattle.text.proofs.lines.next.Symbol as next-def
+use Rattle.text.proofs.lines.next.Symbol.{name as #next}
+use Rattle.text.proofs.lines.next.Met as next-thm
+use Rattle.log.specs.Scan.{begun, CanTake, TookNextLine, Scanned}
 use Rattle.log.specs.declared.opening.Passing.{Passing}
 use Rattle.log.specs.declared.opening.Taken.{Taken}
 use Rattle.log.proofs.Again.{LentAgain, lends-again, comes-back}
@@ -127,7 +127,7 @@ k.take(1, 'post')
 w('use1 W (later (some (λ (l : Line). ((‵ (flft (a ∷ κ1) lq) ⊛ ‵ (flft κ1 rq) ⊛ ‵ ftrue) ⊛ ‵ (S.the-row .own l (u ∷ []))) ⊛ raw (ensured 𝓤 H A next.ended (next.clauses 𝓤 H A at-mem run) (a ∷ κ1, (κ1, tt)) (lent (t .at) l4 δ, tt) tt l)))) (id⊢ 𝓤 _) $ await ! tt $ pick ! (λ l. split ! $')
 k.take(1, 'toks+own', 'ensured')
 w(k.move('ensured') + ' $')
-F = '((_≡_ {A = Turn} (record { line = l; at = z .0 .at }) (turnAt (now s) (t .at))) × (z .0 .log ≡ s))'
+F = '((_≡_ {A = NextLine} (record { line = l; at = z .0 .at }) (nextAt (now s) (t .at))) × (z .0 .log ≡ s))'
 w(f'use1 W (some (λ (z : Lines × Unit {{0}}). ‵ (lasts next.ended (a ∷ κ1, (κ1, tt)) (lent (t .at) l4 δ, tt) z) ⊛ raw (fact 𝓤 {F}))) (id⊢ 𝓤 _) $ pick ! (λ z. split ! $ move ! (1 ∷ []) $ heard ! {F} (λ e. fsplit ! $')
 k.take(1, 'res', 'lasts')
 w(k.move('toks+own') + ' $ split ! $')
@@ -162,7 +162,7 @@ w(k.move('new', 'tok1', 'lrows', 'own') + ' $ group4 ! $ use1 W (raw (The-take �
 k.take(4, 'pre', 'own')
 w('calls-at-last ! fm (The-take 𝓤 H A at-mem run) known-take (to-take d γ₁ t l) (and-then ! %s (and-then ! %s (and-then ! %s (and-then ! %s (and-then ! %s (no-more !)))))) (λ u′.' % tuple(lk(k, x) for x in ['_11', '_2', '_3', '_5', '_6']))
 w('use1 W (later (some (λ (r : Passing). ((‵ (flft (d ∷ []) fullShare) ⊛ ‵ (flft κ1 q1) ⊛ ‵ ftrue) ⊛ ‵ (P.the-row .own r (u′ ∷ []))) ⊛ raw (ensured 𝓤 H A take.ended (take.clauses 𝓤 H A at-mem run) (d ∷ [], (κ1, tt)) (taken-args γ₁ t l) tt r)))) (id⊢ 𝓤 _) $ await ! tt $ pick ! (λ r. split ! $ move ! (1 ∷ []) $')
-G = '(TookTurn lo (now s) (t .ys) (t .p .taken) l r (y .0))'
+G = '(TookNextLine lo (now s) (t .ys) (t .p .taken) l r (y .0))'
 w(f'use1 W (some (λ (y : List (List ℕ) × (Unit {{0}} × (Unit {{0}} × (Unit {{0}} × (Unit {{0}} × Unit {{0}}))))). ‵ (lasts take.ended (d ∷ [], (κ1, tt)) (taken-args γ₁ t l) y) ⊛ raw (fact 𝓤 {G}))) (id⊢ 𝓤 _) $ pick ! (λ y. split ! $ move ! (1 ∷ []) $ heard ! {G} (λ e′. fsplit ! $ fsplit ! $ move ! (1 ∷ []) $ feqL ! (λ len.')
 k.take(1, 'fin', 'lasts2', 'toks+own')
 w(k.move('toks+own') + ' $ split ! $ move ! (1 ∷ []) $')
@@ -232,7 +232,7 @@ def item_of(x):
 inv = ' ∷ '.join(item_of(x) for x in I) + ' ∷ []'
 env = ' ∷ '.join(f'(ty {i}, l{i})' for i in range(N)) + ' ∷ []'
 pad = lambda xs, n: '\n'.join(' ' * n + x for x in xs)
-callees = [('reader', 'reader', 'lines·reader'), ('next', 'next', 'lines·next'), ('begin', 'begin', 'log·opening·begin'), ('take', 'take', 'log·opening·take-line')]
+callees = [('reader', 'reader', 'text·lines·reader'), ('next', 'next', 'text·lines·next'), ('begin', 'begin', 'log·opening·begin'), ('take', 'take', 'log·opening·take-line')]
 mod = '{M : Type 1} (𝓤 : URA M) (H : Heap 𝓤) (A : Atoms 𝓤)'
 contracts = '\n'.join(f'''  abbrev The-{a} : Contract 𝓤
   The-{a} = tripleOf 𝓤 H A {a}.signature ({a}.spec 𝓤 H A mem run)

@@ -4,11 +4,19 @@ import glob, re
 
 ELEMENT = {'u8': ('u8', 'ℕ', 'plain (λ _. u8)')}
 
+def row(name):
+    """what the name of a row stands for: `pub type NAME = [u64; 3];` of some crate"""
+    for file in sorted(glob.glob('crates/*/src/*.rt')):
+        m = re.search(rf'^pub type {name} = (.*);$', open(file).read(), re.M)
+        if m:
+            return m.group(1)
+    return name
+
 def element(text):
     """the element of a slice: its row, its values, its slot in a signature"""
     if text in ELEMENT:
         return ELEMENT[text]
-    word, n = re.fullmatch(r'\[(\w+); (\d+)\]', text).groups()
+    word, n = re.fullmatch(r'\[(\w+); (\d+)\]', row(text)).groups()
     return f'(Array {word} {n})', '(List ℕ)', f'ArrayOf (plain (λ _. {word})) (λ κs. tt) {n}'
 
 def one_line(text):

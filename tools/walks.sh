@@ -5,14 +5,14 @@ set -eu
 export PYTHONDONTWRITEBYTECODE=1
 wal() { python3 tools/stepped.py log wal "$1" Counters "$2" counters "$3" "$4" "$5" "$6" $7; }
 
-python3 tools/held.py lines Lines log at Turn line at Line Lines turnAt next turn_at reader turn_from
-wal append Stepped Answer answer Log:DidAppend,state,appendOf \
+python3 tools/held.py text lines Lines log at NextLine line at Line Lines nextAt next next_at reader next_from
+wal append Answered Answer answer Log:DidAppend,state,appendOf \
     '_≡_ {A = DidAppend} (record { wal = state @log @records P; answer = R }) (appendOf (state #log #records X) #name #body)' \
     'log:mut:u8 records:mut:rows name:shr:u8 body:shr:u8'
-wal mark SteppedDue Due due Log:DidMark,state,markOf \
+wal mark AnsweredDue Due due Log:DidMark,state,markOf \
     '_≡_ {A = DidMark} (record { wal = state @log @records P; due = R }) (markOf #limit (state #log #records X) (#id .0))' \
     'log:mut:u8 records:mut:rows limit:usize id:struct:LogId'
-wal sync SteppedDue Due due Log:syncOf '_≡_ {A = SteppedDue} (record { counters = P; due = R }) (syncOf X)' ''
+wal sync AnsweredDue Due due Log:syncOf '_≡_ {A = AnsweredDue} (record { counters = P; due = R }) (syncOf X)' ''
 python3 tools/looped.py
 python3 tools/site.py turn logged append LoggedLaws.appended-log
 python3 tools/site.py turn logged mark LoggedLaws.marked-log

@@ -79,7 +79,7 @@ pub fn slot(group: usize, key: usize) -> usize {
 
 /// The lists of keys that belong to a turn.
 pub const REST: usize = 32;
-pub const DOOMED: usize = 33;
+pub const TRAPPED: usize = 33;
 
 #[derive(Clone, Copy, PartialEq, Eq, Debug)]
 pub struct OpenRecord {

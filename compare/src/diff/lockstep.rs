@@ -257,8 +257,8 @@ impl Lockstep {
         }
         match &self.pool.at {
             At::WakePoll { rest, .. } => keys("the rest of the waiting list", tables.keys(tables::REST), rest.iter()),
-            At::Trapped { doomed, .. } => keys("the trapped ones", tables.keys(tables::DOOMED), doomed.iter()),
-            At::Doomed { doomed, .. } => keys("the trapped ones", tables.keys(tables::DOOMED), doomed.iter()),
+            At::Trapped { trapped, .. } => keys("the trapped ones", tables.keys(tables::TRAPPED), trapped.iter()),
+            At::CrashTrapped { trapped, .. } => keys("the trapped ones", tables.keys(tables::TRAPPED), trapped.iter()),
             _ => Ok(()),
         }
     }

@@ -17,7 +17,7 @@ use Rattle.actor.specs.declared.state.Wake.the-variants as wake
 use Rattle.actor.specs.declared.state.EvalRun.{EvalRun}
 use Rattle.actor.specs.declared.state.EvalRun.the-variants as run
 use Rattle.actor.specs.declared.state.Actor.{Actor}
-use Rattle.actor.specs.Actors.{modeOf, flagOf, wakeOf, runOf, actorOf, flagOnto, modeOnto, wakeTagOnto}
+use Rattle.actor.specs.Actors.{modeOf, boolOf, wakeOf, runOf, actorOf, flagOnto, modeOnto, wakeTagOnto}
 use Rattle.actor.specs.Actors.{wakeNumberOnto, runTagOnto, runNumberOnto, actorOnto, flagged, numbered}
 use Rattle.actor.specs.Actors.{unnumbered, blockedCells, wokenCells, putActor}
 use Rattle.actor.specs.Actors.{deliveredTo, scheduledAs, beganStep, startedAs, idledAs, consumedAs, yieldedAs}
@@ -25,10 +25,10 @@ use Rattle.actor.specs.Actors.{runningTo, blockedTo, wokenAs}
 
 -- ---- what is as it was keeps its cell
 
-flag-own : (n : ℕ) → flagOnto n (flagOf n) ≡ n
+flag-own : (n : ℕ) → flagOnto n (boolOf n) ≡ n
 flag-own n = go (ℕ-discrete n 0)
   where
-    go : Dec (n ≡ 0) → flagOnto n (flagOf n) ≡ n
+    go : Dec (n ≡ 0) → flagOnto n (boolOf n) ≡ n
     go (yes e) = simp (eq-eqb n 0 e) (sym e)
     go (no e) = simp (ne-eqb n 0 e)
 
@@ -80,7 +80,7 @@ raised n = go (ℕ-discrete n 0)
     go (yes e) = simp (eq-eqb n 0 e)
     go (no e) = simp (ne-eqb n 0 e)
 
-flag-back : (n : ℕ) (b : Bool) → flagOf (flagOnto n b) ≡ b
+flag-back : (n : ℕ) (b : Bool) → boolOf (flagOnto n b) ≡ b
 flag-back n true = rw (raised n)
 flag-back n false = refl
 

@@ -22,8 +22,8 @@ abbrev pub modeCell : Mode → ℕ
 modeCell mode.Fixed = 0
 modeCell mode.Eval = 1
 
-abbrev pub flagOf : ℕ → Bool
-flagOf n = pick (eqb n 0) false true
+abbrev pub boolOf : ℕ → Bool
+boolOf n = pick (eqb n 0) false true
 
 abbrev pub flagCell : Bool → ℕ
 flagCell true = 1
@@ -55,13 +55,13 @@ unfoldable pub actorOf : List ℕ → Actor
 actorOf c =
     record {
       mode = modeOf (getD c 0 0);
-      started = flagOf (getD c 1 0);
-      ran = flagOf (getD c 2 0);
-      idle = flagOf (getD c 3 0);
-      runnable = flagOf (getD c 4 0);
-      scheduled = flagOf (getD c 5 0);
-      blocked = flagOf (getD c 6 0);
-      consumed = flagOf (getD c 7 0);
+      started = boolOf (getD c 1 0);
+      ran = boolOf (getD c 2 0);
+      idle = boolOf (getD c 3 0);
+      runnable = boolOf (getD c 4 0);
+      scheduled = boolOf (getD c 5 0);
+      blocked = boolOf (getD c 6 0);
+      consumed = boolOf (getD c 7 0);
       «wake_at» = wakeOf (getD c 8 0) (getD c 9 0);
       run = runOf (getD c 10 0) (getD c 11 0);
     }

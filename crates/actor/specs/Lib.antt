@@ -2,3 +2,5 @@
 pub mod Messages
 pub mod Questions
 pub mod Actors
+pub mod Entry
+pub mod Part

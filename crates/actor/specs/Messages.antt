@@ -1,12 +1,9 @@
 -- A message's row as cells, and the table of rows.
-use mathlib.Core.Bool.{Bool, true, false}
 use mathlib.Core.List.{List, [], _∷_}
 use Prim.Native.Nat.{ℕ, _+_}
 use lib.Dec.{eqb}
 use lib.ListN.{getD, set}
 use Rattle.lists.specs.Links.{pick, capped}
-use Rattle.actor.specs.declared.message.CallerId.{CallerId}
-use Rattle.log.specs.declared.LogId.{LogId}
 use Rattle.actor.specs.declared.message.Caller.{Caller}
 use Rattle.actor.specs.declared.message.Caller.the-variants.{From, Nobody}
 use Rattle.actor.specs.declared.message.Logged.{Logged}
@@ -40,15 +37,16 @@ abbrev pub messageOf : List ℕ → Message
 messageOf c =
     record {
       attempts = getD c 0 0;
-      name = getD c 1 0;
-      body = getD c 2 0;
+      «name_len» = getD c 1 0;
+      «body_len» = getD c 2 0;
       caller = callerOf (getD c 3 0) (getD c 4 0);
       id = loggedOf (getD c 5 0) (getD c 6 0);
     }
 
 abbrev pub messageCells : Message → List ℕ
 messageCells m =
-    m .attempts ∷ m .name ∷ m .body ∷ callerTag (m .caller) ∷ callerNumber (m .caller) ∷ loggedTag (m .id) ∷
+    m .attempts ∷ m .«name_len» ∷ m .«body_len» ∷ callerTag (m .caller) ∷ callerNumber (m .caller)
+    ∷ loggedTag (m .id) ∷
     loggedNumber (m .id) ∷ []
 
 unfoldable pub messageAt : List (List ℕ) → ℕ → Message
@@ -61,8 +59,8 @@ putMessage rows e m = set rows e (messageCells m)
 abbrev pub triedOf : Message → Message
 triedOf m = record {
   attempts = capped (m .attempts + 1);
-  name = m .name;
-  body = m .body;
+  «name_len» = m .«name_len»;
+  «body_len» = m .«body_len»;
   caller = m .caller;
   id =
       m .id;

@@ -2,7 +2,7 @@
 use mathlib.Core.Bool.{Bool, true, false}
 use Prim.Native.Nat.{ℕ, _+_, _*_}
 use lib.Dec.{eqb, leb}
-use Rattle.lists.specs.Links.{pick}
+use Rattle.lists.specs.Links.{pick, SLOTS, GROUPS, KEYS}
 use Rattle.actor.specs.declared.question.Who.{Who}
 use Rattle.actor.specs.declared.question.Question.{Question}
 use Rattle.actor.specs.declared.question.Question.the-variants as ask
@@ -19,7 +19,7 @@ use Rattle.actor.specs.declared.question.RanIn.the-variants as ran
 
 -- the slot of an actor among the lists, 16 for each of 8 groups
 unfoldable pub slotOf : Who → ℕ
-slotOf who = pick (leb 8 (who .group)) 128 (pick (leb 16 (who .key)) 128 (16 * who .group + who .key))
+slotOf who = pick (leb GROUPS (who .group)) SLOTS (pick (leb KEYS (who .key)) SLOTS (KEYS * who .group + who .key))
 
 -- a reply read by its kind
 abbrev pub yesIn : Reply → YesIn

@@ -7,3 +7,5 @@
 pub mod message; // a message's row: attempts, lengths, caller, log id
 pub mod question; // what is asked, and what may be replied
 pub mod state; // an actor's state
+pub mod entry; // a message put into a free entry
+pub mod part; // the message in question as a part of the body store

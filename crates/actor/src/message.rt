@@ -3,9 +3,16 @@
 // own: one never stands for the other.
 ghost use mathlib.Core.Path.{_≡_};
 ghost use mathlib.Core.List.{[]};
+ghost use lib.ListN.{getD};
+ghost use Prim.Native.Nat.{_<_};
 ghost use Rattle.actor.specs.Messages.{callerOf, callerTag, callerNumber, loggedOf, loggedTag, loggedNumber};
-ghost use Rattle.actor.specs.Messages.{messageOf, messageCells, messageAt, putMessage, triedOf};
+ghost use Rattle.actor.specs.Messages.{messageAt, putMessage, triedOf};
 use log::LogId;
+
+// The most bytes of a name and of a body, as a row counts them.
+pub const NAME: u64 = log::NAME as u64;
+
+pub const BODY: u64 = log::BODY as u64;
 
 // Who waits for the outcome (the Rust's `Reply.id`).
 pub struct CallerId(pub u64);
@@ -22,12 +29,17 @@ pub enum Logged {
     Never,
 }
 
+// A message's row, as it is lent: the attempts, the two lengths, whether there is a caller and its id, whether
+// there is a record and its id.
+pub type MessageRow = [u64; 7];
+
+// What a row means.
 pub struct Message {
     // how often an actor crashed over it
     pub attempts: u64,
     // the lengths of its group's name and of its body
-    pub name: u64,
-    pub body: u64,
+    pub name_len: u64,
+    pub body_len: u64,
     pub caller: Caller,
     pub id: Logged,
 }
@@ -88,81 +100,94 @@ fn logged_number(l: Logged) -> u64
     }
 }
 
-pub fn message_of(c: [u64; 7]) -> Message
-    ensures { λ r. ⌜ r ≡ messageOf c ⌝ }
+// ---- a row of the table; past the table's end it is that of no message: empty, not logged, and nobody waits
+
+// A cell of a row, read where it stands.
+fn cell_at(rows: &[MessageRow], entry: usize, i: usize) -> u64
+    requires { ⌜ i < 7 ⌝ }
+    ensures { λ r. ⌜ r ≡ getD (getD (now (rows .entry)) entry []) i 0 ⌝ }
 {
-    let caller = caller_of(c[3], c[4]);
-    let id = logged_of(c[5], c[6]);
-    Message {
-        attempts: c[0],
-        name: c[1],
-        body: c[2],
-        caller,
-        id,
+    if entry < rows.len() {
+        rows[entry][i]
+    } else {
+        0
     }
 }
 
-pub fn message_cells(m: Message) -> [u64; 7]
-    ensures { λ r. ⌜ r ≡ messageCells m ⌝ }
+// How often it was tried.
+pub fn attempts_at(rows: &[MessageRow], entry: usize) -> u64
+    ensures { λ r. ⌜ r ≡ messageAt (now (rows .entry)) entry .attempts ⌝ }
 {
-    let caller = m.caller;
-    let id = m.id;
+    cell_at(rows, entry, 0)
+}
+
+// How long its group's name is.
+pub fn name_len_at(rows: &[MessageRow], entry: usize) -> u64
+    ensures { λ r. ⌜ r ≡ messageAt (now (rows .entry)) entry .«name_len» ⌝ }
+{
+    cell_at(rows, entry, 1)
+}
+
+// How long its body is.
+pub fn body_len_at(rows: &[MessageRow], entry: usize) -> u64
+    ensures { λ r. ⌜ r ≡ messageAt (now (rows .entry)) entry .«body_len» ⌝ }
+{
+    cell_at(rows, entry, 2)
+}
+
+// Who waits for its outcome.
+pub fn caller_at(rows: &[MessageRow], entry: usize) -> Caller
+    ensures { λ r. ⌜ r ≡ messageAt (now (rows .entry)) entry .caller ⌝ }
+{
+    let tag = cell_at(rows, entry, 3);
+    let number = cell_at(rows, entry, 4);
+    caller_of(tag, number)
+}
+
+// Its record.
+pub fn id_at(rows: &[MessageRow], entry: usize) -> Logged
+    ensures { λ r. ⌜ r ≡ messageAt (now (rows .entry)) entry .id ⌝ }
+{
+    let tag = cell_at(rows, entry, 5);
+    let number = cell_at(rows, entry, 6);
+    logged_of(tag, number)
+}
+
+// A row of the table is stored; past its end nothing is.
+pub fn put_row(
+    rows: &mut [MessageRow],
+    entry: usize,
+    attempts: u64,
+    name: u64,
+    body: u64,
+    caller: Caller,
+    id: Logged,
+)
+    ensures { λ r.
+        ⌜ now (rows .exit)
+        ≡ putMessage (now (rows .entry)) entry
+        (record { attempts = attempts; «name_len» = name; «body_len» = body; caller = caller; id = id }) ⌝ }
+{
     let a = caller_tag(caller);
     let b = caller_number(caller);
     let d = logged_tag(id);
     let e = logged_number(id);
-    [m.attempts, m.name, m.body, a, b, d, e]
-}
-
-// A message that nobody sent, empty and not logged.
-pub fn no_message() -> Message
-    ensures { λ r. ⌜ r ≡ messageOf [] ⌝ }
-{
-    let caller = Caller::Nobody;
-    let id = Logged::Never;
-    Message {
-        attempts: 0,
-        name: 0,
-        body: 0,
-        caller,
-        id,
-    }
-}
-
-// A row of the table, past its end that of no message.
-pub fn message_at(rows: &[[u64; 7]], entry: usize) -> Message
-    ensures { λ r. ⌜ r ≡ messageAt (now (rows .entry)) entry ⌝ }
-{
     if entry < rows.len() {
-        let c = rows[entry];
-        message_of(c)
-    } else {
-        no_message()
-    }
-}
-
-// A row of the table is stored; past its end nothing is.
-pub fn put_message(rows: &mut [[u64; 7]], entry: usize, m: Message)
-    ensures { λ r. ⌜ now (rows .exit) ≡ putMessage (now (rows .entry)) entry m ⌝ }
-{
-    let c = message_cells(m);
-    if entry < rows.len() {
-        rows[entry] = c;
+        rows[entry] = [attempts, name, body, a, b, d, e];
     }
 }
 
 // One attempt more, held at the largest number.
-pub fn tried(m: Message) -> Message
-    ensures { λ r. ⌜ r ≡ triedOf m ⌝ }
+pub fn tried_at(rows: &mut [MessageRow], entry: usize)
+    ensures { λ r.
+        ⌜ now (rows .exit)
+        ≡ putMessage (now (rows .entry)) entry (triedOf (messageAt (now (rows .entry)) entry)) ⌝ }
 {
-    let attempts = lists::sum(m.attempts, 1);
-    let caller = m.caller;
-    let id = m.id;
-    Message {
-        attempts,
-        name: m.name,
-        body: m.body,
-        caller,
-        id,
-    }
+    let before = attempts_at(rows, entry);
+    let name = name_len_at(rows, entry);
+    let body = body_len_at(rows, entry);
+    let caller = caller_at(rows, entry);
+    let id = id_at(rows, entry);
+    let attempts = lists::saturating_add(before, 1);
+    put_row(rows, entry, attempts, name, body, caller, id);
 }

@@ -5,7 +5,11 @@ ghost use mathlib.Core.Path.{_≡_};
 ghost use Rattle.actor.specs.Questions.{slotOf, yesIn, clockIn, countIn, ranIn, isTold, kindOf};
 use crate::message::CallerId;
 use lists::Found;
+use lists::slab;
 use log::Order;
+
+// The keys of a group.
+const KEYS: usize = slab::KEYS as usize;
 
 // An actor: its group and its key there.
 pub struct Who {
@@ -19,13 +23,13 @@ pub fn slot_of(who: Who) -> usize
 {
     let group = who.group;
     let key = who.key;
-    if 8 <= group {
-        return 128;
+    if lists::GROUPS <= group {
+        return lists::SLOTS;
     }
-    if 16 <= key {
-        return 128;
+    if KEYS <= key {
+        return lists::SLOTS;
     }
-    16 * group + key
+    KEYS * group + key
 }
 
 // How a run came back.

@@ -1,12 +1,12 @@
 // The state of an actor: how it runs (fixed or eval), and plain fields. What it has in its mailbox and in its hands
-// are lists of the crate `lists`. It is read as a whole and changed where it lies, in its row of twelve cells: a
-// change stores the cells whose meaning it changes. The definitions are exact for every row; that what is put is read
-// back is `actor-put` (proofs/Back.antt).
+// are lists of the crate `lists`. It is read and changed where it lies, in its row of twelve cells: a read takes the
+// cells that it needs, and a change stores the cells whose meaning it changes. The definitions are exact for every
+// row; that what is put is read back is `actor-put` (proofs/Back.antt).
 ghost use mathlib.Core.Path.{_≡_};
 ghost use mathlib.Core.List.{[]};
-ghost use mathlib.Core.Bool.{Bool};
-ghost use lib.ListN.{set};
-ghost use Rattle.actor.specs.Actors.{modeOf, flagOf, wakeOf, runOf, actorOf, modeOnto, keptNumber, flagged};
+ghost use lib.ListN.{getD, set};
+ghost use Prim.Native.Nat.{_<_};
+ghost use Rattle.actor.specs.Actors.{modeOf, boolOf, wakeOf, runOf, modeOnto, keptNumber, flagged};
 ghost use Rattle.actor.specs.Actors.{numbered, unnumbered, blockedCells, wokenCells, actorAt, putActor};
 ghost use Rattle.actor.specs.Actors.{newActor, deliveredTo, scheduledAs, beganStep, startedAs, idledAs};
 ghost use Rattle.actor.specs.Actors.{consumedAs, runningTo, blockedTo, yieldedAs, wokenAs, deadlineOf, hasRun};
@@ -29,6 +29,11 @@ pub enum EvalRun {
     Nothing,
 }
 
+// An actor's row, as it is lent: the mode, seven flags, whether and when it is woken, whether there is an eval run
+// and its deadline.
+pub type ActorRow = [u64; 12];
+
+// What a row means.
 pub struct Actor {
     pub mode: Mode,
     // the program was started
@@ -55,8 +60,8 @@ fn mode_of(n: u64) -> Mode
     if n == 0 { Mode::Fixed } else { Mode::Eval }
 }
 
-fn flag_of(n: u64) -> bool
-    ensures { λ r. ⌜ r ≡ flagOf n ⌝ }
+fn bool_of(n: u64) -> bool
+    ensures { λ r. ⌜ r ≡ boolOf n ⌝ }
 {
     if n == 0 { false } else { true }
 }
@@ -77,63 +82,121 @@ fn run_of(tag: u64, ns: u64) -> EvalRun
     }
 }
 
-pub fn actor_of(c: [u64; 12]) -> Actor
-    ensures { λ r. ⌜ r ≡ actorOf c ⌝ }
-{
-    let mode = mode_of(c[0]);
-    let started = flag_of(c[1]);
-    let ran = flag_of(c[2]);
-    let idle = flag_of(c[3]);
-    let runnable = flag_of(c[4]);
-    let scheduled = flag_of(c[5]);
-    let blocked = flag_of(c[6]);
-    let consumed = flag_of(c[7]);
-    let wake_at = wake_of(c[8], c[9]);
-    let run = run_of(c[10], c[11]);
-    Actor {
-        mode,
-        started,
-        ran,
-        idle,
-        runnable,
-        scheduled,
-        blocked,
-        consumed,
-        wake_at,
-        run,
-    }
-}
+// ---- a row of the table; past the table's end it is that of a new fixed actor
 
-// An actor that has never been stepped.
-fn new_actor(mode: Mode) -> Actor
-    ensures { λ r. ⌜ r ≡ newActor mode ⌝ }
-{
-    let wake_at = Wake::Never;
-    let run = EvalRun::Nothing;
-    Actor {
-        mode,
-        started: false,
-        ran: false,
-        idle: false,
-        runnable: false,
-        scheduled: false,
-        blocked: false,
-        consumed: false,
-        wake_at,
-        run,
-    }
-}
-
-// A row of the table, past its end a new fixed actor.
-pub fn actor_at(actors: &[[u64; 12]], slot: usize) -> Actor
-    ensures { λ r. ⌜ r ≡ actorAt (now (actors .entry)) slot ⌝ }
+// A cell of a row, read where it stands.
+fn cell_at(actors: &[ActorRow], slot: usize, i: usize) -> u64
+    requires { ⌜ i < 12 ⌝ }
+    ensures { λ r. ⌜ r ≡ getD (getD (now (actors .entry)) slot []) i 0 ⌝ }
 {
     if slot < actors.len() {
-        let c = actors[slot];
-        actor_of(c)
+        actors[slot][i]
     } else {
-        let mode = Mode::Fixed;
-        new_actor(mode)
+        0
+    }
+}
+
+// How it runs.
+pub fn mode_at(actors: &[ActorRow], slot: usize) -> Mode
+    ensures { λ r. ⌜ r ≡ actorAt (now (actors .entry)) slot .mode ⌝ }
+{
+    let n = cell_at(actors, slot, 0);
+    mode_of(n)
+}
+
+// Whether its program was started.
+pub fn is_started(actors: &[ActorRow], slot: usize) -> bool
+    ensures { λ r. ⌜ r ≡ actorAt (now (actors .entry)) slot .started ⌝ }
+{
+    let n = cell_at(actors, slot, 1);
+    bool_of(n)
+}
+
+// Whether it was ever stepped.
+pub fn has_run_once(actors: &[ActorRow], slot: usize) -> bool
+    ensures { λ r. ⌜ r ≡ actorAt (now (actors .entry)) slot .ran ⌝ }
+{
+    let n = cell_at(actors, slot, 2);
+    bool_of(n)
+}
+
+// Whether it is parked in receive() with nothing to take.
+pub fn is_idle(actors: &[ActorRow], slot: usize) -> bool
+    ensures { λ r. ⌜ r ≡ actorAt (now (actors .entry)) slot .idle ⌝ }
+{
+    let n = cell_at(actors, slot, 3);
+    bool_of(n)
+}
+
+// Whether a wait ended.
+pub fn is_runnable(actors: &[ActorRow], slot: usize) -> bool
+    ensures { λ r. ⌜ r ≡ actorAt (now (actors .entry)) slot .runnable ⌝ }
+{
+    let n = cell_at(actors, slot, 4);
+    bool_of(n)
+}
+
+// Whether it is in the ready list.
+pub fn is_scheduled(actors: &[ActorRow], slot: usize) -> bool
+    ensures { λ r. ⌜ r ≡ actorAt (now (actors .entry)) slot .scheduled ⌝ }
+{
+    let n = cell_at(actors, slot, 5);
+    bool_of(n)
+}
+
+// Whether it is parked on a host call.
+pub fn is_blocked(actors: &[ActorRow], slot: usize) -> bool
+    ensures { λ r. ⌜ r ≡ actorAt (now (actors .entry)) slot .blocked ⌝ }
+{
+    let n = cell_at(actors, slot, 6);
+    bool_of(n)
+}
+
+// Whether it ever took a message from its mailbox.
+pub fn has_consumed(actors: &[ActorRow], slot: usize) -> bool
+    ensures { λ r. ⌜ r ≡ actorAt (now (actors .entry)) slot .consumed ⌝ }
+{
+    let n = cell_at(actors, slot, 7);
+    bool_of(n)
+}
+
+// When it is woken at the latest.
+pub fn wakes_at(actors: &[ActorRow], slot: usize) -> Wake
+    ensures { λ r. ⌜ r ≡ actorAt (now (actors .entry)) slot .«wake_at» ⌝ }
+{
+    let tag = cell_at(actors, slot, 8);
+    let ns = cell_at(actors, slot, 9);
+    wake_of(tag, ns)
+}
+
+// Its run between steps, where it has one.
+fn run_at(actors: &[ActorRow], slot: usize) -> EvalRun
+    ensures { λ r. ⌜ r ≡ actorAt (now (actors .entry)) slot .run ⌝ }
+{
+    let tag = cell_at(actors, slot, 10);
+    let ns = cell_at(actors, slot, 11);
+    run_of(tag, ns)
+}
+
+// Whether a run waits between steps.
+pub fn has_run(actors: &[ActorRow], slot: usize) -> bool
+    ensures { λ r. ⌜ r ≡ hasRun (actorAt (now (actors .entry)) slot .run) ⌝ }
+{
+    let run = run_at(actors, slot);
+    match run {
+        EvalRun::Until(_) => true,
+        EvalRun::Nothing => false,
+    }
+}
+
+// The deadline of its run; of none, 0.
+pub fn deadline_of(actors: &[ActorRow], slot: usize) -> u64
+    ensures { λ r. ⌜ r ≡ deadlineOf (actorAt (now (actors .entry)) slot .run) ⌝ }
+{
+    let run = run_at(actors, slot);
+    match run {
+        EvalRun::Until(ns) => ns,
+        EvalRun::Nothing => 0,
     }
 }
 
@@ -200,7 +263,7 @@ fn kept_number(tag: u64, n: u64) -> u64
 // ---- changes of an actor where it lies; past the table's end nothing is stored
 
 // An actor that has never been stepped takes the slot.
-pub fn new_at(actors: &mut [[u64; 12]], slot: usize, mode: Mode)
+pub fn new_at(actors: &mut [ActorRow], slot: usize, mode: Mode)
     ensures { λ r. ⌜ now (actors .exit) ≡ putActor (now (actors .entry)) slot (newActor mode) ⌝ }
 {
     if slot < actors.len() {
@@ -213,7 +276,7 @@ pub fn new_at(actors: &mut [[u64; 12]], slot: usize, mode: Mode)
 }
 
 // A message came to its mailbox: it is idle no more.
-pub fn delivered_at(actors: &mut [[u64; 12]], slot: usize)
+pub fn delivered_at(actors: &mut [ActorRow], slot: usize)
     ensures { λ r.
         ⌜ now (actors .exit)
         ≡ putActor (now (actors .entry)) slot (deliveredTo (actorAt (now (actors .entry)) slot)) ⌝ }
@@ -224,7 +287,7 @@ pub fn delivered_at(actors: &mut [[u64; 12]], slot: usize)
 }
 
 // In the ready list, or not.
-pub fn scheduled_at(actors: &mut [[u64; 12]], slot: usize, there: bool)
+pub fn scheduled_at(actors: &mut [ActorRow], slot: usize, there: bool)
     ensures { λ r.
         ⌜ now (actors .exit)
         ≡ putActor (now (actors .entry)) slot (scheduledAs (actorAt (now (actors .entry)) slot) there) ⌝ }
@@ -247,7 +310,7 @@ fn begin_row(row: &mut [u64])
 }
 
 // A step begins.
-pub fn began_at(actors: &mut [[u64; 12]], slot: usize)
+pub fn began_at(actors: &mut [ActorRow], slot: usize)
     ensures { λ r.
         ⌜ now (actors .exit)
         ≡ putActor (now (actors .entry)) slot (beganStep (actorAt (now (actors .entry)) slot)) ⌝ }
@@ -258,7 +321,7 @@ pub fn began_at(actors: &mut [[u64; 12]], slot: usize)
 }
 
 // Its program was started.
-pub fn started_at(actors: &mut [[u64; 12]], slot: usize)
+pub fn started_at(actors: &mut [ActorRow], slot: usize)
     ensures { λ r.
         ⌜ now (actors .exit)
         ≡ putActor (now (actors .entry)) slot (startedAs (actorAt (now (actors .entry)) slot)) ⌝ }
@@ -269,7 +332,7 @@ pub fn started_at(actors: &mut [[u64; 12]], slot: usize)
 }
 
 // Parked in receive() with nothing to take.
-pub fn idled_at(actors: &mut [[u64; 12]], slot: usize)
+pub fn idled_at(actors: &mut [ActorRow], slot: usize)
     ensures { λ r.
         ⌜ now (actors .exit)
         ≡ putActor (now (actors .entry)) slot (idledAs (actorAt (now (actors .entry)) slot)) ⌝ }
@@ -280,7 +343,7 @@ pub fn idled_at(actors: &mut [[u64; 12]], slot: usize)
 }
 
 // It took a message.
-pub fn consumed_at(actors: &mut [[u64; 12]], slot: usize)
+pub fn consumed_at(actors: &mut [ActorRow], slot: usize)
     ensures { λ r.
         ⌜ now (actors .exit)
         ≡ putActor (now (actors .entry)) slot (consumedAs (actorAt (now (actors .entry)) slot)) ⌝ }
@@ -291,7 +354,7 @@ pub fn consumed_at(actors: &mut [[u64; 12]], slot: usize)
 }
 
 // It handed the thread on, and runs again.
-pub fn yielded_at(actors: &mut [[u64; 12]], slot: usize)
+pub fn yielded_at(actors: &mut [ActorRow], slot: usize)
     ensures { λ r.
         ⌜ now (actors .exit)
         ≡ putActor (now (actors .entry)) slot (yieldedAs (actorAt (now (actors .entry)) slot)) ⌝ }
@@ -302,7 +365,7 @@ pub fn yielded_at(actors: &mut [[u64; 12]], slot: usize)
 }
 
 // Its run is this one, or over.
-pub fn running_at(actors: &mut [[u64; 12]], slot: usize, run: EvalRun)
+pub fn running_at(actors: &mut [ActorRow], slot: usize, run: EvalRun)
     ensures { λ r.
         ⌜ now (actors .exit)
         ≡ putActor (now (actors .entry)) slot (runningTo (actorAt (now (actors .entry)) slot) run) ⌝ }
@@ -327,7 +390,7 @@ fn block_row(row: &mut [u64], until: Wake)
 }
 
 // Parked on a host call, woken at the latest at `until`.
-pub fn blocked_at(actors: &mut [[u64; 12]], slot: usize, until: Wake)
+pub fn blocked_at(actors: &mut [ActorRow], slot: usize, until: Wake)
     ensures { λ r.
         ⌜ now (actors .exit)
         ≡ putActor (now (actors .entry)) slot (blockedTo (actorAt (now (actors .entry)) slot) until) ⌝ }
@@ -347,34 +410,12 @@ fn wake_row(row: &mut [u64])
 }
 
 // Its wait ended.
-pub fn woken_at(actors: &mut [[u64; 12]], slot: usize)
+pub fn woken_at(actors: &mut [ActorRow], slot: usize)
     ensures { λ r.
         ⌜ now (actors .exit)
         ≡ putActor (now (actors .entry)) slot (wokenAs (actorAt (now (actors .entry)) slot)) ⌝ }
 {
     if slot < actors.len() {
         wake_row(&mut actors[slot]);
-    }
-}
-
-// Whether a run waits between steps.
-pub fn has_run(a: Actor) -> bool
-    ensures { λ r. ⌜ r ≡ hasRun (a .run) ⌝ }
-{
-    let run = a.run;
-    match run {
-        EvalRun::Until(_) => true,
-        EvalRun::Nothing => false,
-    }
-}
-
-// The deadline of its run; of none, 0.
-pub fn deadline_of(a: Actor) -> u64
-    ensures { λ r. ⌜ r ≡ deadlineOf (a .run) ⌝ }
-{
-    let run = a.run;
-    match run {
-        EvalRun::Until(ns) => ns,
-        EvalRun::Nothing => 0,
     }
 }

@@ -1,9 +1,9 @@
--- What the numbers of a driven call mean, and what it says: the state after the call, and its answer in numbers.
+-- What the numbers of a driven call mean, and what it shows: the state after the call, and its answer in numbers.
 use mathlib.Core.List.{List}
 use Prim.Native.Nat.{ℕ}
 use lib.Dec.{eqb}
 use lib.ListN.{getD}
-use Rattle.lists.specs.Links.{pick}
+use Rattle.lists.specs.Links.{pick, ENTRIES}
 use Rattle.lists.specs.declared.Found.{Found}
 use Rattle.lists.specs.declared.Found.the-variants as found
 use Rattle.actor.specs.declared.message.Caller.{Caller}
@@ -12,13 +12,13 @@ use Rattle.actor.specs.declared.question.Reply.{Reply}
 use Rattle.actor.specs.declared.question.Reply.the-variants as reply
 use Rattle.actor.specs.declared.question.Status.{Status}
 use Rattle.actor.specs.declared.question.Status.the-variants as status
-use Rattle.setup.specs.declared.settings.Settings.{Settings}
+use Rattle.settings.specs.declared.ranges.Settings.{Settings}
 use Rattle.turn.specs.State.{State}
-use Rattle.front.specs.declared.answer.Answer.{Answer}
-use Rattle.front.specs.declared.numbers.AnswerNumbers.{AnswerNumbers}
-use Rattle.front.specs.Answers.{Did}
-use Rattle.front.specs.Numbers.{numbersOf}
-use Rattle.drive.specs.declared.Said.{Said}
+use Rattle.answers.specs.declared.answer.Answer.{Answer}
+use Rattle.answers.specs.declared.numbers.AnswerNumbers.{AnswerNumbers}
+use Rattle.answers.specs.Answers.{Did}
+use Rattle.answers.specs.Numbers.{numbersOf}
+use Rattle.drive.specs.declared.Shown.{Shown}
 
 -- ---- what is given
 
@@ -53,23 +53,23 @@ replyIn k v =
     (pick (eqb k 4) (reply.Ran (statusIn v))
     (pick (eqb k 6) reply.End (pick (eqb k 7) reply.Told (pick (eqb k 8) reply.Stored reply.Failed)))))))
 
--- ---- what is said
+-- ---- what is shown
 
 -- the entry of the message that an answer shows, or 256
 abbrev pub entryNumber : Found → ℕ
-entryNumber found.Nothing = 256
+entryNumber found.Nothing = ENTRIES
 entryNumber (found.Entry e) = e
 
-abbrev pub saidAs : AnswerNumbers → Said
-saidAs n = record { kind = n .kind; a = n .a; b = n .b; c = n .c; entry = entryNumber (n .message) }
+abbrev pub shownAs : AnswerNumbers → Shown
+shownAs n = record { kind = n .kind; a = n .a; b = n .b; c = n .c; entry = entryNumber (n .message) }
 
-abbrev pub saidBy : Answer → Said
-saidBy a = saidAs (numbersOf a)
+abbrev pub shownBy : Answer → Shown
+shownBy a = shownAs (numbersOf a)
 
--- the state after a call, and what was said of it
+-- the state after a call, and what is shown of it
 pub record Driven : Type 0 where
   pub state : State
-  pub said : Said
+  pub shown : Shown
 
 abbrev pub driven : Did → Driven
-driven d = record { state = d .state; said = saidBy (d .answer) }
+driven d = record { state = d .state; shown = shownBy (d .answer) }

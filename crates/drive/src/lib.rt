@@ -6,28 +6,38 @@ ghost use mathlib.Core.Path.{_≡_};
 ghost use mathlib.Core.List.{[]};
 ghost use Rattle.lists.specs.Links.{Table};
 ghost use Rattle.turn.specs.Words.{poolOf};
-ghost use Rattle.front.specs.Answers.{answerOf};
-ghost use Rattle.door.specs.Open.{openOf};
-ghost use Rattle.door.specs.Admit.{admitOf};
+ghost use Rattle.answers.specs.Answers.{answerOf};
+ghost use Rattle.pool.specs.Open.{openOf};
+ghost use Rattle.pool.specs.Admit.{admitOf};
 ghost use Rattle.pool.specs.Calls.{turnOf, replyOf};
-ghost use Rattle.drive.specs.Drive.{settingsIn, callerIn, statusIn, replyIn, entryNumber, saidBy, driven};
+ghost use Rattle.drive.specs.Drive.{settingsIn, callerIn, statusIn, replyIn, entryNumber, shownBy, driven};
 use actor::message::Caller;
 use actor::message::CallerId;
+use actor::message::MessageRow;
 use actor::question::Reply;
 use actor::question::Status;
-use door::admit;
-use door::open;
-use front::answer;
-use front::answer::Called;
-use front::numbers;
+use actor::state::ActorRow;
+use answers::answer;
+use answers::answer::Called;
+use answers::numbers;
+use group::roster;
+use group::settings::GroupRow;
 use lists::Found;
+use lists::LinkRow;
+use lists::keys::KeyRow;
+use log::RECORDS;
+use log::RecordRow;
+use log::STORE;
+use pool::admit;
 use pool::calls;
-use setup::settings::Settings;
+use pool::open;
+use settings::ranges::Settings;
+use turn::state::PoolCells;
 
-// What a call answers: which answer and its values, as front::numbers has them, and the entry of the message that it
+// What a call answers: which answer and its values, as answers::numbers has them, and the entry of the message that it
 // shows, or 256.
 #[repr(C)]
-pub struct Said {
+pub struct Shown {
     pub kind: u64,
     pub a: u64,
     pub b: u64,
@@ -118,20 +128,20 @@ fn entry_number(m: Found) -> u64
     ensures { λ r. ⌜ r ≡ entryNumber m ⌝ }
 {
     match m {
-        Found::Nothing => 256,
+        Found::Nothing => lists::MESSAGES,
         Found::Entry(e) => e as u64,
     }
 }
 
-fn say(called: Called, pool: &[u64; 28], links: &[[u64; 4]], rows: &[[u64; 7]]) -> Said
+fn show(called: Called, pool: &PoolCells, links: &[LinkRow], rows: &[MessageRow]) -> Shown
     ensures { λ r.
-        ⌜ r ≡ saidBy (answerOf called (poolOf (now (pool .entry))) (now (links .entry)) (now (rows .entry))) ⌝ }
+        ⌜ r ≡ shownBy (answerOf called (poolOf (now (pool .entry))) (now (links .entry)) (now (rows .entry))) ⌝ }
 {
     let answer = answer::answer_of(called, pool, links, rows);
     let s = numbers::numbers_of(answer);
     let message = s.message;
     let entry = entry_number(message);
-    Said {
+    Shown {
         kind: s.kind,
         a: s.a,
         b: s.b,
@@ -143,19 +153,19 @@ fn say(called: Called, pool: &[u64; 28], links: &[[u64; 4]], rows: &[[u64; 7]]) 
 // Opens a pool on the first n bytes of the log. The settings are those of `Settings`, in their order.
 #[no_mangle]
 pub extern "C" fn drive_open(
-    pool: &mut [u64; 28],
+    pool: &mut PoolCells,
     log: &mut [u8],
-    records: &mut [[u64; 3]; 256],
-    store: &mut [u8; 40960],
-    groups: &mut [[u64; 37]; 8],
-    links: &mut [[u64; 4]; 262],
-    rows: &mut [[u64; 7]; 256],
-    lists: &mut [[u8; 65]; 34],
-    actors: &[[u64; 12]; 128],
+    records: &mut [RecordRow; RECORDS],
+    store: &mut [u8; STORE],
+    groups: &mut [GroupRow; lists::GROUPS],
+    links: &mut [LinkRow; lists::LISTS],
+    rows: &mut [MessageRow; lists::ENTRIES],
+    keys: &mut [KeyRow; roster::ROWS],
+    actors: &[ActorRow; lists::SLOTS],
     n: usize,
     settings: &[u64; 5],
-    given: &[[u64; 37]],
-) -> Said
+    given: &[GroupRow],
+) -> Shown
     ensures { λ r. ⌜
         record {
           state = record {
@@ -166,10 +176,10 @@ pub extern "C" fn drive_open(
             groups = now (groups .exit);
             links = now (links .exit);
             rows = now (rows .exit);
-            keys = now (lists .exit);
+            keys = now (keys .exit);
             actors = now (actors .entry);
           };
-          said = r;
+          shown = r;
         }
         ≡ driven (openOf (record {
           settings = settingsIn (now (settings .entry));
@@ -181,7 +191,7 @@ pub extern "C" fn drive_open(
           groups = now (groups .entry);
           links = now (links .entry);
           rows = now (rows .entry);
-          keys = now (lists .entry);
+          keys = now (keys .entry);
           actors = now (actors .entry);
         }))
         ⌝ }
@@ -198,27 +208,27 @@ pub extern "C" fn drive_open(
         groups,
         links,
         rows,
-        lists,
+        keys,
         actors,
     );
-    say(called, pool, links, rows)
+    show(called, pool, links, rows)
 }
 
 // A message for the program of a group.
 #[no_mangle]
 pub extern "C" fn drive_admit(
-    pool: &mut [u64; 28],
+    pool: &mut PoolCells,
     log: &mut [u8],
-    records: &mut [[u64; 3]; 256],
-    store: &mut [u8; 40960],
-    groups: &[[u64; 37]; 8],
-    links: &mut [[u64; 4]; 262],
-    rows: &mut [[u64; 7]; 256],
+    records: &mut [RecordRow; RECORDS],
+    store: &mut [u8; STORE],
+    groups: &[GroupRow; lists::GROUPS],
+    links: &mut [LinkRow; lists::LISTS],
+    rows: &mut [MessageRow; lists::ENTRIES],
     who: u64,
     id: u64,
     name: &[u8],
     body: &[u8],
-) -> Said
+) -> Shown
     ensures { λ r. ⌜
         ((keys actors : Table) →
         record {
@@ -233,7 +243,7 @@ pub extern "C" fn drive_admit(
             keys = keys;
             actors = actors;
           };
-          said = r;
+          shown = r;
         }
         ≡ driven (admitOf
         (record {
@@ -263,22 +273,22 @@ pub extern "C" fn drive_admit(
         body,
         caller,
     );
-    say(called, pool, links, rows)
+    show(called, pool, links, rows)
 }
 
 // A turn: it runs until a question or an order is open, or it ended.
 #[no_mangle]
 pub extern "C" fn drive_turn(
-    pool: &mut [u64; 28],
+    pool: &mut PoolCells,
     log: &mut [u8],
-    records: &mut [[u64; 3]; 256],
-    store: &[u8; 40960],
-    groups: &[[u64; 37]; 8],
-    links: &mut [[u64; 4]; 262],
-    rows: &mut [[u64; 7]; 256],
-    lists: &mut [[u8; 65]; 34],
-    actors: &mut [[u64; 12]; 128],
-) -> Said
+    records: &mut [RecordRow; RECORDS],
+    store: &[u8; STORE],
+    groups: &[GroupRow; lists::GROUPS],
+    links: &mut [LinkRow; lists::LISTS],
+    rows: &mut [MessageRow; lists::ENTRIES],
+    keys: &mut [KeyRow; roster::ROWS],
+    actors: &mut [ActorRow; lists::SLOTS],
+) -> Shown
     ensures { λ r. ⌜
         record {
           state = record {
@@ -289,10 +299,10 @@ pub extern "C" fn drive_turn(
             groups = now (groups .entry);
             links = now (links .exit);
             rows = now (rows .exit);
-            keys = now (lists .exit);
+            keys = now (keys .exit);
             actors = now (actors .exit);
           };
-          said = r;
+          shown = r;
         }
         ≡ driven (turnOf (record {
           pool = poolOf (now (pool .entry));
@@ -302,40 +312,30 @@ pub extern "C" fn drive_turn(
           groups = now (groups .entry);
           links = now (links .entry);
           rows = now (rows .entry);
-          keys = now (lists .entry);
+          keys = now (keys .entry);
           actors = now (actors .entry);
         }))
         ⌝ }
 {
-    let called = calls::turn(
-        pool,
-        log,
-        records,
-        store,
-        groups,
-        links,
-        rows,
-        lists,
-        actors,
-    );
-    say(called, pool, links, rows)
+    let called = calls::turn(pool, log, records, store, groups, links, rows, keys, actors);
+    show(called, pool, links, rows)
 }
 
 // A reply: the order's, or the answer to the turn's question.
 #[no_mangle]
 pub extern "C" fn drive_reply(
-    pool: &mut [u64; 28],
+    pool: &mut PoolCells,
     log: &mut [u8],
-    records: &mut [[u64; 3]; 256],
-    store: &mut [u8; 40960],
-    groups: &[[u64; 37]; 8],
-    links: &mut [[u64; 4]; 262],
-    rows: &mut [[u64; 7]; 256],
-    lists: &mut [[u8; 65]; 34],
-    actors: &mut [[u64; 12]; 128],
+    records: &mut [RecordRow; RECORDS],
+    store: &mut [u8; STORE],
+    groups: &[GroupRow; lists::GROUPS],
+    links: &mut [LinkRow; lists::LISTS],
+    rows: &mut [MessageRow; lists::ENTRIES],
+    keys: &mut [KeyRow; roster::ROWS],
+    actors: &mut [ActorRow; lists::SLOTS],
     kind: u64,
     value: u64,
-) -> Said
+) -> Shown
     ensures { λ r. ⌜
         record {
           state = record {
@@ -346,10 +346,10 @@ pub extern "C" fn drive_reply(
             groups = now (groups .entry);
             links = now (links .exit);
             rows = now (rows .exit);
-            keys = now (lists .exit);
+            keys = now (keys .exit);
             actors = now (actors .exit);
           };
-          said = r;
+          shown = r;
         }
         ≡ driven (replyOf
         (record {
@@ -360,7 +360,7 @@ pub extern "C" fn drive_reply(
           groups = now (groups .entry);
           links = now (links .entry);
           rows = now (rows .entry);
-          keys = now (lists .entry);
+          keys = now (keys .entry);
           actors = now (actors .entry);
         })
         (replyIn kind value) [] [])
@@ -376,11 +376,11 @@ pub extern "C" fn drive_reply(
         groups,
         links,
         rows,
-        lists,
+        keys,
         actors,
         reply,
         &none,
         &none,
     );
-    say(called, pool, links, rows)
+    show(called, pool, links, rows)
 }

@@ -1,5 +1,3 @@
 -- Laws of a group.
 pub mod Loops
 pub mod Idle
-pub mod WordLaws
-pub mod Keyed

@@ -1,6 +1,6 @@
 -- Laws of the loops: one turn of each, by its definition. Assumes nothing.
 use mathlib.Core.Path.{_≡_}
-use mathlib.Core.Bool.{true, false}
+use mathlib.Core.Bool.{true, _&&_}
 use mathlib.Core.List.{List, []}
 use Prim.Native.Nat.{ℕ, zero, suc, _+_, _-_, _≤_, _<_}
 use native.Mathlib.Numerals.{add-one}
@@ -15,7 +15,7 @@ use Rattle.lists.specs.KeyLists.{lastOf, popEnd}
 use Rattle.lists.specs.Slabs.{containsOf}
 use Rattle.steps.specs.Steps.{overFirst}
 use Rattle.group.specs.declared.settings.Named.the-variants as found
-use Rattle.group.specs.Settings.{agrees, named, groupFor, hasName, groupNamed}
+use Rattle.group.specs.Settings.{agrees, named, byName, hasName, groupNamed}
 use Rattle.group.specs.Roster.{idleKey, popped, popIdleRow, betterOf, leastFrom, overAll}
 
 before : (n : ℕ) → suc n - 1 ≡ n
@@ -24,8 +24,8 @@ before n = omega arith
 -- ---- a name and the store, byte by byte
 
 module _ (row store : List ℕ) (from i n : ℕ) where
-  pub agrees-more : i < n → agrees row store from i (n - i) ≡ pick (eqb (getD row (5 + i) 0) (getD store (from + i) 0))
-      (agrees row store from (i + 1) (n - (i + 1))) false
+  pub agrees-more : i < n → agrees row store from i (n - i) ≡ (eqb (getD row (5 + i) 0) (getD store (from + i) 0)
+      && agrees row store from (i + 1) (n - (i + 1)))
   unfolding agrees
   agrees-more inside = let more : n - i ≡ suc (n - (i + 1)) = omega arith in rw (more, add-one)
 
@@ -35,16 +35,16 @@ module _ (row store : List ℕ) (from i n : ℕ) where
 
 -- ---- the groups, from the last one down
 
-pub for-more : (groups : Table) (store : List ℕ) (entry len g : ℕ) → 0 < g → groupFor groups store entry len g
-    ≡ pick (named (getD groups (g - 1) []) store entry len) (found.Group (g - 1)) (groupFor groups store entry len
+pub for-more : (groups : Table) (store : List ℕ) (entry len g : ℕ) → 0 < g → byName groups store entry len g
+    ≡ pick (named (getD groups (g - 1) []) store entry len) (found.Group (g - 1)) (byName groups store entry len
     (g - 1))
-unfolding groupFor
+unfolding byName
 for-more groups store entry len zero some = absurd (not-suc-le-zero some)
 for-more groups store entry len (suc g) some = rw (before g)
 
-pub for-end : (groups : Table) (store : List ℕ) (entry len g : ℕ) → g ≤ 0 → groupFor groups store entry len g
+pub for-end : (groups : Table) (store : List ℕ) (entry len g : ℕ) → g ≤ 0 → byName groups store entry len g
     ≡ found.Nothing
-unfolding groupFor
+unfolding byName
 for-end groups store entry len g out = let none : g ≡ 0 = omega arith in rw none
 
 pub named-more : (groups : Table) (name : List ℕ) (g : ℕ) → 0 < g → groupNamed groups name g
@@ -79,7 +79,10 @@ module _ (keys actors : Table) (g : ℕ) where
 -- ---- the keys, in rising order
 
 module _ (given : List ℕ) (links : Table) (g k : ℕ) (best : Key) where
-  pub least-more : k < 16 → leastFrom given (betterOf links g) (16 - k) k best ≡ leastFrom given (betterOf links g) (16 - (k + 1)) (k + 1) (pick (containsOf given k) (betterOf links g best k) best)
+  pub least-more : k < 16
+      → leastFrom given (betterOf links g) (16 - k) k best
+      ≡ leastFrom given (betterOf links g) (16 - (k + 1)) (k + 1)
+      (pick (containsOf given k) (betterOf links g best k) best)
   unfolding leastFrom
   least-more inside = let more : 16 - k ≡ suc (16 - (k + 1)) = omega arith in rw more
 

@@ -1,5 +1,3 @@
 -- Definitions and statements.
-pub mod At
-pub mod Words
 pub mod Settings
 pub mod Roster

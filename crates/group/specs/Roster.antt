@@ -1,12 +1,12 @@
 -- The keys of a group's actors: live, scheduled, spawned, idle, least loaded.
-use mathlib.Core.Bool.{Bool, true, false}
+use mathlib.Core.Bool.{Bool, true, false, _&&_}
 use mathlib.Core.List.{List}
 use Prim.Native.Nat.{ℕ, zero, suc, _+_, _-_, _*_}
 use lib.Dec.{ltb}
 use lib.ListN.{set}
 use Rattle.lists.specs.declared.keys.Key.{Key}
 use Rattle.lists.specs.declared.keys.Key.the-variants as key
-use Rattle.lists.specs.Links.{pick, Table, capped, lenOf, mailboxOf}
+use Rattle.lists.specs.Links.{pick, Table, capped, lenOf, mailboxOf, SLOTS, GROUPS}
 use Rattle.lists.specs.KeyLists.{keysAt, countOf, lastOf, popEnd, pushOf}
 use Rattle.lists.specs.Slabs.{containsOf, vacantOf, insertOf, liveCount}
 use Rattle.actor.specs.declared.state.Mode.{Mode}
@@ -14,8 +14,8 @@ use Rattle.actor.specs.declared.state.Mode.the-variants as mode
 use Rattle.actor.specs.Questions.{slotOf}
 use Rattle.actor.specs.Actors.{actorAt, putActor, newActor, scheduledAs}
 use Rattle.steps.specs.Steps.{overFirst}
-use Rattle.group.specs.declared.at.Cursor.{Cursor}
-use Rattle.group.specs.At.{whoOf}
+use Rattle.points.specs.declared.at.Cursor.{Cursor}
+use Rattle.points.specs.At.{whoOf}
 
 -- ---- the rows of the table of key lists: four for each of 8 groups, and two for the turn
 
@@ -26,20 +26,20 @@ ROWS = 34
 abbrev pub REST : ℕ
 REST = 32
 
-abbrev pub DOOMED : ℕ
-DOOMED = 33
+abbrev pub TRAPPED : ℕ
+TRAPPED = 33
 
 abbrev pub slabRow : ℕ → ℕ
-slabRow g = pick (ltb g 8) (4 * g) ROWS
+slabRow g = pick (ltb g GROUPS) (4 * g) ROWS
 
 abbrev pub readyRow : ℕ → ℕ
-readyRow g = pick (ltb g 8) (4 * g + 1) ROWS
+readyRow g = pick (ltb g GROUPS) (4 * g + 1) ROWS
 
 abbrev pub idleRow : ℕ → ℕ
-idleRow g = pick (ltb g 8) (4 * g + 2) ROWS
+idleRow g = pick (ltb g GROUPS) (4 * g + 2) ROWS
 
 abbrev pub waitingRow : ℕ → ℕ
-waitingRow g = pick (ltb g 8) (4 * g + 3) ROWS
+waitingRow g = pick (ltb g GROUPS) (4 * g + 3) ROWS
 
 abbrev pub slotAt : ℕ → ℕ → ℕ
 slotAt g k = slotOf (whoOf g k)
@@ -70,14 +70,14 @@ queuedAfter t t′ slot queued = capped (queued + lenOf t′ (mailboxOf slot)) -
 
 -- what routing and settling work on, and change: lists of messages, keys, actors, and how many messages are in
 -- mailboxes
-pub record Tables : Type 0 where
+pub record TurnTables : Type 0 where
   pub links : Table
   pub keys : Table
   pub actors : Table
   pub queued : ℕ
 
-abbrev pub tables : Table → Table → Table → ℕ → Tables
-tables t keys actors queued = record { links = t; keys = keys; actors = actors; queued = queued }
+abbrev pub turnTables : Table → Table → Table → ℕ → TurnTables
+turnTables t keys actors queued = record { links = t; keys = keys; actors = actors; queued = queued }
 
 pub record Spawned : Type 0 where
   pub keys : Table
@@ -93,7 +93,7 @@ pushKey keys row k = set keys row (pushOf (keysAt keys row) k)
 
 -- the group has an actor of this key
 unfoldable pub liveOf : Table → ℕ → ℕ → Bool
-liveOf keys g k = pick (ltb (slotAt g k) 128) (containsOf (keysAt keys (slabRow g)) k) false
+liveOf keys g k = ltb (slotAt g k) SLOTS && containsOf (keysAt keys (slabRow g)) k
 
 unfoldable pub liveLen : Table → ℕ → ℕ
 liveLen keys g = liveCount (keysAt keys (slabRow g))
@@ -137,7 +137,7 @@ spawnOf keys actors g eval = spawnBy keys actors g eval (vacantOf (keysAt keys (
 -- ---- an idle actor
 
 unfoldable pub idleKey : Table → Table → ℕ → ℕ → Bool
-idleKey keys actors g k = pick (liveOf keys g k) (actorAt actors (slotAt g k) .idle) false
+idleKey keys actors g k = liveOf keys g k && actorAt actors (slotAt g k) .idle
 
 -- a list of keys, and the key that was popped from it
 pub record Popped : Type 0 where

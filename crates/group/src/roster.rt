@@ -15,24 +15,26 @@ ghost use Rattle.group.specs.Roster.{
   idleKey,
   popIdleOf,
   betterOf,
-  leastFrom,
   leastOf,
   modeFor,
   liveLen,
 };
-use crate::at;
 use actor::question;
 use actor::state;
+use actor::state::ActorRow;
 use actor::state::Mode;
+use lists::LinkRow;
 use lists::keys;
 use lists::keys::Key;
+use lists::keys::KeyRow;
 use lists::slab;
+use points::at;
 
 // The rest of the waiting list that is being gone through.
 pub const REST: usize = 32;
 
 // The keys that answered Trapped with yes.
-pub const DOOMED: usize = 33;
+pub const TRAPPED: usize = 33;
 
 // As many rows as there are: also a number that no row has.
 pub const ROWS: usize = 34;
@@ -40,25 +42,25 @@ pub const ROWS: usize = 34;
 pub fn slab_row(g: usize) -> usize
     ensures { λ r. ⌜ r ≡ slabRow g ⌝ }
 {
-    if g < 8 { 4 * g } else { ROWS }
+    if g < lists::GROUPS { 4 * g } else { ROWS }
 }
 
 pub fn ready_row(g: usize) -> usize
     ensures { λ r. ⌜ r ≡ readyRow g ⌝ }
 {
-    if g < 8 { 4 * g + 1 } else { ROWS }
+    if g < lists::GROUPS { 4 * g + 1 } else { ROWS }
 }
 
 pub fn idle_row(g: usize) -> usize
     ensures { λ r. ⌜ r ≡ idleRow g ⌝ }
 {
-    if g < 8 { 4 * g + 2 } else { ROWS }
+    if g < lists::GROUPS { 4 * g + 2 } else { ROWS }
 }
 
 pub fn waiting_row(g: usize) -> usize
     ensures { λ r. ⌜ r ≡ waitingRow g ⌝ }
 {
-    if g < 8 { 4 * g + 3 } else { ROWS }
+    if g < lists::GROUPS { 4 * g + 3 } else { ROWS }
 }
 
 // The slot of an actor among the lists.
@@ -70,50 +72,49 @@ pub fn slot_at(g: usize, key: u8) -> usize
 }
 
 // A key joins a list.
-pub fn push_key(lists: &mut [[u8; 65]], row: usize, key: u8)
-    ensures { λ r. ⌜ now (lists .exit) ≡ pushKey (now (lists .entry)) row key ⌝ }
+pub fn push_key(keys: &mut [KeyRow], row: usize, key: u8)
+    ensures { λ r. ⌜ now (keys .exit) ≡ pushKey (now (keys .entry)) row key ⌝ }
 {
-    keys::push_at(lists, row, key);
+    keys::push_at(keys, row, key);
 }
 
 // Whether the group has an actor of this key.
-pub fn live(lists: &[[u8; 65]], g: usize, key: u8) -> bool
-    ensures { λ r. ⌜ r ≡ liveOf (now (lists .entry)) g key ⌝ }
+pub fn live(keys: &[KeyRow], g: usize, key: u8) -> bool
+    ensures { λ r. ⌜ r ≡ liveOf (now (keys .entry)) g key ⌝ }
 {
     let slot = slot_at(g, key);
-    if slot < 128 {
+    if slot < lists::SLOTS {
         let row = slab_row(g);
-        slab::contains_at(lists, row, key)
+        slab::contains_at(keys, row, key)
     } else {
         false
     }
 }
 
 // How many actors the group has.
-pub fn live_len(lists: &[[u8; 65]], g: usize) -> u8
-    ensures { λ r. ⌜ r ≡ liveLen (now (lists .entry)) g ⌝ }
+pub fn live_len(keys: &[KeyRow], g: usize) -> u8
+    ensures { λ r. ⌜ r ≡ liveLen (now (keys .entry)) g ⌝ }
 {
     let row = slab_row(g);
-    slab::len_at(lists, row)
+    slab::len_at(keys, row)
 }
 
 // An actor is queued to run, once however often it is woken before its turn.
-pub fn schedule(lists: &mut [[u8; 65]], actors: &mut [[u64; 12]], g: usize, key: u8)
+pub fn schedule(keys: &mut [KeyRow], actors: &mut [ActorRow], g: usize, key: u8)
     ensures { λ r.
-        ⌜ record { keys = now (lists .exit); actors = now (actors .exit) }
-        ≡ scheduleOf (now (lists .entry)) (now (actors .entry)) g key ⌝ }
+        ⌜ record { keys = now (keys .exit); actors = now (actors .exit) }
+        ≡ scheduleOf (now (keys .entry)) (now (actors .entry)) g key ⌝ }
 {
-    let there = live(lists, g, key);
+    let there = live(keys, g, key);
     if there {
         let slot = slot_at(g, key);
-        let a = state::actor_at(actors, slot);
-        let before = a.scheduled;
+        let before = state::is_scheduled(actors, slot);
         if before {
             return;
         }
         state::scheduled_at(actors, slot, true);
         let row = ready_row(g);
-        push_key(lists, row, key);
+        push_key(keys, row, key);
     }
 }
 
@@ -124,29 +125,29 @@ fn mode_for(eval: bool) -> Mode
 }
 
 // A new actor of this key, queued to run.
-fn spawn_key(lists: &mut [[u8; 65]], actors: &mut [[u64; 12]], g: usize, key: u8, eval: bool)
+fn spawn_key(keys: &mut [KeyRow], actors: &mut [ActorRow], g: usize, key: u8, eval: bool)
     ensures { λ r.
-        ⌜ record { keys = now (lists .exit); actors = now (actors .exit) }
-        ≡ spawnKey (now (lists .entry)) (now (actors .entry)) g key eval ⌝ }
+        ⌜ record { keys = now (keys .exit); actors = now (actors .exit) }
+        ≡ spawnKey (now (keys .entry)) (now (actors .entry)) g key eval ⌝ }
 {
     let row = slab_row(g);
-    slab::insert_at(lists, row);
+    slab::insert_at(keys, row);
     let mode = mode_for(eval);
     let slot = slot_at(g, key);
     state::new_at(actors, slot, mode);
-    schedule(lists, actors, g, key);
+    schedule(keys, actors, g, key);
 }
 
 // A new actor, queued to run, and its key.
-pub fn spawn(lists: &mut [[u8; 65]], actors: &mut [[u64; 12]], g: usize, eval: bool) -> Key
+pub fn spawn(keys: &mut [KeyRow], actors: &mut [ActorRow], g: usize, eval: bool) -> Key
     ensures { λ r.
-        ⌜ record { keys = now (lists .exit); actors = now (actors .exit); key = r }
-        ≡ spawnOf (now (lists .entry)) (now (actors .entry)) g eval ⌝ }
+        ⌜ record { keys = now (keys .exit); actors = now (actors .exit); key = r }
+        ≡ spawnOf (now (keys .entry)) (now (actors .entry)) g eval ⌝ }
 {
     let row = slab_row(g);
-    match slab::vacant_at(lists, row) {
+    match slab::vacant_at(keys, row) {
         Key::At(key) => {
-            spawn_key(lists, actors, g, key, eval);
+            spawn_key(keys, actors, g, key, eval);
             Key::At(key)
         }
         Key::Nothing => Key::Nothing,
@@ -154,14 +155,13 @@ pub fn spawn(lists: &mut [[u8; 65]], actors: &mut [[u64; 12]], g: usize, eval: b
 }
 
 // Whether the group has an actor of this key that is idle.
-fn idle_key(lists: &[[u8; 65]], actors: &[[u64; 12]], g: usize, key: u8) -> bool
-    ensures { λ r. ⌜ r ≡ idleKey (now (lists .entry)) (now (actors .entry)) g key ⌝ }
+fn idle_key(keys: &[KeyRow], actors: &[ActorRow], g: usize, key: u8) -> bool
+    ensures { λ r. ⌜ r ≡ idleKey (now (keys .entry)) (now (actors .entry)) g key ⌝ }
 {
-    let there = live(lists, g, key);
+    let there = live(keys, g, key);
     if there {
         let slot = slot_at(g, key);
-        let a = state::actor_at(actors, slot);
-        a.idle
+        state::is_idle(actors, slot)
     } else {
         false
     }
@@ -169,20 +169,20 @@ fn idle_key(lists: &[[u8; 65]], actors: &[[u64; 12]], g: usize, key: u8) -> bool
 
 // An idle actor of the group, taken from its idle list: the last whose actor is still there and idle. It and those
 // after it leave the list.
-pub fn pop_idle(lists: &mut [[u8; 65]], actors: &[[u64; 12]], g: usize) -> Key
+pub fn pop_idle(keys: &mut [KeyRow], actors: &[ActorRow], g: usize) -> Key
     ensures { λ r.
-        ⌜ record { keys = now (lists .exit); key = r }
-        ≡ popIdleOf (now (lists .entry)) (now (actors .entry)) g ⌝ }
+        ⌜ record { keys = now (keys .exit); key = r }
+        ≡ popIdleOf (now (keys .entry)) (now (actors .entry)) g ⌝ }
 {
     let row = idle_row(g);
-    let mut n = keys::count_at(lists, row);
+    let mut n = keys::count_at(keys, row);
     while 0 < n {
-        let came = keys::last_at(lists, row);
-        keys::pop_end_at(lists, row);
+        let came = keys::last_at(keys, row);
+        keys::pop_end_at(keys, row);
         n -= 1;
         match came {
             Key::At(key) => {
-                let idle = idle_key(lists, actors, g, key);
+                let idle = idle_key(keys, actors, g, key);
                 if idle {
                     return Key::At(key);
                 }
@@ -194,7 +194,7 @@ pub fn pop_idle(lists: &mut [[u8; 65]], actors: &[[u64; 12]], g: usize) -> Key
 }
 
 // The less loaded of an actor and the best so far, of equals the best so far.
-fn better(links: &[[u64; 4]], g: usize, best: Key, key: u8) -> Key
+fn better(links: &[LinkRow], g: usize, best: Key, key: u8) -> Key
     ensures { λ r. ⌜ r ≡ betterOf (now (links .entry)) g best key ⌝ }
 {
     match best {
@@ -214,14 +214,14 @@ fn better(links: &[[u64; 4]], g: usize, best: Key, key: u8) -> Key
 }
 
 // The actor of the group with the fewest messages in its mailbox, the first of the equals.
-pub fn least_loaded(lists: &[[u8; 65]], links: &[[u64; 4]], g: usize) -> Key
-    ensures { λ r. ⌜ r ≡ leastOf (now (lists .entry)) (now (links .entry)) g ⌝ }
+pub fn least_loaded(keys: &[KeyRow], links: &[LinkRow], g: usize) -> Key
+    ensures { λ r. ⌜ r ≡ leastOf (now (keys .entry)) (now (links .entry)) g ⌝ }
 {
     let row = slab_row(g);
     let mut best = Key::Nothing;
     let mut key: u8 = 0;
-    while key < 16 {
-        let there = slab::contains_at(lists, row, key);
+    while key < slab::KEYS {
+        let there = slab::contains_at(keys, row, key);
         if there {
             let next = better(links, g, best, key);
             best = next;

@@ -2,19 +2,25 @@
 // name, and the name's 32 bytes.
 ghost use mathlib.Core.Path.{_≡_};
 ghost use mathlib.Core.List.{[]};
-ghost use Prim.Native.Nat.{_+_, _*_, _<_, _≤_};
+ghost use Prim.Native.Nat.{_<_, _≤_};
 ghost use lib.ListN.{getD};
-ghost use Rattle.actor.specs.Actors.{flagOf};
+ghost use Rattle.actor.specs.Actors.{boolOf};
 ghost use Rattle.group.specs.Settings.{
   groupOf,
   groupAt,
   agrees,
   named,
-  groupFor,
+  byName,
   hasName,
   groupNamed,
   loadedIn,
 };
+use actor::message;
+use log::ENTRY;
+use log::NAME;
+
+// A group's row, as it is lent: the numbers of a `Group`, in order, and the 32 bytes of its name.
+pub type GroupRow = [u64; 37];
 
 pub struct Group {
     // the most actors: the lesser of its replicas and max_actors
@@ -24,7 +30,7 @@ pub struct Group {
     pub timeout: u64,
     pub retry: u64,
     // the length of its name
-    pub name: u64,
+    pub name_len: u64,
 }
 
 // The group that a message's name stands for.
@@ -33,22 +39,22 @@ pub enum Named {
     Nothing,
 }
 
-fn flag_of(n: u64) -> bool
-    ensures { λ r. ⌜ r ≡ flagOf n ⌝ }
+fn bool_of(n: u64) -> bool
+    ensures { λ r. ⌜ r ≡ boolOf n ⌝ }
 {
     if n == 0 { false } else { true }
 }
 
-fn group_of(c: [u64; 37]) -> Group
+fn group_of(c: GroupRow) -> Group
     ensures { λ r. ⌜ r ≡ groupOf c ⌝ }
 {
-    let eval = flag_of(c[1]);
+    let eval = bool_of(c[1]);
     Group {
         ceiling: c[0],
         eval,
         timeout: c[2],
         retry: c[3],
-        name: c[4],
+        name_len: c[4],
     }
 }
 
@@ -60,12 +66,12 @@ fn no_group() -> Group
         eval: false,
         timeout: 0,
         retry: 0,
-        name: 0,
+        name_len: 0,
     }
 }
 
 // A row of the table, past its end an empty one.
-pub fn group_at(groups: &[[u64; 37]], g: usize) -> Group
+pub fn group_at(groups: &[GroupRow], g: usize) -> Group
     ensures { λ r. ⌜ r ≡ groupAt (now (groups .entry)) g ⌝ }
 {
     if g < groups.len() {
@@ -84,7 +90,7 @@ fn byte_at(store: &[u8], i: usize) -> u8
 }
 
 // A cell of a group's row, past the table's end 0. It is read where it stands: a row has 296 bytes.
-fn cell_at(groups: &[[u64; 37]], g: usize, i: usize) -> u64
+fn cell_at(groups: &[GroupRow], g: usize, i: usize) -> u64
     requires { ⌜ i < 37 ⌝ }
     ensures { λ r. ⌜ r ≡ getD (getD (now (groups .entry)) g []) i 0 ⌝ }
 {
@@ -92,7 +98,7 @@ fn cell_at(groups: &[[u64; 37]], g: usize, i: usize) -> u64
 }
 
 // Whether a group's name has the n bytes of the store, or of a name by itself, from `from` on.
-fn same_name(groups: &[[u64; 37]], g: usize, store: &[u8], from: usize, n: usize) -> bool
+fn same_name(groups: &[GroupRow], g: usize, store: &[u8], from: usize, n: usize) -> bool
     requires { ⌜ (from < 65536) × (n ≤ 32) ⌝ }
     ensures { λ r. ⌜ r ≡ agrees (getD (now (groups .entry)) g []) (now (store .entry)) from 0 n ⌝ }
 {
@@ -109,26 +115,26 @@ fn same_name(groups: &[[u64; 37]], g: usize, store: &[u8], from: usize, n: usize
 }
 
 // Whether the message of an entry, whose name has `len` bytes, is for a group.
-fn is_for(groups: &[[u64; 37]], g: usize, store: &[u8], entry: usize, len: u64) -> bool
+fn is_for(groups: &[GroupRow], g: usize, store: &[u8], entry: usize, len: u64) -> bool
     ensures { λ r. ⌜ r ≡ named (getD (now (groups .entry)) g []) (now (store .entry)) entry len ⌝ }
 {
     let long = cell_at(groups, g, 4);
-    if 256 <= entry {
+    if lists::ENTRIES <= entry {
         return false;
     }
-    if 32 < len {
+    if message::NAME < len {
         return false;
     }
     if long == len {
-        same_name(groups, g, store, 160 * entry, len as usize)
+        same_name(groups, g, store, ENTRY * entry, len as usize)
     } else {
         false
     }
 }
 
 // The group of a message's name, of two groups of one name the later one.
-pub fn group_for(groups: &[[u64; 37]], count: usize, store: &[u8], entry: usize, len: u64) -> Named
-    ensures { λ r. ⌜ r ≡ groupFor (now (groups .entry)) (now (store .entry)) entry len count ⌝ }
+pub fn by_name(groups: &[GroupRow], count: usize, store: &[u8], entry: usize, len: u64) -> Named
+    ensures { λ r. ⌜ r ≡ byName (now (groups .entry)) (now (store .entry)) entry len count ⌝ }
 {
     let mut g = count;
     while 0 < g {
@@ -142,12 +148,12 @@ pub fn group_for(groups: &[[u64; 37]], count: usize, store: &[u8], entry: usize,
 }
 
 // Whether a group has this name.
-fn has_name(groups: &[[u64; 37]], g: usize, name: &[u8]) -> bool
+fn has_name(groups: &[GroupRow], g: usize, name: &[u8]) -> bool
     ensures { λ r. ⌜ r ≡ hasName (getD (now (groups .entry)) g []) (now (name .entry)) ⌝ }
 {
     let len = name.len();
     let long = cell_at(groups, g, 4);
-    if 32 < len {
+    if NAME < len {
         return false;
     }
     if long == len as u64 {
@@ -158,7 +164,7 @@ fn has_name(groups: &[[u64; 37]], g: usize, name: &[u8]) -> bool
 }
 
 // The group of a name given as bytes, of two groups of one name the later one.
-pub fn group_named(groups: &[[u64; 37]], count: usize, name: &[u8]) -> Named
+fn group_named(groups: &[GroupRow], count: usize, name: &[u8]) -> Named
     ensures { λ r. ⌜ r ≡ groupNamed (now (groups .entry)) (now (name .entry)) count ⌝ }
 {
     let mut g = count;
@@ -173,7 +179,7 @@ pub fn group_named(groups: &[[u64; 37]], count: usize, name: &[u8]) -> Named
 }
 
 // Whether the program of a name is loaded: the group that gets the messages of this name may have an actor.
-pub fn loaded(groups: &[[u64; 37]], count: usize, name: &[u8]) -> bool
+pub fn loaded(groups: &[GroupRow], count: usize, name: &[u8]) -> bool
     ensures { λ r. ⌜ r ≡ loadedIn (now (groups .entry)) (now (name .entry)) count ⌝ }
 {
     let named = group_named(groups, count, name);

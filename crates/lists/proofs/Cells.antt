@@ -6,7 +6,7 @@ use Prim.Native.Nat.{ℕ, _≤_, _<_}
 use native.Mathlib.Omega.{arith}
 use native.Mathlib.Decide.{ℕ-discrete, decLt}
 use borrow.Author.Tests.{le-leb}
-use lib.ListN.{length, getD, set, length-set}
+use lib.ListN.{length, set, length-set}
 use lib.Seq.{getD-set-same, getD-set-other, set-out}
 use Rattle.lists.specs.declared.Link.{Link}
 use Rattle.lists.specs.Links.{ENTRIES, Table, linkOf, linkAt, headOf, tailOf, lenOf, nextOf, setEnds, setNext}

@@ -49,10 +49,6 @@ pub take-one : (l : List ℕ) → 0 < length l → take 1 l ≡ getD l 0 0 ∷ [
 take-one [] some = absurd (omega arith)
 take-one (x ∷ xs) some = refl
 
-pub first-rest : (l : List ℕ) → 0 < length l → l ≡ getD l 0 0 ∷ drop 1 l
-first-rest [] some = absurd (omega arith)
-first-rest (x ∷ xs) some = refl
-
 -- ---- count
 
 pub count-same : (e x : ℕ) (xs : List ℕ) → x ≡ e → count e (x ∷ xs) ≡ suc (count e xs)

@@ -7,10 +7,9 @@ use native.Mathlib.Nat.{zero-add, add-comm}
 use native.Mathlib.Omega.{arith}
 use native.Mathlib.Decide.{ℕ-discrete, decLt}
 use borrow.Author.Tests.{eq-eqb, ne-eqb, le-leb, lt-leb}
-use lib.ListN.{length, getD, take, drop, length-append}
+use lib.ListN.{length, take, drop, length-append}
 use lib.Seq.{length-take-le, take-all, take-nil, drop-nil, drop-length}
-use Rattle.lists.specs.declared.Link.{Link}
-use Rattle.lists.specs.Links.{LISTS, ENTRIES, Table, linkAt, headOf, tailOf, lenOf, nextOf, setEnds, setNext}
+use Rattle.lists.specs.Links.{LISTS, ENTRIES, Table, headOf, tailOf, lenOf, nextOf, setEnds, setNext}
 use Rattle.lists.specs.Links.{capped, leaveOf, joinEnd, joinFront, ifMoves, moveFirst, moveFirstToFront, moveAll}
 use Rattle.lists.specs.Family.{count, lastD, chain, view, Good, Pair, Run, Moved, MovedAll, MovedToFront}
 use Rattle.lists.proofs.Counts.{count-append, count-split, length-split, lastD-append, lastD-default}
@@ -428,7 +427,8 @@ module _ {t : Table} {from to : ℕ} (pair : Pair t from to) where
         some = some;
         enough = enough;
         last-is = sym (pair .good .lasts from)
-            ∙ ap (lastD (tailOf t from)) (sym take-whole) ∙ lastD-take (tailOf t from) (lenOf t from) (view t from) some
+            ∙ ap (lastD (tailOf t from)) (sym take-whole)
+            ∙ lastD-take (tailOf t from) (lenOf t from) (view t from) some
             enough;
       }
     where
@@ -572,10 +572,6 @@ module _ (t : Table) (good : Good t) (from to : ℕ) where
   pub move-first-good : Good (moveFirst t from to)
   unfolding moveFirst
   move-first-good = kept t good from to _ (λ pair. move-first pair .good)
-
-  pub move-first-to-front-good : Good (moveFirstToFront t from to)
-  unfolding moveFirstToFront
-  move-first-to-front-good = kept t good from to _ (λ pair. move-first-to-front pair .good)
 
   pub move-all-good : Good (moveAll t from to)
   unfolding moveAll

@@ -2,7 +2,7 @@
 use mathlib.Core.Path.{_≡_, refl, sym, ap, _∙_}
 use mathlib.Core.Bool.{Bool, true, false, false≢true}
 use mathlib.Core.Logic.{_≢_}
-use mathlib.Core.List.{List, [], _∷_, _++_, append-nil, append-assoc}
+use mathlib.Core.List.{List, [], _∷_, _++_}
 use Prim.Native.Nat.{ℕ, zero, suc, _+_, _-_, _≤_, _<_}
 use native.Mathlib.Numerals.{add-one}
 use native.Mathlib.Nat.{suc-sub-suc, sub-zero}
@@ -10,16 +10,14 @@ use native.Mathlib.Omega.{arith}
 use native.Mathlib.Decide.{ℕ-discrete, decLt}
 use borrow.Author.Tests.{eq-eqb, ne-eqb, lt-ltb, le-ltb}
 use lib.Dec.{eqb, ltb}
-use lib.ListN.{length, getD, set, take, drop, length-set, length-append, length-take, length-drop}
-use lib.Seq.{take-all, take-take, take-append-le, take-suc-set, length-take-le, take-nil}
-use Rattle.lists.specs.declared.keys.Key.{Key}
-use Rattle.lists.specs.declared.keys.Key.the-variants.{At, Nothing}
-use Rattle.lists.specs.Links.{pick}
+use lib.ListN.{length, take, drop, length-set, length-drop}
+use lib.Seq.{take-all, take-take, take-append-le, take-suc-set, length-take-le}
+use Rattle.lists.specs.Links.{pick, KEYS}
 use Rattle.lists.specs.Family.{count}
-use Rattle.lists.specs.KeyLists.{blankRow, countOf, keysOf, Held, elem, movedLast, frontOf, holdsOf, popFront}
-use Rattle.lists.specs.KeyLists.{popEnd, appendOf, addAbsent, squeezeOf, pushOf, headKey, withKey, firstsFrom}
+use Rattle.lists.specs.KeyLists.{blankRow, countOf, keysOf, Held, elem, movedLast, holdsOf, popFront}
+use Rattle.lists.specs.KeyLists.{popEnd, appendOf, addAbsent, squeezeOf, pushOf, withKey, firstsFrom}
 use Rattle.lists.specs.KeyLists.{firsts, pushed}
-use Rattle.lists.proofs.Counts.{count-append, count-split, count-same, count-other}
+use Rattle.lists.proofs.Counts.{count-append, count-same}
 
 -- ---- elem and count
 
@@ -69,13 +67,6 @@ length-keys c held = length-take-le (countOf c) (drop 1 c) (rw length-drop (omeg
 pub held-blank : Held blankRow
 held-blank = record { sized = refl; few = omega arith }
 
--- `front` tells the first key
-pub front-is : (c : List ℕ) → Held c → frontOf c ≡ headKey (keysOf c)
-front-is [] held = absurd (omega (arith, held .sized))
-front-is (n ∷ []) held = absurd (omega (arith, held .sized))
-front-is (zero ∷ k ∷ ks) held = refl
-front-is (suc n ∷ k ∷ ks) held = rw (ne-eqb (suc n) 0 (λ z. omega arith))
-
 -- `pop_front`: the first key is gone
 pub pop-front-is : (c : List ℕ) → Held c → keysOf (popFront c) ≡ drop 1 (keysOf c)
 unfolding popFront movedLast
@@ -85,15 +76,6 @@ pop-front-is (zero ∷ k ∷ ks) held = refl
 pop-front-is (suc n ∷ k ∷ ks) held =
     rw (ne-eqb (suc n) 0 (λ z. omega arith), suc-sub-suc n 0, sub-zero n)
     (take-append-le n ks (0 ∷ []) (omega (arith, held .sized, held .few)))
-
-pub pop-front-held : (c : List ℕ) → Held c → Held (popFront c)
-unfolding popFront movedLast
-pop-front-held [] held = absurd (omega (arith, held .sized))
-pop-front-held (n ∷ []) held = absurd (omega (arith, held .sized))
-pop-front-held (zero ∷ k ∷ ks) held = held
-pop-front-held (suc n ∷ k ∷ ks) held =
-    rw (ne-eqb (suc n) 0 (λ z. omega arith))
-    (record { sized = omega (arith, held .sized, length-append ks (0 ∷ [])); few = omega (arith, held .few) })
 
 -- `pop_end`: the last key is gone
 pub pop-end-is : (c : List ℕ) → Held c → keysOf (popEnd c) ≡ take (length (keysOf c) - 1) (keysOf c)
@@ -198,10 +180,6 @@ at-most (suc top) xs under once = omega (
     fewer : Once (without top xs)
     fewer k = omega (arith, once k, count-without top k xs)
 
--- the keys of a group are below 16
-abbrev pub KEYS : ℕ
-KEYS = 16
-
 -- a key joins unless it is there: no key then stands twice, and all stay below the top
 module _ (ks : List ℕ) (k : ℕ) where
   by : (P : List ℕ → Type 0) → (elem k ks ≡ true → P ks) → (elem k ks ≡ false → P (ks ++ (k ∷ []))) → P (withKey ks k)
@@ -236,13 +214,6 @@ module _ (ks : List ℕ) (k : ℕ) where
       go : (j : ℕ) → 0 < count j (ks ++ (k ∷ [])) → Dec (j ≡ k) → j < top
       go j some (yes p) = omega arith
       go j some (no p) = under j (omega (arith, some, count-joined j, count-alone j p))
-
-append-under : (top : ℕ) (ks : List ℕ) (k : ℕ) → Under top ks → k < top → Under top (ks ++ (k ∷ []))
-append-under top ks k under low j some = go (ℕ-discrete j k)
-  where
-    go : Dec (j ≡ k) → j < top
-    go (yes p) = omega arith
-    go (no p) = under j (omega (arith, some, count-joined ks k j, count-alone ks k j p))
 
 -- a row whose keys are below 16, and none stands twice
 pub record Single (c : List ℕ) : Type 0 where
@@ -326,28 +297,6 @@ module _ (c : List ℕ) (k : ℕ) (held : Held c) (under : Under KEYS (keysOf c)
           (add-absent-is (squeezeOf blankRow (drop 1 c)) k (squeezed full .1) ∙ ap (λ (ks : List ℕ). withKey ks k)
           (squeezed full .0))
 
-  pub push-held : Held (pushOf c k)
-  unfolding pushOf
-  push-held = go (decLt (countOf c) 64)
-    where
-      go : Dec (countOf c < 64) → Held (pushOf c k)
-      go (yes room) = rw (lt-ltb (countOf c) 64 room) (append-held c k held)
-      go (no p) =
-          let full : 64 ≤ countOf c = omega arith in
-          rw (le-ltb (countOf c) 64 full) (add-absent-held (squeezeOf blankRow (drop 1 c)) k (squeezed full .1))
-
-  push-under : Under KEYS (keysOf (pushOf c k))
-  unfolding pushOf
-  push-under = go (decLt (countOf c) 64)
-    where
-      go : Dec (countOf c < 64) → Under KEYS (keysOf (pushOf c k))
-      go (yes room) = rw (lt-ltb (countOf c) 64 room, append-is c k held room) (append-under KEYS (keysOf c) k under
-          low)
-      go (no p) =
-          let full : 64 ≤ countOf c = omega arith in
-          rw (le-ltb (countOf c) 64 full) (add-absent-single (squeezeOf blankRow (drop 1 c)) k (squeezed full .1) low
-          .under)
-
 -- ---- no key is lost
 
 with-there : (ks : List ℕ) (k : ℕ) → elem k (withKey ks k) ≡ true
@@ -372,107 +321,9 @@ firsts-keep seen (k ∷ ks) j there = go (ℕ-discrete k j) (firsts-keep (withKe
     go (yes same) later = firsts-seen (withKey seen k) ks j (rw (← same) (with-there seen k))
     go (no other) later = later (rw (ne-eqb k j other) at there)
 
--- what is pushed stands in the list, and so does what stood there
-pub push-there : (ks : List ℕ) (k : ℕ) → elem k (pushed ks k) ≡ true
-push-there ks k = go (ltb (length ks) 64)
-  where
-    go : (b : Bool) → elem k (pick b (ks ++ (k ∷ [])) (withKey (firsts ks) k)) ≡ true
-    go true = elem-last k ks
-    go false = with-there (firsts ks) k
-
 pub push-keeps : (ks : List ℕ) (k j : ℕ) → elem j ks ≡ true → elem j (pushed ks k) ≡ true
 push-keeps ks k j there = go (ltb (length ks) 64)
   where
     go : (b : Bool) → elem j (pick b (ks ++ (k ∷ [])) (withKey (firsts ks) k)) ≡ true
     go true = elem-more j k ks there
     go false = with-keeps (firsts ks) k j (firsts-keep [] ks j there)
-
--- ---- rows of keys below 16, as a pool keeps them
-
-pub record Keyed (c : List ℕ) : Type 0 where
-  pub held : Held c
-  pub under : Under KEYS (keysOf c)
-
-pub keyed-blank : Keyed blankRow
-keyed-blank = record { held = held-blank; under = single-blank .under }
-
-pub keyed-push : (c : List ℕ) (k : ℕ) → Keyed c → k < KEYS → Keyed (pushOf c k)
-keyed-push c k keyed low = record {
-  held = push-held c k (keyed .held) (keyed .under) low;
-  under =
-      push-under c k (keyed .held) (keyed .under) low;
-}
-
-pub keyed-pop-front : (c : List ℕ) → Keyed c → Keyed (popFront c)
-keyed-pop-front c keyed =
-    record {
-      held = pop-front-held c (keyed .held);
-      under = λ k some. keyed .under k (omega (
-        arith,
-        count-split k 1 (keysOf c),
-        ap (count k) (pop-front-is c (keyed .held)),
-      ));
-    }
-
-pub keyed-pop-end : (c : List ℕ) → Keyed c → Keyed (popEnd c)
-keyed-pop-end c keyed =
-    record {
-      held = pop-end-held c (keyed .held);
-      under = λ k some. keyed .under k (omega (
-        arith,
-        count-split k (length (keysOf c) - 1) (keysOf c),
-        ap (count k) (pop-end-is c (keyed .held)),
-      ));
-    }
-
--- ---- waking: the waiting list goes once round
-
--- the keys of which p holds, in order
-unfoldable pub keep : (ℕ → Bool) → List ℕ → List ℕ
-keep p [] = []
-keep p (k ∷ ks) = pick (p k) (k ∷ keep p ks) (keep p ks)
-
--- the first key is taken, and put at the end if p holds of it
-unfoldable pub round : (ℕ → Bool) → List ℕ → List ℕ
-round p [] = []
-round p (k ∷ ks) = pick (p k) (ks ++ (k ∷ [])) ks
-
-unfoldable pub rounds : (ℕ → Bool) → ℕ → List ℕ → List ℕ
-rounds p zero ks = ks
-rounds p (suc n) ks = rounds p n (round p ks)
-
-rounds-after : (p : ℕ → Bool) (ks done : List ℕ) → rounds p (length ks) (ks ++ done) ≡ done ++ keep p ks
-unfolding rounds round keep
-rounds-after p [] done = sym (append-nil done)
-rounds-after p (k ∷ ks) done = go (p k) (rounds-after p ks)
-  where
-    go : (b : Bool) → ((more : List ℕ) → rounds p (length ks) (ks ++ more) ≡ more ++ keep p ks)
-        → rounds p (length ks) (pick b ((ks ++ done) ++ (k ∷ [])) (ks ++ done)) ≡ done ++ pick b (k ∷ keep p ks)
-        (keep p ks)
-    go true later = rw (append-assoc ks done (k ∷ [])) (later (done ++ (k ∷ []))
-        ∙ append-assoc done (k ∷ []) (keep p ks))
-    go false later = later done
-
--- as many rounds as there are keys leave those of which p holds, in order
-pub rounds-keep : (p : ℕ → Bool) (ks : List ℕ) → rounds p (length ks) ks ≡ keep p ks
-rounds-keep p ks = rw (append-nil ks) at (rounds-after p ks [])
-
--- in a row a round never squeezes: what was taken makes room
-pub round-row : (c : List ℕ) (k : ℕ) → Held c → 0 < countOf c → keysOf (pushOf (popFront c) k)
-    ≡ drop 1 (keysOf c) ++ (k ∷ [])
-unfolding pushOf
-round-row c k held some =
-    let fewer = few-after c held some in
-    rw (lt-ltb (countOf (popFront c)) 64 fewer)
-    (append-is (popFront c) k (pop-front-held c held) fewer ∙ ap (λ (ks : List ℕ). ks ++ (k ∷ []))
-    (pop-front-is c held))
-  where
-    few-after : (d : List ℕ) → Held d → 0 < countOf d → countOf (popFront d) < 64
-    few-after d h more = omega (
-      arith,
-      length-keys (popFront d) (pop-front-held d h),
-      ap length (pop-front-is d h),
-      length-drop 1 (keysOf d),
-      length-keys d h,
-      h .few,
-    )

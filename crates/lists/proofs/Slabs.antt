@@ -4,21 +4,19 @@ use mathlib.Core.Bool.{Bool, true, false, false≢true}
 use mathlib.Core.Logic.{_≢_}
 use mathlib.Core.List.{List, [], _∷_, _++_}
 use Prim.Native.Nat.{ℕ, zero, suc, _+_, _-_, _≤_, _<_}
-use native.Mathlib.Numerals.{add-one}
 use native.Mathlib.Nat.{suc-sub-suc, sub-zero}
 use native.Mathlib.Omega.{arith}
 use native.Mathlib.Decide.{ℕ-discrete, decLt}
 use borrow.Author.Tests.{eq-eqb, ne-eqb, lt-ltb, le-ltb}
 use lib.Dec.{eqb, ltb}
-use lib.ListN.{length, getD, set, take, drop, length-set, length-append}
+use lib.ListN.{length, getD, set, length-set, length-append}
 use lib.Seq.{getD-set-same, getD-set-other, take-set-le, take-suc}
 use Rattle.lists.specs.declared.keys.Key.{Key}
 use Rattle.lists.specs.declared.keys.Key.the-variants.{At, Nothing}
 use Rattle.lists.specs.Links.{pick}
 use Rattle.lists.specs.Family.{count}
-use Rattle.lists.specs.KeyLists.{blankRow, countOf, keysOf, Held, elem, lastOf, holdsOf, popEnd, appendOf}
+use Rattle.lists.specs.KeyLists.{blankRow, countOf, keysOf, Held, elem, holdsOf, popEnd, appendOf}
 use Rattle.lists.specs.Slabs.{givenOf, containsOf, vacantOf, insertOf, removeOf, liveCount, nextKey, Sound}
-use Rattle.lists.proofs.Counts.{count-append, count-same, count-other}
 use Rattle.lists.proofs.Queues.{elem-count, elem-counted, elem-last, length-keys, pop-end-held, append-is}
 use Rattle.lists.proofs.Queues.{append-held, at-most, count-joined, count-alone, count-itself}
 
@@ -272,22 +270,6 @@ inserted-live s sound k gives = go (ℕ-discrete (countOf s) 0) (decLt (givenOf 
         )))
         (old-inserted s sound (omega arith))
 
--- there is none only where 16 actors are, and then nothing changes
-pub full-stays : (s : List ℕ) → Sound s → vacantOf s ≡ Nothing → (insertOf s ≡ s) × (liveCount s ≡ 16)
-unfolding vacantOf insertOf
-full-stays s sound none = go (ℕ-discrete (countOf s) 0) (decLt (givenOf s) 16)
-  where
-    apart : (k : ℕ) → _≡_ {A = Key} (At k) Nothing → ⊥
-    apart k e = let z : _≡_ {A = ℕ} 0 1 = cc in omega arith
-
-    go : Dec (countOf s ≡ 0) → Dec (givenOf s < 16) → (insertOf s ≡ s) × (liveCount s ≡ 16)
-    go (yes p) (yes q) = absurd (apart (givenOf s) (sym (rw (eq-eqb (countOf s) 0 p, lt-ltb (givenOf s) 16 q)) ∙ none))
-    go (yes p) (no q) = (rw (eq-eqb (countOf s) 0 p, le-ltb (givenOf s) 16 (omega arith)), omega (arith, sound .few))
-    go (no p) d =
-        absurd (apart (getD s (countOf s) 0)
-        (sym (rw (ne-eqb (countOf s) 0 p, lt-ltb (countOf s) 65 (omega (arith, sound .few, sound .fewer))))
-        ∙ none))
-
 -- ---- remove
 
 pub record Removed (s : List ℕ) (k : ℕ) : Type 0 where
@@ -409,11 +391,6 @@ module _ (s : List ℕ) (sound : Sound s) (k : ℕ) (live : containsOf s k ≡ t
 pub last-freed-first : (s : List ℕ) → Sound s → (k : ℕ) → containsOf s k ≡ true → vacantOf (removeOf s k) ≡ At k
 last-freed-first s sound k live = removed-dead s sound k live .next
 
--- of a key that no actor has nothing changes
-pub absent-stays : (s : List ℕ) (k : ℕ) → containsOf s k ≡ false → removeOf s k ≡ s
-unfolding removeOf
-absent-stays s k absent = rw absent
-
 -- ---- the walk
 
 -- `next_key` tells the least key of an actor from k on
@@ -444,21 +421,6 @@ next-least s (suc n) k j found = go (containsOf s k) refl (next-least s n (k + 1
             → containsOf s i ≡ false
         each i p q above (yes same) = rw same e
         each i p q above (no other) = above i (omega arith) q
-
--- and where it tells none, none of the n from k on is a key of an actor
-pub next-none : (s : List ℕ) (n k : ℕ) → nextKey s n k ≡ Nothing → (i : ℕ) → k ≤ i → i < k + n → containsOf s i ≡ false
-unfolding nextKey
-next-none s zero k none i p q = absurd (omega arith)
-next-none s (suc n) k none i p q = go (containsOf s k) refl (ℕ-discrete i k) (next-none s n (k + 1))
-  where
-    apart : _≡_ {A = Key} (At k) Nothing → ⊥
-    apart e = let z : _≡_ {A = ℕ} 0 1 = cc in omega arith
-
-    go : (b : Bool) → containsOf s k ≡ b → Dec (i ≡ k) → (nextKey s n (k + 1) ≡ Nothing → (m : ℕ) → k + 1 ≤ m
-        → m < k + 1 + n → containsOf s m ≡ false) → containsOf s i ≡ false
-    go true e d later = absurd (apart (rw e at none))
-    go false e (yes same) later = rw same e
-    go false e (no other) later = later (rw e at none) i (omega arith) (omega arith)
 
 -- ---- row end 11 (docs/RULES.md, section 9): keys 0, 1, 2, free 1, then 0: spawns get 0, 1, 3
 

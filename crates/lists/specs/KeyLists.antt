@@ -4,11 +4,15 @@ use mathlib.Core.Path.{_≡_}
 use mathlib.Core.Bool.{Bool, true, false}
 use mathlib.Core.List.{List, [], _∷_, _++_}
 use Prim.Native.Nat.{ℕ, zero, suc, _+_, _-_, _≤_}
-use lib.Dec.{eqb, ltb, leb}
+use lib.Dec.{eqb, ltb}
 use lib.ListN.{length, getD, set, take, drop, replicate}
 use Rattle.lists.specs.declared.keys.Key.{Key}
 use Rattle.lists.specs.declared.keys.Key.the-variants.{At, Nothing}
 use Rattle.lists.specs.Links.{pick}
+
+-- the most keys of a list
+abbrev pub FULL : ℕ
+FULL = 64
 
 -- an empty list
 abbrev pub blankRow : List ℕ
@@ -27,7 +31,7 @@ keysOf c = take (countOf c) (drop 1 c)
 
 pub record Held (c : List ℕ) : Type 0 where
   pub sized : length c ≡ 65
-  pub few : countOf c ≤ 64
+  pub few : countOf c ≤ FULL
 
 -- whether k stands in a list
 unfoldable pub elem : ℕ → List ℕ → Bool
@@ -58,7 +62,7 @@ unfoldable pub popEnd : List ℕ → List ℕ
 popEnd c = pick (eqb (countOf c) 0) c (set c 0 (countOf c - 1))
 
 unfoldable pub appendOf : List ℕ → ℕ → List ℕ
-appendOf c k = pick (ltb (countOf c) 64) (set (set c (countOf c + 1) k) 0 (countOf c + 1)) c
+appendOf c k = pick (ltb (countOf c) FULL) (set (set c (countOf c + 1) k) 0 (countOf c + 1)) c
 
 unfoldable pub addAbsent : List ℕ → ℕ → List ℕ
 addAbsent c k = pick (holdsOf c k) c (appendOf c k)
@@ -70,14 +74,9 @@ squeezeOf c (k ∷ ks) = squeezeOf (addAbsent c k) ks
 
 -- a full list first keeps only each key's first entry; then the key is added if absent
 unfoldable pub pushOf : List ℕ → ℕ → List ℕ
-pushOf c k = pick (ltb (countOf c) 64) (appendOf c k) (addAbsent (squeezeOf blankRow (drop 1 c)) k)
+pushOf c k = pick (ltb (countOf c) FULL) (appendOf c k) (addAbsent (squeezeOf blankRow (drop 1 c)) k)
 
 -- ---- the same of lists of keys
-
--- the first of a list, and its last
-abbrev pub headKey : List ℕ → Key
-headKey [] = Nothing
-headKey (x ∷ xs) = At x
 
 -- a key is added unless it is there
 unfoldable pub withKey : List ℕ → ℕ → List ℕ
@@ -93,4 +92,4 @@ firsts ks = firstsFrom [] ks
 
 -- the rule for a list of 64 (docs/RULES.md, section 6): squeezed when full, then added if absent
 abbrev pub pushed : List ℕ → ℕ → List ℕ
-pushed ks k = pick (ltb (length ks) 64) (ks ++ (k ∷ [])) (withKey (firsts ks) k)
+pushed ks k = pick (ltb (length ks) FULL) (ks ++ (k ∷ [])) (withKey (firsts ks) k)

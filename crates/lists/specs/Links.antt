@@ -19,14 +19,47 @@ LISTS = 262
 abbrev pub ENTRIES : ℕ
 ENTRIES = 256
 
+-- the slots of actors: 8 groups of at most 16
+abbrev pub SLOTS : ℕ
+SLOTS = 128
+
+abbrev pub GROUPS : ℕ
+GROUPS = 8
+
+abbrev pub KEYS : ℕ
+KEYS = 16
+
+-- the lists of messages that are no actor's
+
+-- entries that are free
 abbrev pub FREE : ℕ
 FREE = 0
 
+-- accepted, and not yet taken in by a turn
+abbrev pub INBOX : ℕ
+INBOX = 1
+
+-- to be routed
+abbrev pub PENDING : ℕ
+PENDING = 2
+
+-- being routed
+abbrev pub BATCH : ℕ
+BATCH = 3
+
+-- over, with the mark not yet ordered
+abbrev pub OVER : ℕ
+OVER = 4
+
+-- in the hands of the step under way
+abbrev pub HAND : ℕ
+HAND = 5
+
 unfoldable pub mailboxOf : ℕ → ℕ
-mailboxOf slot = pick (ltb slot 128) (6 + 2 * slot) LISTS
+mailboxOf slot = pick (ltb slot SLOTS) (6 + 2 * slot) LISTS
 
 unfoldable pub handOf : ℕ → ℕ
-handOf slot = pick (ltb slot 128) (7 + 2 * slot) LISTS
+handOf slot = pick (ltb slot SLOTS) (7 + 2 * slot) LISTS
 
 -- a number, held at the largest of 64 bits
 unfoldable pub capped : ℕ → ℕ
@@ -66,7 +99,7 @@ setNext t e v = set t e (headOf t e ∷ tailOf t e ∷ lenOf t e ∷ v ∷ [])
 
 -- row i of the table at the start: every entry is free, in rising order
 abbrev pub startRow : ℕ → List ℕ
-startRow i = 0 ∷ pick (eqb i FREE) 255 0 ∷ pick (eqb i FREE) 256 0 ∷ (i + 1) ∷ []
+startRow i = 0 ∷ pick (eqb i FREE) 255 0 ∷ pick (eqb i FREE) ENTRIES 0 ∷ (i + 1) ∷ []
 
 -- n rows from row i on
 unfoldable pub startFrom : ℕ → ℕ → Table

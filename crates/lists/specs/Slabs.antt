@@ -2,13 +2,13 @@
 -- A row of cells: the free keys, last freed last, as a list of keys; in the last cell how many keys were ever given.
 use mathlib.Core.Path.{_≡_}
 use mathlib.Core.Bool.{Bool, true, false}
-use mathlib.Core.List.{List, [], _∷_}
+use mathlib.Core.List.{List}
 use Prim.Native.Nat.{ℕ, zero, suc, _+_, _-_, _≤_, _<_}
 use lib.Dec.{eqb, ltb}
 use lib.ListN.{length, getD, set}
 use Rattle.lists.specs.declared.keys.Key.{Key}
 use Rattle.lists.specs.declared.keys.Key.the-variants.{At, Nothing}
-use Rattle.lists.specs.Links.{pick}
+use Rattle.lists.specs.Links.{pick, KEYS}
 use Rattle.lists.specs.Family.{count}
 use Rattle.lists.specs.KeyLists.{countOf, keysOf, lastOf, holdsOf, popEnd, appendOf}
 
@@ -21,10 +21,10 @@ containsOf s k = pick (ltb k (givenOf s)) (pick (holdsOf s k) false true) false
 
 -- the key of the next actor
 unfoldable pub vacantOf : List ℕ → Key
-vacantOf s = pick (eqb (countOf s) 0) (pick (ltb (givenOf s) 16) (At (givenOf s)) Nothing) (lastOf s)
+vacantOf s = pick (eqb (countOf s) 0) (pick (ltb (givenOf s) KEYS) (At (givenOf s)) Nothing) (lastOf s)
 
 unfoldable pub insertOf : List ℕ → List ℕ
-insertOf s = pick (eqb (countOf s) 0) (pick (ltb (givenOf s) 16) (set s 64 (givenOf s + 1)) s) (popEnd s)
+insertOf s = pick (eqb (countOf s) 0) (pick (ltb (givenOf s) KEYS) (set s 64 (givenOf s + 1)) s) (popEnd s)
 
 unfoldable pub removeOf : List ℕ → ℕ → List ℕ
 removeOf s k = pick (containsOf s k) (appendOf s k) s
@@ -39,7 +39,7 @@ nextKey s (suc n) k = pick (containsOf s k) (At k) (nextKey s n (k + 1))
 
 pub record Sound (s : List ℕ) : Type 0 where
   pub sized : length s ≡ 65
-  pub few : givenOf s ≤ 16
+  pub few : givenOf s ≤ KEYS
   pub fewer : countOf s ≤ givenOf s
   -- the free keys are different ones of those given
   pub once : (k : ℕ) → count k (keysOf s) ≤ 1

@@ -3,13 +3,24 @@
 // empty, and nothing is stored. Its one invariant is `Held` (specs/KeyLists.antt): the row has 65 cells, and the count
 // is at most 64. Keys may stand in it more than once. A full list is squeezed by a push: only each key's first entry
 // stays. Everything takes constant time but `pop_at` (a shift of 64 bytes), `holds_at` (a scan) and a push to a full
-// list. Nothing is required; the definitions are exact for every row. What each does to the list of keys is said by the
-// theorems of proofs/Queues.antt: `push-is`, `push-keeps`, `pop-front-is`, `pop-end-is`, `rounds-keep`.
+// list. Nothing is required; the definitions are exact for every row. What each does to the list of keys is said by
+// the theorems of proofs/Queues.antt: `push-is`, `push-keeps`, `pop-front-is`, `pop-end-is`.
 ghost use mathlib.Core.Path.{_≡_};
-ghost use mathlib.Core.List.{[]};
-ghost use lib.ListN.{getD, set, drop};
+ghost use lib.ListN.{set, drop};
 ghost use Rattle.lists.specs.KeyLists.{blankRow, keysAt, countOf, frontOf, lastOf, holdsOf, movedLast, popFront};
 ghost use Rattle.lists.specs.KeyLists.{popEnd, appendOf, addAbsent, squeezeOf, pushOf};
+
+// The most keys of a list.
+pub const FULL: u8 = 64;
+
+// One more.
+const PAST: u8 = FULL + 1;
+
+// The cells of a row.
+const CELLS: usize = PAST as usize;
+
+// A row of the key lists, as it is lent: how many keys there are, then the keys.
+pub type KeyRow = [u8; CELLS];
 
 // A key of a list.
 pub enum Key {
@@ -20,38 +31,38 @@ pub enum Key {
 // ---- looking at a list
 
 // How many keys there are.
-pub fn count_at(lists: &[[u8; 65]], i: usize) -> u8
-    ensures { λ r. ⌜ r ≡ countOf (keysAt (now (lists .entry)) i) ⌝ }
+pub fn count_at(keys: &[KeyRow], i: usize) -> u8
+    ensures { λ r. ⌜ r ≡ countOf (keysAt (now (keys .entry)) i) ⌝ }
 {
-    if i < lists.len() { lists[i][0] } else { 0 }
+    if i < keys.len() { keys[i][0] } else { 0 }
 }
 
 // The first key.
-pub fn front_at(lists: &[[u8; 65]], i: usize) -> Key
-    ensures { λ r. ⌜ r ≡ frontOf (keysAt (now (lists .entry)) i) ⌝ }
+pub fn front_at(keys: &[KeyRow], i: usize) -> Key
+    ensures { λ r. ⌜ r ≡ frontOf (keysAt (now (keys .entry)) i) ⌝ }
 {
-    if i < lists.len() {
-        let n = lists[i][0];
+    if i < keys.len() {
+        let n = keys[i][0];
         if n == 0 {
             return Key::Nothing;
         }
-        return Key::At(lists[i][1]);
+        return Key::At(keys[i][1]);
     }
     Key::Nothing
 }
 
 // The last key.
-pub fn last_at(lists: &[[u8; 65]], i: usize) -> Key
-    ensures { λ r. ⌜ r ≡ lastOf (keysAt (now (lists .entry)) i) ⌝ }
+pub fn last_at(keys: &[KeyRow], i: usize) -> Key
+    ensures { λ r. ⌜ r ≡ lastOf (keysAt (now (keys .entry)) i) ⌝ }
 {
-    if i < lists.len() {
-        let n = lists[i][0];
+    if i < keys.len() {
+        let n = keys[i][0];
         if n == 0 {
             return Key::Nothing;
         }
-        if n < 65 {
+        if n < PAST {
             let at = n as usize;
-            return Key::At(lists[i][at]);
+            return Key::At(keys[i][at]);
         }
         return Key::Nothing;
     }
@@ -59,11 +70,11 @@ pub fn last_at(lists: &[[u8; 65]], i: usize) -> Key
 }
 
 // Whether a key stands in the list.
-pub(crate) fn holds_at(lists: &[[u8; 65]], i: usize, key: u8) -> bool
-    ensures { λ r. ⌜ r ≡ holdsOf (keysAt (now (lists .entry)) i) key ⌝ }
+pub(crate) fn holds_at(keys: &[KeyRow], i: usize, key: u8) -> bool
+    ensures { λ r. ⌜ r ≡ holdsOf (keysAt (now (keys .entry)) i) key ⌝ }
 {
-    if i < lists.len() {
-        return holds(&lists[i], key);
+    if i < keys.len() {
+        return holds(&keys[i], key);
     }
     false
 }
@@ -71,93 +82,97 @@ pub(crate) fn holds_at(lists: &[[u8; 65]], i: usize, key: u8) -> bool
 // ---- changing a list
 
 // The first key leaves, where there is one.
-pub fn pop_at(lists: &mut [[u8; 65]], i: usize)
-    ensures { λ r. ⌜ now (lists .exit) ≡ set (now (lists .entry)) i (popFront (keysAt (now (lists .entry)) i)) ⌝ }
+pub fn pop_at(keys: &mut [KeyRow], i: usize)
+    ensures { λ r. ⌜ now (keys .exit) ≡ set (now (keys .entry)) i (popFront (keysAt (now (keys .entry)) i)) ⌝ }
 {
-    if i < lists.len() {
-        let n = lists[i][0];
+    if i < keys.len() {
+        let n = keys[i][0];
         if n == 0 {
             return;
         }
-        shift(&mut lists[i]);
-        lists[i][0] = n - 1;
+        shift(&mut keys[i]);
+        keys[i][0] = n - 1;
     }
 }
 
 // The last key leaves, where there is one.
-pub fn pop_end_at(lists: &mut [[u8; 65]], i: usize)
-    ensures { λ r. ⌜ now (lists .exit) ≡ set (now (lists .entry)) i (popEnd (keysAt (now (lists .entry)) i)) ⌝ }
+pub fn pop_end_at(keys: &mut [KeyRow], i: usize)
+    ensures { λ r. ⌜ now (keys .exit) ≡ set (now (keys .entry)) i (popEnd (keysAt (now (keys .entry)) i)) ⌝ }
 {
-    if i < lists.len() {
-        let n = lists[i][0];
+    if i < keys.len() {
+        let n = keys[i][0];
         if n == 0 {
             return;
         }
-        lists[i][0] = n - 1;
+        keys[i][0] = n - 1;
     }
 }
 
 // A key joins at the end; a full list stays as it is.
-pub(crate) fn append_at(lists: &mut [[u8; 65]], i: usize, key: u8)
-    ensures { λ r. ⌜ now (lists .exit) ≡ set (now (lists .entry)) i (appendOf (keysAt (now (lists .entry)) i) key) ⌝ }
+pub(crate) fn append_at(keys: &mut [KeyRow], i: usize, key: u8)
+    ensures { λ r. ⌜ now (keys .exit) ≡ set (now (keys .entry)) i (appendOf (keysAt (now (keys .entry)) i) key) ⌝ }
 {
-    if i < lists.len() {
-        let n = lists[i][0];
-        if n < 64 {
+    if i < keys.len() {
+        let n = keys[i][0];
+        if n < FULL {
             let at = n as usize;
-            lists[i][at + 1] = key;
-            lists[i][0] = n + 1;
+            keys[i][at + 1] = key;
+            keys[i][0] = n + 1;
         }
     }
 }
 
 // A key joins at the end. A full list first keeps only each key's first entry, and then takes the key if it is absent.
-pub fn push_at(lists: &mut [[u8; 65]], i: usize, key: u8)
-    ensures { λ r. ⌜ now (lists .exit) ≡ set (now (lists .entry)) i (pushOf (keysAt (now (lists .entry)) i) key) ⌝ }
+pub fn push_at(keys: &mut [KeyRow], i: usize, key: u8)
+    ensures { λ r. ⌜ now (keys .exit) ≡ set (now (keys .entry)) i (pushOf (keysAt (now (keys .entry)) i) key) ⌝ }
 {
-    let n = count_at(lists, i);
-    if n < 64 {
-        append_at(lists, i, key);
+    let n = count_at(keys, i);
+    if n < FULL {
+        append_at(keys, i, key);
         return;
     }
-    let held = keys_at(lists, i);
+    let held = keys_at(keys, i);
     let once = squeeze(held);
     let more = add_absent(once, key);
-    put_keys(lists, i, more);
+    put_keys(keys, i, more);
 }
 
 // The list is empty.
-pub fn clear_at(lists: &mut [[u8; 65]], i: usize)
-    ensures { λ r. ⌜ now (lists .exit) ≡ set (now (lists .entry)) i blankRow ⌝ }
+pub fn clear_at(keys: &mut [KeyRow], i: usize)
+    ensures { λ r. ⌜ now (keys .exit) ≡ set (now (keys .entry)) i blankRow ⌝ }
 {
-    let none = [0u8; 65];
-    put_keys(lists, i, none);
+    let none = [0u8; CELLS];
+    put_keys(keys, i, none);
 }
 
 // The list of one row becomes that of another, and is empty itself.
-pub fn move_at(lists: &mut [[u8; 65]], from: usize, to: usize)
+pub fn move_at(keys: &mut [KeyRow], from: usize, to: usize)
     ensures { λ r.
-        ⌜ now (lists .exit)
-        ≡ set (set (now (lists .entry)) to (keysAt (now (lists .entry)) from)) from blankRow ⌝ }
+        ⌜ now (keys .exit)
+        ≡ set (set (now (keys .entry)) to (keysAt (now (keys .entry)) from)) from blankRow ⌝ }
 {
-    let held = keys_at(lists, from);
-    put_keys(lists, to, held);
-    clear_at(lists, from);
+    let held = keys_at(keys, from);
+    put_keys(keys, to, held);
+    clear_at(keys, from);
 }
 
 // A row of the table, past its end an empty one.
-fn keys_at(lists: &[[u8; 65]], i: usize) -> [u8; 65]
-    ensures { λ r. ⌜ r ≡ keysAt (now (lists .entry)) i ⌝ }
+fn keys_at(keys: &[KeyRow], i: usize) -> KeyRow
+    ensures { λ r. ⌜ r ≡ keysAt (now (keys .entry)) i ⌝ }
 {
-    if i < lists.len() { lists[i] } else { [0u8; 65] }
+    if i < keys.len() {
+        keys[i]
+    } else {
+        [0u8; CELLS]
+    }
 }
 
 // A row of the table is stored; past its end nothing is.
-fn put_keys(lists: &mut [[u8; 65]], i: usize, keys: [u8; 65])
-    ensures { λ r. ⌜ now (lists .exit) ≡ set (now (lists .entry)) i keys ⌝ }
+fn put_keys(keys: &mut [KeyRow], i: usize, row: KeyRow)
+    ensures { λ r. ⌜ now (keys .exit) ≡ set (now (keys .entry)) i row ⌝ }
 {
-    if i < lists.len() {
-        lists[i] = keys;
+    if i < keys.len() {
+        keys[i] = row;
     }
 }
 
@@ -202,11 +217,11 @@ fn shift(keys: &mut [u8])
 }
 
 // A key joins a row at the end; a full row stays as it is.
-fn append(keys: [u8; 65], key: u8) -> [u8; 65]
+fn append(keys: KeyRow, key: u8) -> KeyRow
     ensures { λ r. ⌜ r ≡ appendOf keys key ⌝ }
 {
     let n = keys[0];
-    if n < 64 {
+    if n < FULL {
         let at = n as usize;
         let mut b = keys;
         b[at + 1] = key;
@@ -218,7 +233,7 @@ fn append(keys: [u8; 65], key: u8) -> [u8; 65]
 }
 
 // A key joins a row at the end unless it stands in it.
-fn add_absent(keys: [u8; 65], key: u8) -> [u8; 65]
+fn add_absent(keys: KeyRow, key: u8) -> KeyRow
     ensures { λ r. ⌜ r ≡ addAbsent keys key ⌝ }
 {
     let there = holds(&keys, key);
@@ -226,12 +241,12 @@ fn add_absent(keys: [u8; 65], key: u8) -> [u8; 65]
 }
 
 // Only each key's first entry stays.
-fn squeeze(keys: [u8; 65]) -> [u8; 65]
+fn squeeze(keys: KeyRow) -> KeyRow
     ensures { λ r. ⌜ r ≡ squeezeOf blankRow (drop 1 keys) ⌝ }
 {
-    let mut out = [0u8; 65];
+    let mut out = [0u8; CELLS];
     let mut i: usize = 1;
-    while i < 65 {
+    while i < CELLS {
         let k = keys[i];
         let next = add_absent(out, k);
         out = next;

@@ -9,7 +9,7 @@ ghost use mathlib.Core.Path.{_≡_};
 ghost use Prim.Native.Nat.{_+_, _-_, _<_};
 ghost use mathlib.Core.List.{[]};
 ghost use lib.ListN.{length};
-ghost use Rattle.lists.specs.Links.{capped, linkOf, linkAt, lenOf, nextOf, setEnds, setNext, firstOf, leaveOf};
+ghost use Rattle.lists.specs.Links.{capped, linkOf, linkAt, lenOf, setEnds, setNext, firstOf, leaveOf};
 ghost use Rattle.lists.specs.Links.{joinEnd, joinFront, moveFirst, moveFirstToFront, moveAll, startRow};
 ghost use Rattle.lists.specs.Links.{startFrom, mailboxOf, handOf};
 
@@ -34,13 +34,28 @@ pub const OVER: usize = 4;
 // In the hands of the step under way.
 pub const HAND: usize = 5;
 
+// The entries, one for each message.
+pub const ENTRIES: usize = 256;
+
+// The same, where messages are counted.
+pub const MESSAGES: u64 = ENTRIES as u64;
+
+// The last entry.
+const LAST: u64 = MESSAGES - 1;
+
+// The groups of actors.
+pub const GROUPS: usize = 8;
+
 // The actors' slots: each has a mailbox and a hand.
-pub const SLOTS: usize = 128;
+pub const SLOTS: usize = GROUPS * slab::KEYS as usize;
 
 // As many lists as there are: also a number that no list has.
 pub const LISTS: usize = 262;
 
 const LARGEST: u64 = 18446744073709551615;
+
+// A row of the links, as it is lent: the numbers of a `Link`, in order.
+pub type LinkRow = [u64; 4];
 
 // A row of the table.
 pub struct Link {
@@ -73,20 +88,20 @@ pub fn hand(slot: usize) -> usize
 }
 
 // Saturating addition.
-pub fn sum(a: u64, b: u64) -> u64
+pub fn saturating_add(a: u64, b: u64) -> u64
     ensures { λ r. ⌜ r ≡ capped (a + b) ⌝ }
 {
     if a <= LARGEST - b { a + b } else { LARGEST }
 }
 
 // Saturating subtraction.
-pub fn less(a: u64, b: u64) -> u64
+pub fn saturating_sub(a: u64, b: u64) -> u64
     ensures { λ r. ⌜ r ≡ a - b ⌝ }
 {
     if b <= a { a - b } else { 0 }
 }
 
-fn link_of(c: [u64; 4]) -> Link
+fn link_of(c: LinkRow) -> Link
     ensures { λ r. ⌜ r ≡ linkOf c ⌝ }
 {
     Link {
@@ -109,7 +124,7 @@ fn no_link() -> Link
 }
 
 // A row of the table, past its end an empty one.
-fn link_at(links: &[[u64; 4]], i: usize) -> Link
+fn link_at(links: &[LinkRow], i: usize) -> Link
     ensures { λ r. ⌜ r ≡ linkAt (now (links .entry)) i ⌝ }
 {
     if i < links.len() {
@@ -121,7 +136,7 @@ fn link_at(links: &[[u64; 4]], i: usize) -> Link
 }
 
 // The ends and the length of a list are stored; past the table's end nothing is.
-fn set_ends(links: &mut [[u64; 4]], list: usize, head: u64, tail: u64, len: u64)
+fn set_ends(links: &mut [LinkRow], list: usize, head: u64, tail: u64, len: u64)
     ensures { λ r. ⌜ now (links .exit) ≡ setEnds (now (links .entry)) list head tail len ⌝ }
 {
     let l = link_at(links, list);
@@ -133,7 +148,7 @@ fn set_ends(links: &mut [[u64; 4]], list: usize, head: u64, tail: u64, len: u64)
 }
 
 // The entry after an entry is stored; past the table's end nothing is.
-fn set_next(links: &mut [[u64; 4]], entry: usize, next: u64)
+fn set_next(links: &mut [LinkRow], entry: usize, next: u64)
     ensures { λ r. ⌜ now (links .exit) ≡ setNext (now (links .entry)) entry next ⌝ }
 {
     let l = link_at(links, entry);
@@ -147,20 +162,20 @@ fn set_next(links: &mut [[u64; 4]], entry: usize, next: u64)
 }
 
 // Row i of the table at the start.
-fn start_row(i: usize) -> [u64; 4]
+fn start_row(i: usize) -> LinkRow
     requires { ⌜ i < 18446744073709551615 ⌝ }
     ensures { λ r. ⌜ r ≡ startRow i ⌝ }
 {
     let next = (i as u64) + 1;
     if i == FREE {
-        [0, 255, 256, next]
+        [0, LAST, MESSAGES, next]
     } else {
         [0, 0, 0, next]
     }
 }
 
 // Every entry is free, in rising order, and every other list is empty.
-pub fn start(links: &mut [[u64; 4]])
+pub fn start(links: &mut [LinkRow])
     ensures { λ r. ⌜ now (links .exit) ≡ startFrom 0 (length (now (links .entry))) ⌝ }
 {
     let mut i: usize = 0;
@@ -171,7 +186,7 @@ pub fn start(links: &mut [[u64; 4]])
 }
 
 // How many entries a list has.
-pub fn length_of(links: &[[u64; 4]], list: usize) -> u64
+pub fn length_of(links: &[LinkRow], list: usize) -> u64
     ensures { λ r. ⌜ r ≡ lenOf (now (links .entry)) list ⌝ }
 {
     let l = link_at(links, list);
@@ -179,7 +194,7 @@ pub fn length_of(links: &[[u64; 4]], list: usize) -> u64
 }
 
 // The first entry of a list.
-pub fn first(links: &[[u64; 4]], list: usize) -> Found
+pub fn first(links: &[LinkRow], list: usize) -> Found
     ensures { λ r. ⌜ r ≡ firstOf (now (links .entry)) list ⌝ }
 {
     let l = link_at(links, list);
@@ -191,32 +206,24 @@ pub fn first(links: &[[u64; 4]], list: usize) -> Found
     }
 }
 
-// The entry after an entry in its list, to go through a list with: the caller knows by its length where it ends.
-pub fn after(links: &[[u64; 4]], entry: usize) -> usize
-    ensures { λ r. ⌜ r ≡ nextOf (now (links .entry)) entry ⌝ }
-{
-    let l = link_at(links, entry);
-    l.next as usize
-}
-
 // The first `count` entries of `from`, of which `last` is the last, leave it.
-fn leave(links: &mut [[u64; 4]], from: usize, count: u64, last: u64)
+fn leave(links: &mut [LinkRow], from: usize, count: u64, last: u64)
     ensures { λ r. ⌜ now (links .exit) ≡ leaveOf (now (links .entry)) from count last ⌝ }
 {
     let f = link_at(links, from);
     let l = link_at(links, last as usize);
-    let left = less(f.len, count);
+    let left = saturating_sub(f.len, count);
     set_ends(links, from, l.next, f.tail, left);
 }
 
 // A run of `count` entries from `head` to `last` joins `to` at its end: the last entry of `to`, where it has one,
 // links to it.
-fn join_end(links: &mut [[u64; 4]], to: usize, head: u64, count: u64, last: u64)
+fn join_end(links: &mut [LinkRow], to: usize, head: u64, count: u64, last: u64)
     ensures { λ r. ⌜ now (links .exit) ≡ joinEnd (now (links .entry)) to head count last ⌝ }
 {
     let t = link_at(links, to);
     let held = t.len;
-    let joined = sum(held, count);
+    let joined = saturating_add(held, count);
     if held == 0 {
         set_ends(links, to, head, last, joined);
     } else {
@@ -226,12 +233,12 @@ fn join_end(links: &mut [[u64; 4]], to: usize, head: u64, count: u64, last: u64)
 }
 
 // A run of `count` entries from `head` to `last` joins `to` at its front: `last` links to the first entry of `to`.
-fn join_front(links: &mut [[u64; 4]], to: usize, head: u64, count: u64, last: u64)
+fn join_front(links: &mut [LinkRow], to: usize, head: u64, count: u64, last: u64)
     ensures { λ r. ⌜ now (links .exit) ≡ joinFront (now (links .entry)) to head count last ⌝ }
 {
     let t = link_at(links, to);
     let held = t.len;
-    let joined = sum(held, count);
+    let joined = saturating_add(held, count);
     set_next(links, last as usize, t.head);
     if held == 0 {
         set_ends(links, to, head, last, joined);
@@ -242,7 +249,7 @@ fn join_front(links: &mut [[u64; 4]], to: usize, head: u64, count: u64, last: u6
 
 // The first entry of `from` goes to the end of `to`. Nothing changes where there is none, the two are the same, or one
 // is no list.
-pub fn move_first(links: &mut [[u64; 4]], from: usize, to: usize)
+pub fn move_first(links: &mut [LinkRow], from: usize, to: usize)
     ensures { λ r. ⌜ now (links .exit) ≡ moveFirst (now (links .entry)) from to ⌝ }
 {
     if from == to {
@@ -263,7 +270,7 @@ pub fn move_first(links: &mut [[u64; 4]], from: usize, to: usize)
 
 // The first entry of `from` goes to the front of `to`. Nothing changes where there is none, the two are the same, or
 // one is no list.
-pub fn move_first_to_front(links: &mut [[u64; 4]], from: usize, to: usize)
+pub fn move_first_to_front(links: &mut [LinkRow], from: usize, to: usize)
     ensures { λ r. ⌜ now (links .exit) ≡ moveFirstToFront (now (links .entry)) from to ⌝ }
 {
     if from == to {
@@ -284,7 +291,7 @@ pub fn move_first_to_front(links: &mut [[u64; 4]], from: usize, to: usize)
 
 // Every entry of `from` goes to the end of `to`, in order. Nothing changes where there is none, the two are the same,
 // or one is no list.
-pub fn move_all(links: &mut [[u64; 4]], from: usize, to: usize)
+pub fn move_all(links: &mut [LinkRow], from: usize, to: usize)
     ensures { λ r. ⌜ now (links .exit) ≡ moveAll (now (links .entry)) from to ⌝ }
 {
     if from == to {

@@ -11,30 +11,37 @@ ghost use Rattle.lists.specs.KeyLists.{keysAt};
 ghost use Rattle.lists.specs.Slabs.{givenOf, containsOf, vacantOf, insertOf, removeOf, liveCount, nextKey};
 use crate::keys;
 use crate::keys::Key;
+use crate::keys::KeyRow;
+
+// The most keys: the most actors of a group.
+pub const KEYS: u8 = 16;
+
+// The cell that has how many keys were ever given: the last.
+const GIVEN: usize = keys::FULL as usize;
 
 // How many keys were ever given.
-fn given_at(lists: &[[u8; 65]], i: usize) -> u8
-    ensures { λ r. ⌜ r ≡ givenOf (keysAt (now (lists .entry)) i) ⌝ }
+fn given_at(keys: &[KeyRow], i: usize) -> u8
+    ensures { λ r. ⌜ r ≡ givenOf (keysAt (now (keys .entry)) i) ⌝ }
 {
-    if i < lists.len() { lists[i][64] } else { 0 }
+    if i < keys.len() { keys[i][GIVEN] } else { 0 }
 }
 
 // How many keys were given is stored.
-fn set_given_at(lists: &mut [[u8; 65]], i: usize, n: u8)
-    ensures { λ r. ⌜ now (lists .exit) ≡ set (now (lists .entry)) i (set (keysAt (now (lists .entry)) i) 64 n) ⌝ }
+fn set_given_at(keys: &mut [KeyRow], i: usize, n: u8)
+    ensures { λ r. ⌜ now (keys .exit) ≡ set (now (keys .entry)) i (set (keysAt (now (keys .entry)) i) 64 n) ⌝ }
 {
-    if i < lists.len() {
-        lists[i][64] = n;
+    if i < keys.len() {
+        keys[i][GIVEN] = n;
     }
 }
 
 // Whether an actor has this key.
-pub fn contains_at(lists: &[[u8; 65]], i: usize, key: u8) -> bool
-    ensures { λ r. ⌜ r ≡ containsOf (keysAt (now (lists .entry)) i) key ⌝ }
+pub fn contains_at(keys: &[KeyRow], i: usize, key: u8) -> bool
+    ensures { λ r. ⌜ r ≡ containsOf (keysAt (now (keys .entry)) i) key ⌝ }
 {
-    let given = given_at(lists, i);
+    let given = given_at(keys, i);
     if key < given {
-        let free = keys::holds_at(lists, i, key);
+        let free = keys::holds_at(keys, i, key);
         if free { false } else { true }
     } else {
         false
@@ -42,63 +49,63 @@ pub fn contains_at(lists: &[[u8; 65]], i: usize, key: u8) -> bool
 }
 
 // The key that the next actor gets, where there is one.
-pub fn vacant_at(lists: &[[u8; 65]], i: usize) -> Key
-    ensures { λ r. ⌜ r ≡ vacantOf (keysAt (now (lists .entry)) i) ⌝ }
+pub fn vacant_at(keys: &[KeyRow], i: usize) -> Key
+    ensures { λ r. ⌜ r ≡ vacantOf (keysAt (now (keys .entry)) i) ⌝ }
 {
-    let freed = keys::count_at(lists, i);
+    let freed = keys::count_at(keys, i);
     if freed == 0 {
-        let given = given_at(lists, i);
-        if given < 16 {
+        let given = given_at(keys, i);
+        if given < KEYS {
             Key::At(given)
         } else {
             Key::Nothing
         }
     } else {
-        keys::last_at(lists, i)
+        keys::last_at(keys, i)
     }
 }
 
 // That key is taken.
-pub fn insert_at(lists: &mut [[u8; 65]], i: usize)
-    ensures { λ r. ⌜ now (lists .exit) ≡ set (now (lists .entry)) i (insertOf (keysAt (now (lists .entry)) i)) ⌝ }
+pub fn insert_at(keys: &mut [KeyRow], i: usize)
+    ensures { λ r. ⌜ now (keys .exit) ≡ set (now (keys .entry)) i (insertOf (keysAt (now (keys .entry)) i)) ⌝ }
 {
-    let freed = keys::count_at(lists, i);
+    let freed = keys::count_at(keys, i);
     if freed == 0 {
-        let given = given_at(lists, i);
-        if given < 16 {
-            set_given_at(lists, i, given + 1);
+        let given = given_at(keys, i);
+        if given < KEYS {
+            set_given_at(keys, i, given + 1);
         }
     } else {
-        keys::pop_end_at(lists, i);
+        keys::pop_end_at(keys, i);
     }
 }
 
 // A key is free again, where an actor has it.
-pub fn remove_at(lists: &mut [[u8; 65]], i: usize, key: u8)
-    ensures { λ r. ⌜ now (lists .exit) ≡ set (now (lists .entry)) i (removeOf (keysAt (now (lists .entry)) i) key) ⌝ }
+pub fn remove_at(keys: &mut [KeyRow], i: usize, key: u8)
+    ensures { λ r. ⌜ now (keys .exit) ≡ set (now (keys .entry)) i (removeOf (keysAt (now (keys .entry)) i) key) ⌝ }
 {
-    let there = contains_at(lists, i, key);
+    let there = contains_at(keys, i, key);
     if there {
-        keys::append_at(lists, i, key);
+        keys::append_at(keys, i, key);
     }
 }
 
 // How many actors there are.
-pub fn len_at(lists: &[[u8; 65]], i: usize) -> u8
-    ensures { λ r. ⌜ r ≡ liveCount (keysAt (now (lists .entry)) i) ⌝ }
+pub fn len_at(keys: &[KeyRow], i: usize) -> u8
+    ensures { λ r. ⌜ r ≡ liveCount (keysAt (now (keys .entry)) i) ⌝ }
 {
-    let given = given_at(lists, i);
-    let freed = keys::count_at(lists, i);
+    let given = given_at(keys, i);
+    let freed = keys::count_at(keys, i);
     if freed <= given { given - freed } else { 0 }
 }
 
 // The first key from `from` on that an actor has: a walk in rising key order.
-pub fn next_key_at(lists: &[[u8; 65]], i: usize, from: u8) -> Key
-    ensures { λ r. ⌜ r ≡ nextKey (keysAt (now (lists .entry)) i) (16 - from) from ⌝ }
+pub fn next_key_at(keys: &[KeyRow], i: usize, from: u8) -> Key
+    ensures { λ r. ⌜ r ≡ nextKey (keysAt (now (keys .entry)) i) (16 - from) from ⌝ }
 {
     let mut key = from;
-    while key < 16 {
-        let there = contains_at(lists, i, key);
+    while key < KEYS {
+        let there = contains_at(keys, i, key);
         if there {
             return Key::At(key);
         }

@@ -10,7 +10,7 @@ use lib.ListN.{length, take, drop, getD, set, length-set}
 use lib.Seq.{drop-drop, drop-set-lt, getD-drop, set-getD}
 use Rattle.text.specs.Bytes.{write, part}
 use Rattle.text.proofs.WriteLaws.{write-none, write-cons, length-write, length-part}
-use Rattle.log.specs.Log.{row, rowId, rowAt, rowLen, movable, squeezed, settled}
+use Rattle.log.specs.Log.{row, rowId, rowAt, rowLen, movable, compactedBytes, compactedRows}
 use Rattle.log.proofs.TableLaws.{next-row}
 
 pub movable-true : (long to : ℕ) (r : List ℕ) → to ≤ rowAt r → rowAt r + rowLen r ≤ long → movable long to r ≡ true
@@ -32,37 +32,41 @@ movable-long long to r h = ap (λ b. leb to (rowAt r) && b) (lt-leb (rowAt r + r
 
 -- one row of the rewrite
 module _ (r : List ℕ) (rs : List (List ℕ)) (to : ℕ) (bytes : List ℕ) where
-  squeezed-yes : movable (length bytes) to r ≡ true → squeezed (r ∷ rs) to bytes ≡ squeezed rs (to + rowLen r)
+  compactedBytes-yes : movable (length bytes) to r ≡ true
+      → compactedBytes (r ∷ rs) to bytes ≡ compactedBytes rs (to + rowLen r)
       (write bytes to (part bytes (rowAt r) (rowAt r + rowLen r)))
-  unfolding squeezed
-  squeezed-yes e = cc
+  unfolding compactedBytes
+  compactedBytes-yes e = cc
 
-  squeezed-no : movable (length bytes) to r ≡ false → squeezed (r ∷ rs) to bytes ≡ squeezed rs to bytes
-  unfolding squeezed
-  squeezed-no e = cc
+  compactedBytes-no : movable (length bytes) to r ≡ false
+      → compactedBytes (r ∷ rs) to bytes ≡ compactedBytes rs to bytes
+  unfolding compactedBytes
+  compactedBytes-no e = cc
 
-  settled-yes : movable (length bytes) to r ≡ true → settled (length bytes) (r ∷ rs) to ≡ row (rowId r) to (rowLen r) ∷
-      settled (length bytes) rs (to + rowLen r)
-  unfolding settled
-  settled-yes e = cc
+  compactedRows-yes : movable (length bytes) to r ≡ true
+      → compactedRows (length bytes) (r ∷ rs) to ≡ row (rowId r) to (rowLen r) ∷
+      compactedRows (length bytes) rs (to + rowLen r)
+  unfolding compactedRows
+  compactedRows-yes e = cc
 
-  settled-no : movable (length bytes) to r ≡ false → settled (length bytes) (r ∷ rs) to ≡ r ∷ settled (length bytes) rs
+  compactedRows-no : movable (length bytes) to r ≡ false
+      → compactedRows (length bytes) (r ∷ rs) to ≡ r ∷ compactedRows (length bytes) rs
       to
-  unfolding settled
-  settled-no e = cc
+  unfolding compactedRows
+  compactedRows-no e = cc
 
-pub record Squeezing (log₀ : List ℕ) (rows₀ : List (List ℕ)) (count : ℕ) (log : List ℕ) (rows : List (List ℕ))
+pub record Compacting (log₀ : List ℕ) (rows₀ : List (List ℕ)) (count : ℕ) (log : List ℕ) (rows : List (List ℕ))
     (to i : ℕ) : Type 0 where
   pub long : length log ≡ length log₀
   pub many : length rows ≡ length rows₀
   pub room : to ≤ length log
-  pub bytes : squeezed (drop i (take count rows₀)) to log ≡ squeezed (take count rows₀) 0 log₀
-  pub table : write rows i (settled (length log₀) (drop i (take count rows₀)) to)
-      ≡ write rows₀ 0 (settled (length log₀) (take count rows₀) 0)
+  pub bytes : compactedBytes (drop i (take count rows₀)) to log ≡ compactedBytes (take count rows₀) 0 log₀
+  pub table : write rows i (compactedRows (length log₀) (drop i (take count rows₀)) to)
+      ≡ write rows₀ 0 (compactedRows (length log₀) (take count rows₀) 0)
   pub fresh : drop i rows ≡ drop i rows₀
 
-pub squeezing-begins : (log : List ℕ) (rows : List (List ℕ)) (count : ℕ) → Squeezing log rows count log rows 0 0
-squeezing-begins log rows count = record {
+pub compacting-begins : (log : List ℕ) (rows : List (List ℕ)) (count : ℕ) → Compacting log rows count log rows 0 0
+compacting-begins log rows count = record {
   long = refl;
   many = refl;
   room = omega arith;
@@ -72,14 +76,14 @@ squeezing-begins log rows count = record {
 }
 
 module _ {log₀ : List ℕ} {rows₀ : List (List ℕ)} {count : ℕ} {log : List ℕ} {rows : List (List ℕ)} {to i : ℕ}
-    (s : Squeezing log₀ rows₀ count log rows to i) where
-  pub squeezing-ends : drop i (take count rows₀) ≡ [] → (log ≡ squeezed (take count rows₀) 0 log₀)
-      × (rows ≡ write rows₀ 0 (settled (length log₀) (take count rows₀) 0))
-  unfolding squeezed settled
-  squeezing-ends e =
-      let b : squeezed (drop i (take count rows₀)) to log ≡ log = ap (λ l. squeezed l to log) e in
-      let t : write rows i (settled (length log₀) (drop i (take count rows₀)) to)
-      ≡ rows = ap (λ l. write rows i (settled (length log₀) l to)) e ∙ write-none rows i in
+    (s : Compacting log₀ rows₀ count log rows to i) where
+  pub compacting-ends : drop i (take count rows₀) ≡ [] → (log ≡ compactedBytes (take count rows₀) 0 log₀)
+      × (rows ≡ write rows₀ 0 (compactedRows (length log₀) (take count rows₀) 0))
+  unfolding compactedBytes compactedRows
+  compacting-ends e =
+      let b : compactedBytes (drop i (take count rows₀)) to log ≡ log = ap (λ l. compactedBytes l to log) e in
+      let t : write rows i (compactedRows (length log₀) (drop i (take count rows₀)) to)
+      ≡ rows = ap (λ l. write rows i (compactedRows (length log₀) l to)) e ∙ write-none rows i in
       (sym b ∙ s .bytes, sym t ∙ s .table)
 
   module _ (h : i < count) (l : i < length rows) where
@@ -102,7 +106,7 @@ module _ {log₀ : List ℕ} {rows₀ : List (List ℕ)} {count : ℕ} {log : Li
     -- a range that is moved down
     pub moved-on : to ≤ rowAt r → rowAt r + rowLen r ≤ length log → (log' : List ℕ) → log'
         ≡ write log to (part log (rowAt r) (rowAt r + rowLen r))
-        → Squeezing log₀ rows₀ count log' (set rows i (row (rowId r) to (rowLen r))) (to + rowLen r) (i + 1)
+        → Compacting log₀ rows₀ count log' (set rows i (row (rowId r) to (rowLen r))) (to + rowLen r) (i + 1)
     moved-on a b log' e =
         let can : movable (length log) to r ≡ true = movable-true (length log) to r a b in
         let new : List ℕ = row (rowId r) to (rowLen r) in
@@ -110,20 +114,22 @@ module _ {log₀ : List ℕ} {rows₀ : List (List ℕ)} {count : ℕ} {log : Li
         (rowAt r + rowLen r) (omega arith) b ∙ less (rowAt r) (rowLen r) in
         let k : length log' ≡ length log = ap length e ∙ length-write log to (part log (rowAt r) (rowAt r + rowLen r))
         (omega arith) in
-        let q : settled (length log₀) (r ∷ drop (i + 1) (take count rows₀)) to ≡ new ∷ settled (length log₀)
+        let q : compactedRows (length log₀) (r ∷ drop (i + 1) (take count rows₀)) to
+        ≡ new ∷ compactedRows (length log₀)
         (drop (i + 1) (take count rows₀)) (to + rowLen r)
-        = subst (λ m. settled m (r ∷ drop (i + 1) (take count rows₀)) to
-        ≡ new ∷ settled m (drop (i + 1) (take count rows₀)) (to + rowLen r)) (s .long)
-        (settled-yes r (drop (i + 1) (take count rows₀)) to log can) in
+        = subst (λ m. compactedRows m (r ∷ drop (i + 1) (take count rows₀)) to
+        ≡ new ∷ compactedRows m (drop (i + 1) (take count rows₀)) (to + rowLen r)) (s .long)
+        (compactedRows-yes r (drop (i + 1) (take count rows₀)) to log can) in
         record {
           long = k ∙ s .long;
           many = length-set rows i new ∙ s .many;
           room = omega arith;
-          bytes = ap (squeezed (drop (i + 1) (take count rows₀)) (to + rowLen r)) e
-              ∙ (sym (squeezed-yes r (drop (i + 1) (take count rows₀)) to log can)
-              ∙ (ap (λ x. squeezed x to log) (sym here) ∙ s .bytes));
-          table = write-cons rows i new (settled (length log₀) (drop (i + 1) (take count rows₀)) (to + rowLen r)) l
-              ∙ (ap (write rows i) (sym q) ∙ (ap (λ x. write rows i (settled (length log₀) x to)) (sym here)
+          bytes = ap (compactedBytes (drop (i + 1) (take count rows₀)) (to + rowLen r)) e
+              ∙ (sym (compactedBytes-yes r (drop (i + 1) (take count rows₀)) to log can)
+              ∙ (ap (λ x. compactedBytes x to log) (sym here) ∙ s .bytes));
+          table = write-cons rows i new
+              (compactedRows (length log₀) (drop (i + 1) (take count rows₀)) (to + rowLen r)) l
+              ∙ (ap (write rows i) (sym q) ∙ (ap (λ x. write rows i (compactedRows (length log₀) x to)) (sym here)
               ∙ s .table));
           fresh = drop-set-lt (i + 1) rows i new (omega arith) ∙ fresh-more;
         }
@@ -132,23 +138,23 @@ module _ {log₀ : List ℕ} {rows₀ : List (List ℕ)} {count : ℕ} {log : Li
         less a b = omega arith
 
     -- a range that stays
-    pub passed-by : movable (length log) to r ≡ false → Squeezing log₀ rows₀ count log rows to (i + 1)
+    pub passed-by : movable (length log) to r ≡ false → Compacting log₀ rows₀ count log rows to (i + 1)
     passed-by can =
-        let q : settled (length log₀) (r ∷ drop (i + 1) (take count rows₀)) to
-        ≡ r ∷ settled (length log₀) (drop (i + 1) (take count rows₀)) to
-        = subst (λ m. settled m (r ∷ drop (i + 1) (take count rows₀)) to
-        ≡ r ∷ settled m (drop (i + 1) (take count rows₀)) to) (s .long)
-        (settled-no r (drop (i + 1) (take count rows₀)) to log can) in
+        let q : compactedRows (length log₀) (r ∷ drop (i + 1) (take count rows₀)) to
+        ≡ r ∷ compactedRows (length log₀) (drop (i + 1) (take count rows₀)) to
+        = subst (λ m. compactedRows m (r ∷ drop (i + 1) (take count rows₀)) to
+        ≡ r ∷ compactedRows m (drop (i + 1) (take count rows₀)) to) (s .long)
+        (compactedRows-no r (drop (i + 1) (take count rows₀)) to log can) in
         record {
           long = s .long;
           many = s .many;
           room = s .room;
-          bytes = sym (squeezed-no r (drop (i + 1) (take count rows₀)) to log can)
-              ∙ (ap (λ x. squeezed x to log) (sym here) ∙ s .bytes);
-          table = ap (λ x. write x (i + 1) (settled (length log₀) (drop (i + 1) (take count rows₀)) to))
+          bytes = sym (compactedBytes-no r (drop (i + 1) (take count rows₀)) to log can)
+              ∙ (ap (λ x. compactedBytes x to log) (sym here) ∙ s .bytes);
+          table = ap (λ x. write x (i + 1) (compactedRows (length log₀) (drop (i + 1) (take count rows₀)) to))
               (sym (set-getD rows i []))
-              ∙ (write-cons rows i r (settled (length log₀) (drop (i + 1) (take count rows₀)) to) l
-              ∙ (ap (write rows i) (sym q) ∙ (ap (λ x. write rows i (settled (length log₀) x to)) (sym here)
+              ∙ (write-cons rows i r (compactedRows (length log₀) (drop (i + 1) (take count rows₀)) to) l
+              ∙ (ap (write rows i) (sym q) ∙ (ap (λ x. write rows i (compactedRows (length log₀) x to)) (sym here)
               ∙ s .table)));
           fresh = fresh-more;
         }

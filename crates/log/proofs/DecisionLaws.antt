@@ -14,7 +14,7 @@ use Rattle.log.specs.declared.Refusal.{Refusal}
 use Rattle.log.specs.declared.Refusal.the-variants.{Sizes, LastId, TooMuch}
 use Rattle.log.specs.declared.Order.the-variants.{Replace}
 use Rattle.log.specs.declared.Answer.the-variants.{Ordered, Refused}
-use Rattle.log.specs.declared.Stepped.{Stepped}
+use Rattle.log.specs.declared.Answered.{Answered}
 use Rattle.log.specs.declared.opening.LeftRows.{LeftRows}
 use Rattle.log.specs.declared.opening.LeftRows.the-variants.{NoNext, Many, Rows}
 use Rattle.log.specs.declared.opening.Decision.{Decision}
@@ -187,7 +187,7 @@ module _ (log : List ℕ) (n : ℕ) (store : List ℕ) (table left rows : List (
         ∙ ap (λ l. openedBy log store table left (record { left = l; next = readFile (take n log) .next })) (sym same))
 
 -- a refused one
-pub open-wrong : (log : List ℕ) (n : ℕ) (store : List ℕ) (table left : List (List ℕ)) (step : Stepped)
+pub open-wrong : (log : List ℕ) (n : ℕ) (store : List ℕ) (table left : List (List ℕ)) (step : Answered)
     → sized (length log) n (length store) (length table) (length left) ≡ false → step
     ≡ record { counters = noCounters; answer = Refused Sizes }
     → _≡_ {A = Opened} (record { log = log; store = store; table = table; left = left; step = step })
@@ -195,7 +195,7 @@ pub open-wrong : (log : List ℕ) (n : ℕ) (store : List ℕ) (table left : Lis
 unfolding openOf
 open-wrong log n store table left step s e = cc
 
-pub open-refused : (log : List ℕ) (n : ℕ) (store : List ℕ) (table left : List (List ℕ)) (step : Stepped) (r : Refusal)
+pub open-refused : (log : List ℕ) (n : ℕ) (store : List ℕ) (table left : List (List ℕ)) (step : Answered) (r : Refusal)
     → sized (length log) n (length store) (length table) (length left) ≡ true → opening (take n log) ≡ refused r
     → step ≡ record { counters = noCounters; answer = Refused r }
     → _≡_ {A = Opened} (record { log = log; store = store; table = table; left = left; step = step })

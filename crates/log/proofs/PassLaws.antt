@@ -7,15 +7,15 @@ use Prim.Native.Nat.{ℕ, _+_, _-_, _≤_, _<_, _^_}
 use native.Mathlib.Omega.{arith}
 use lib.ListN.{length, drop}
 use Rattle.text.specs.Format.{lines}
-use Rattle.lines.specs.Lines.{turnAt}
-use Rattle.lines.specs.declared.Turn.{Turn}
-use Rattle.lines.specs.declared.Line.{Line}
-use Rattle.lines.specs.declared.Line.the-variants.{At, End}
-use Rattle.lines.proofs.TurnLaws.{found, no-line, turn-none}
+use Rattle.text.specs.Lines.{nextAt}
+use Rattle.text.specs.declared.lines.NextLine.{NextLine}
+use Rattle.text.specs.declared.lines.Line.{Line}
+use Rattle.text.specs.declared.lines.Line.the-variants.{At, End}
+use Rattle.text.proofs.NextLaws.{found, no-line, next-at-none}
 use Rattle.log.specs.declared.opening.Passing.{Passing}
 use Rattle.log.specs.declared.opening.Taken.{Taken}
 use Rattle.log.specs.declared.opening.Taken.the-variants.{Next, Over}
-use Rattle.log.specs.Scan.{passRows, going, begun, CanTake, TookTurn, Scanned}
+use Rattle.log.specs.Scan.{passRows, going, begun, CanTake, TookNextLine, Scanned}
 use Rattle.log.specs.Opening.{readFile}
 use Rattle.log.proofs.ScanLaws.{rows-rise, Tracked, tracked-begin, tracked-end, tracked-line, nextLines}
 use Rattle.log.proofs.ScanLaws.{next-file, next-none, next-line, next-over}
@@ -68,7 +68,7 @@ module _ (file : List ℕ) (lo at : ℕ) (p : Passing) (rows : List (List ℕ)) 
   pub ends : p .on ≡ false → Scanned file lo (p .taken) rows
   ends off = ended (p .taken) refl off
 
-  module _ (t : Turn) (is : t ≡ turnAt file at) where
+  module _ (t : NextLine) (is : t ≡ nextAt file at) where
     can-by : (k : Taken) → p .taken ≡ k → (l : Line) → t .line ≡ l → CanTake lo file rows k l
     can-by (Next q) e (At a z) el =
         let f = found file at t is a z el in
@@ -85,7 +85,7 @@ module _ (file : List ℕ) (lo at : ℕ) (p : Passing) (rows : List (List ℕ)) 
       abbrev Goes : Type 0
       Goes = Inv file lo (t .at) r rows' × (left file (t .at) r < left file at p)
 
-      more : (q : _) → p .taken ≡ Next q → (a z : ℕ) → t .line ≡ At a z → TookTurn lo file rows (Next q) (At a z) r
+      more : (q : _) → p .taken ≡ Next q → (a z : ℕ) → t .line ≡ At a z → TookNextLine lo file rows (Next q) (At a z) r
           rows' → (k : Taken) → r .taken ≡ k → Goes
       more q e a z el k (Next q') eu =
           let f = found file at t is a z el in
@@ -145,12 +145,12 @@ module _ (file : List ℕ) (lo at : ℕ) (p : Passing) (rows : List (List ℕ)) 
             ),
           )
 
-      next-by : (k : Taken) → p .taken ≡ k → (l : Line) → t .line ≡ l → TookTurn lo file rows k l r rows' → Goes
+      next-by : (k : Taken) → p .taken ≡ k → (l : Line) → t .line ≡ l → TookNextLine lo file rows k l r rows' → Goes
       next-by (Next q) e (At a z) el k = more q e a z el k (r .taken) refl
       next-by (Next q) e End el k =
           let h = held (Next q) e in
           let n = no-line file at t is el in
-          let same : t .at ≡ at = ap (λ u. u .at) (is ∙ sym (turn-none file at n)) in
+          let same : t .at ≡ at = ap (λ u. u .at) (is ∙ sym (next-at-none file at n)) in
           let b = ap bit (k .1) in
           let b' = ap bit on in
           let here : Held file lo at (Next q) (r .on) rows = (h .0, h .1, h .2, λ _. n) in
@@ -167,5 +167,5 @@ module _ (file : List ℕ) (lo at : ℕ) (p : Passing) (rows : List (List ℕ)) 
       next-by Over e (At a z) el k = absurd (false≢true (sym (held Over e .1) ∙ on))
       next-by Over e End el k = absurd (false≢true (sym (held Over e .1) ∙ on))
 
-      pub goes : TookTurn lo file rows (p .taken) (t .line) r rows' → Goes
+      pub goes : TookNextLine lo file rows (p .taken) (t .line) r rows' → Goes
       goes k = next-by (p .taken) refl (t .line) refl k

@@ -19,7 +19,8 @@ unfolding RowEnds.allTrue RowEnds.rowEnds RowEnds.sameBytes RowEnds.ids RowEnds.
     Line.putOf Line.doneOf Line.readFields Line.readLine Bytes.write
     Opening.insert Opening.remove Opening.takeIn Opening.readLines Opening.readFile Opening.fits Opening.allFit
     Opening.judge Opening.opening Opening.image
-    Log.extended Log.movable Log.squeezed Log.settled Log.compacted Log.withRecord Log.appendRefusal Log.appended
+    Log.extended Log.movable Log.compactedBytes Log.compactedRows Log.compacted Log.withRecord Log.appendRefusal
+    Log.appended
     Log.appendOf Log.halved Log.searchRow Log.withoutRow Log.keeps Log.markedDone Log.markOf Log.syncOf
     Recovery.didCall
 row-ends = refl
@@ -33,7 +34,8 @@ unfolding RowEnds.allTrue RowEnds.refusals RowEnds.refusedBy RowEnds.answeredBy 
     Line.putOf Line.doneOf Line.readFields Line.readLine Bytes.write
     Opening.insert Opening.remove Opening.takeIn Opening.readLines Opening.readFile Opening.fits Opening.allFit
     Opening.judge Opening.opening Opening.image
-    Log.extended Log.movable Log.squeezed Log.settled Log.compacted Log.withRecord Log.appendRefusal Log.appended
+    Log.extended Log.movable Log.compactedBytes Log.compactedRows Log.compacted Log.withRecord Log.appendRefusal
+    Log.appended
     Log.appendOf Log.halved Log.searchRow Log.withoutRow Log.keeps Log.markedDone Log.markOf Log.syncOf
     Recovery.didCall
 refusals-hold = refl

@@ -15,14 +15,15 @@ use Rattle.text.specs.Bytes.{write, part}
 use Rattle.text.proofs.WriteLaws.{length-write, take-written, part-written, length-part}
 use Rattle.log.specs.Stands.{Stands, Tabled}
 use Rattle.log.specs.Opening.{Rising, remove, fits, image}
-use Rattle.log.specs.Log.{row, rowId, rowAt, rowLen, Wal, openRows, extended, settled, compacted, withRecord}
+use Rattle.log.specs.Log.{row, rowId, rowAt, rowLen, Wal, openRows, extended, compactedRows, compacted}
+use Rattle.log.specs.Log.{withRecord}
 use Rattle.log.specs.Log.{logged, findRow, withoutRow}
 use Rattle.log.specs.Opened.{rowsFrom}
 use Rattle.log.proofs.TableLaws.{taken-out}
 use Rattle.log.proofs.OpeningLaws.{Rising-low, Rising-snoc, Rising-remove, Rising-le, Small-remove, Small-snoc}
 use Rattle.log.proofs.OpeningLaws.{image-snoc}
 use Rattle.log.proofs.TabledLaws.{small-few, tabled-size, tabled-start, tabled-behind, tabled-snoc}
-use Rattle.log.proofs.TabledLaws.{tabled-image, rows-from, squeezed-image, settled-rows}
+use Rattle.log.proofs.TabledLaws.{tabled-image, rows-from, compactedBytes-image, compactedRows-are}
 
 -- a text behind the others that says nothing of the open records' places
 pub extended-stands : (w : Wal) (ms : List Message) (text : List ℕ) → Stands w ms → w .counters .size + length text
@@ -74,13 +75,14 @@ module _ (w : Wal) (ms : List Message) (s : Stands w ms) where
 
   pub compacted-bytes : compacted w .bytes ≡ write (w .bytes) 0 (image ms)
   unfolding compacted
-  compacted-bytes = squeezed-image (w .counters .size) (w .bytes) 0 0 ms (openRows w) (omega arith) (s .room)
+  compacted-bytes = compactedBytes-image (w .counters .size) (w .bytes) 0 0 ms (openRows w) (omega arith) (s .room)
       (s .tabled)
 
   compacted-rows : openRows (compacted w) ≡ rowsFrom 0 ms
   unfolding compacted
   compacted-rows =
-      let new : settled (length (w .bytes)) (openRows w) 0 ≡ rowsFrom 0 ms = settled-rows (w .counters .size)
+      let new : compactedRows (length (w .bytes)) (openRows w) 0 ≡ rowsFrom 0 ms =
+      compactedRows-are (w .counters .size)
       (w .bytes) 0 0 ms (openRows w) (omega arith) (s .room) (s .tabled) in
       let n : 0 + length (rowsFrom 0 ms) ≡ w .counters .count = omega (arith, rows-from 0 ms, s .count) in
       rw new (ap (λ k. take k (write (w .table) 0 (rowsFrom 0 ms))) (sym n) ∙ take-written (w .table) 0 (rowsFrom 0 ms)
@@ -89,7 +91,8 @@ module _ (w : Wal) (ms : List Message) (s : Stands w ms) where
   pub compacted-stands : Stands (compacted w) ms
   unfolding compacted
   compacted-stands =
-      let new : settled (length (w .bytes)) (openRows w) 0 ≡ rowsFrom 0 ms = settled-rows (w .counters .size)
+      let new : compactedRows (length (w .bytes)) (openRows w) 0 ≡ rowsFrom 0 ms =
+      compactedRows-are (w .counters .size)
       (w .bytes) 0 0 ms (openRows w) (omega arith) (s .room) (s .tabled) in
       let fit : 0 + length (image ms) ≤ length (w .bytes) = omega (arith, live-small, s .live, s .room) in
       let long : length (write (w .bytes) 0 (image ms)) ≡ length (w .bytes) = length-write (w .bytes) 0 (image ms) fit

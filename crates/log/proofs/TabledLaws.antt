@@ -2,7 +2,7 @@
 use mathlib.Core.Path.{_≡_, refl, ap, sym, _∙_, subst}
 use mathlib.Core.Bool.{true, _&&_}
 use mathlib.Core.List.{List, [], _∷_, _++_}
-use Prim.Native.Nat.{ℕ, suc, _+_, _-_, _≤_}
+use Prim.Native.Nat.{ℕ, suc, _+_, _≤_}
 use native.Mathlib.Omega.{arith}
 use borrow.Author.Tests.{leb-true, le-leb}
 use lib.Dec.{leb}
@@ -12,7 +12,7 @@ use Rattle.text.specs.Bytes.{write, part}
 use Rattle.text.proofs.WriteLaws.{write-none, length-write, write-write, part-below, part-above, part-written}
 use Rattle.log.specs.Stands.{Small, Tabled}
 use Rattle.log.specs.Opening.{image}
-use Rattle.log.specs.Log.{row, rowId, rowAt, rowLen, movable, squeezed, settled}
+use Rattle.log.specs.Log.{row, rowId, rowAt, rowLen, movable, compactedBytes, compactedRows}
 use Rattle.log.specs.Opened.{rowsFrom}
 use Rattle.log.proofs.OpeningLaws.{and-left}
 
@@ -27,14 +27,6 @@ tabled-size bytes start [] (r ∷ rs) size t = absurd t
 tabled-size bytes start (m ∷ ms) [] size t = absurd t
 tabled-size bytes start (m ∷ ms) (r ∷ rs) size t =
     simp length-append (omega (arith, t .1, tabled-size bytes (rowAt r + length (recordLine m)) ms rs size (t .3)))
-
-pub tabled-length : (bytes : List ℕ) (start : ℕ) (ms : List Message) (rs : List (List ℕ)) (size : ℕ)
-    → Tabled bytes start ms rs size → length rs ≡ length ms
-tabled-length bytes start [] [] size t = refl
-tabled-length bytes start [] (r ∷ rs) size t = absurd t
-tabled-length bytes start (m ∷ ms) [] size t = absurd t
-tabled-length bytes start (m ∷ ms) (r ∷ rs) size t = ap suc (tabled-length bytes (rowAt r + length (recordLine m)) ms
-    rs size (t .3))
 
 pub tabled-start : (bytes : List ℕ) (start start' : ℕ) (ms : List Message) (rs : List (List ℕ)) (size : ℕ)
     → start' ≤ start → Tabled bytes start ms rs size → Tabled bytes start' ms rs size
@@ -118,13 +110,13 @@ tabled-image bytes to (m ∷ ms) h =
 
 -- the rewrite: the open records, in their order, from the first byte on
 module _ (size : ℕ) where
-  pub squeezed-image : (bytes : List ℕ) (start to : ℕ) (ms : List Message) (rs : List (List ℕ)) → to ≤ start
-      → size ≤ length bytes → Tabled bytes start ms rs size → squeezed rs to bytes ≡ write bytes to (image ms)
-  unfolding squeezed image movable
-  squeezed-image bytes start to [] [] h l t = sym (write-none bytes to)
-  squeezed-image bytes start to [] (r ∷ rs) h l t = absurd t
-  squeezed-image bytes start to (m ∷ ms) [] h l t = absurd t
-  squeezed-image bytes start to (m ∷ ms) (r ∷ rs) h l t =
+  pub compactedBytes-image : (bytes : List ℕ) (start to : ℕ) (ms : List Message) (rs : List (List ℕ)) → to ≤ start
+      → size ≤ length bytes → Tabled bytes start ms rs size → compactedBytes rs to bytes ≡ write bytes to (image ms)
+  unfolding compactedBytes image movable
+  compactedBytes-image bytes start to [] [] h l t = sym (write-none bytes to)
+  compactedBytes-image bytes start to [] (r ∷ rs) h l t = absurd t
+  compactedBytes-image bytes start to (m ∷ ms) [] h l t = absurd t
+  compactedBytes-image bytes start to (m ∷ ms) (r ∷ rs) h l t =
       let n = length (recordLine m) in
       let len : rowLen r ≡ n = ap rowLen (t .0) in
       let end : rowAt r + n ≤ size = omega (arith, tabled-size bytes (rowAt r + n) ms rs size (t .3)) in
@@ -138,20 +130,20 @@ module _ (size : ℕ) where
       ap (λ k. part bytes (rowAt r) (rowAt r + k)) len ∙ t .2 in
       let one : length (write bytes to (recordLine m)) ≡ length bytes = length-write bytes to (recordLine m)
       (omega (arith, t .1)) in
-      let here : squeezed (r ∷ rs) to bytes ≡ squeezed rs (to + n) (write bytes to (recordLine m)) = cc in
-      here ∙ (squeezed-image (write bytes to (recordLine m)) (rowAt r + n) (to + n) ms rs (omega (arith, t .1))
+      let here : compactedBytes (r ∷ rs) to bytes ≡ compactedBytes rs (to + n) (write bytes to (recordLine m)) = cc in
+      here ∙ (compactedBytes-image (write bytes to (recordLine m)) (rowAt r + n) (to + n) ms rs (omega (arith, t .1))
       (omega arith)
       (tabled-before bytes to (recordLine m) (omega (arith, t .1)) (rowAt r + n) ms rs size (omega (arith, t .1))
       (t .3))
       ∙ write-write bytes to (recordLine m) (image ms) (omega (arith, t .1)))
 
-  pub settled-rows : (bytes : List ℕ) (start to : ℕ) (ms : List Message) (rs : List (List ℕ)) → to ≤ start
-      → size ≤ length bytes → Tabled bytes start ms rs size → settled (length bytes) rs to ≡ rowsFrom to ms
-  unfolding settled rowsFrom movable
-  settled-rows bytes start to [] [] h l t = refl
-  settled-rows bytes start to [] (r ∷ rs) h l t = absurd t
-  settled-rows bytes start to (m ∷ ms) [] h l t = absurd t
-  settled-rows bytes start to (m ∷ ms) (r ∷ rs) h l t =
+  pub compactedRows-are : (bytes : List ℕ) (start to : ℕ) (ms : List Message) (rs : List (List ℕ)) → to ≤ start
+      → size ≤ length bytes → Tabled bytes start ms rs size → compactedRows (length bytes) rs to ≡ rowsFrom to ms
+  unfolding compactedRows rowsFrom movable
+  compactedRows-are bytes start to [] [] h l t = refl
+  compactedRows-are bytes start to [] (r ∷ rs) h l t = absurd t
+  compactedRows-are bytes start to (m ∷ ms) [] h l t = absurd t
+  compactedRows-are bytes start to (m ∷ ms) (r ∷ rs) h l t =
       let n = length (recordLine m) in
       let len : rowLen r ≡ n = ap rowLen (t .0) in
       let id : rowId r ≡ m .id = ap rowId (t .0) in
@@ -162,6 +154,7 @@ module _ (size : ℕ) where
         le-leb (rowAt r + rowLen r) (length bytes)
             (omega arith),
       ) in
-      let rest : settled (length bytes) rs (to + n) ≡ rowsFrom (to + n) ms = settled-rows bytes (rowAt r + n) (to + n)
+      let rest : compactedRows (length bytes) rs (to + n) ≡ rowsFrom (to + n) ms =
+      compactedRows-are bytes (rowAt r + n) (to + n)
       ms rs (omega (arith, t .1)) l (t .3) in
       cc

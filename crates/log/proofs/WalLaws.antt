@@ -15,9 +15,10 @@ use Rattle.log.specs.declared.Order.the-variants.{Append, Replace, Flush
 use Rattle.log.specs.declared.Refusal.the-variants.{TooLong, Full, NoId, NoRoom}
 use Rattle.log.specs.declared.Answer.the-variants.{Ordered}
 use Rattle.log.specs.declared.Due.the-variants as due
-use Rattle.log.specs.declared.SteppedDue.{SteppedDue}
+use Rattle.log.specs.declared.AnsweredDue.{AnsweredDue}
 use Rattle.log.specs.declared.table.Found.the-variants.{At, Missing}
-use Rattle.log.specs.Log.{row, Wal, state, openRows, DidAppend, DidMark, turnedAway, extended, squeezed, settled}
+use Rattle.log.specs.Log.{row, Wal, state, openRows, DidAppend, DidMark, turnedAway, extended, compactedBytes}
+use Rattle.log.specs.Log.{compactedRows}
 use Rattle.log.specs.Log.{compacted, withRecord, logged, newMessage, appendRefusal, appended, appendOf}
 use Rattle.log.specs.Log.{searchRow, withoutRow, keeps, markedDone, markOf, syncOf}
 use Rattle.log.specs.Table.{foundOf}
@@ -56,7 +57,8 @@ module _ (limit long live to : ℕ) where
 
 -- the rewrite
 pub compacted-is : (log log' : List ℕ) (rows rows' : List (List ℕ)) (c : Counters) → log'
-    ≡ squeezed (take (c .count) rows) 0 log → rows' ≡ write rows 0 (settled (length log) (take (c .count) rows) 0)
+    ≡ compactedBytes (take (c .count) rows) 0 log
+    → rows' ≡ write rows 0 (compactedRows (length log) (take (c .count) rows) 0)
     → state log' rows' (record { next = c .next; live = c .live; size = c .live; dirty = c .dirty; count = c .count })
     ≡ compacted (state log rows c)
 unfolding compacted
@@ -208,7 +210,7 @@ module _ (limit : ℕ) (w : Wal) (id n : ℕ) (e : n ≡ length (doneLine id)) w
 
 -- sync
 pub sync-dirty : (c : Counters) → c .dirty ≡ true
-    → _≡_ {A = SteppedDue} (record {
+    → _≡_ {A = AnsweredDue} (record {
       counters = record {
         next = c .next;
         live = c .live;
@@ -221,7 +223,7 @@ pub sync-dirty : (c : Counters) → c .dirty ≡ true
 unfolding syncOf
 sync-dirty c e = rw e refl
 
-pub sync-clean : (c : Counters) → c .dirty ≡ false → _≡_ {A = SteppedDue} (record { counters = c; due = due.Nothing })
+pub sync-clean : (c : Counters) → c .dirty ≡ false → _≡_ {A = AnsweredDue} (record { counters = c; due = due.Nothing })
     (syncOf c)
 unfolding syncOf
 sync-clean c e = cc

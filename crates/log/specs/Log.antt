@@ -17,7 +17,7 @@ use Rattle.log.specs.declared.Answer.{Answer}
 use Rattle.log.specs.declared.Answer.the-variants.{Ordered, Refused}
 use Rattle.log.specs.declared.Due.{Due}
 use Rattle.log.specs.declared.Due.the-variants as due
-use Rattle.log.specs.declared.SteppedDue.{SteppedDue}
+use Rattle.log.specs.declared.AnsweredDue.{AnsweredDue}
 use Rattle.log.specs.Opening.{fits}
 
 -- the number of each refusal (docs/RULES.md, 8; a full table: 256 messages are logged and live)
@@ -88,26 +88,26 @@ unfoldable pub movable : ℕ → ℕ → List ℕ → Bool
 movable long to r = leb to (rowAt r) && leb (rowAt r + rowLen r) long
 
 -- the records' ranges moved down, in their order, one behind the other from `to` on ..
-unfoldable pub squeezed : List (List ℕ) → ℕ → List ℕ → List ℕ
-squeezed [] to bytes = bytes
-squeezed (r ∷ rs) to bytes = elim (movable (length bytes) to r) [
-  | true ↦ squeezed rs (to + rowLen r) (write bytes to (part bytes (rowAt r) (rowAt r + rowLen r)))
-  | false ↦ squeezed rs to bytes
+unfoldable pub compactedBytes : List (List ℕ) → ℕ → List ℕ → List ℕ
+compactedBytes [] to bytes = bytes
+compactedBytes (r ∷ rs) to bytes = elim (movable (length bytes) to r) [
+  | true ↦ compactedBytes rs (to + rowLen r) (write bytes to (part bytes (rowAt r) (rowAt r + rowLen r)))
+  | false ↦ compactedBytes rs to bytes
 ]
 
 -- .. and their rows, with the places that they then have
-unfoldable pub settled : ℕ → List (List ℕ) → ℕ → List (List ℕ)
-settled long [] to = []
-settled long (r ∷ rs) to = elim (movable long to r) [
-  | true ↦ row (rowId r) to (rowLen r) ∷ settled long rs (to + rowLen r)
-  | false ↦ r ∷ settled long rs to
+unfoldable pub compactedRows : ℕ → List (List ℕ) → ℕ → List (List ℕ)
+compactedRows long [] to = []
+compactedRows long (r ∷ rs) to = elim (movable long to r) [
+  | true ↦ row (rowId r) to (rowLen r) ∷ compactedRows long rs (to + rowLen r)
+  | false ↦ r ∷ compactedRows long rs to
 ]
 
 -- the log rewritten to its open records in their order: its size is then the length of these
 unfoldable pub compacted : Wal → Wal
 compacted w = record {
-  bytes = squeezed (openRows w) 0 (w .bytes);
-  table = write (w .table) 0 (settled (length (w .bytes)) (openRows w) 0);
+  bytes = compactedBytes (openRows w) 0 (w .bytes);
+  table = write (w .table) 0 (compactedRows (length (w .bytes)) (openRows w) 0);
   counters = record {
     next = w .counters .next;
     live = w .counters .live;
@@ -259,7 +259,7 @@ unfoldable pub markOf : ℕ → Wal → ℕ → DidMark
 markOf compactAt w id = markFound compactAt w id (searchRow id (openRows w))
 
 -- Sync: a flush is ordered only where a record was appended since the last one
-unfoldable pub syncOf : Counters → SteppedDue
+unfoldable pub syncOf : Counters → AnsweredDue
 syncOf c = elim (c .dirty) [
   | true ↦ record {
     counters = record { next = c .next; live = c .live; size = c .size; dirty = false; count = c .count };

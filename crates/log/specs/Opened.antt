@@ -11,8 +11,8 @@ use Rattle.log.specs.declared.Order.the-variants.{Replace}
 use Rattle.log.specs.declared.Refusal.{Refusal}
 use Rattle.log.specs.declared.Refusal.the-variants.{Sizes}
 use Rattle.log.specs.declared.Answer.the-variants.{Ordered, Refused}
-use Rattle.log.specs.declared.Stepped.{Stepped}
-use Rattle.log.specs.Opening.{Read, Opening, refused, opened, opening, image}
+use Rattle.log.specs.declared.Answered.{Answered}
+use Rattle.log.specs.Opening.{Read, Opening, refused, opened, opening, image, RECORDS, NAME, ENTRY, STORE}
 use Rattle.log.specs.Log.{row}
 
 -- the log, the body store, the table of open records and the table of messages left, after the call; and its answer
@@ -21,18 +21,18 @@ pub record Opened : Type 0 where
   pub store : List ℕ
   pub table : List (List ℕ)
   pub left : List (List ℕ)
-  pub step : Stepped
+  pub step : Answered
 
 -- the lent sizes: a log of 16 to 65,536 bytes with the file in it, a store of 256 entries of 160 bytes, tables of 256
 -- rows
 unfoldable pub sized : ℕ → ℕ → ℕ → ℕ → ℕ → Bool
 sized log n store table left =
-    leb 16 log && leb log 65536 && leb n log && eqb store 40960 && eqb table 256 && eqb left 256
+    leb 16 log && leb log 65536 && leb n log && eqb store STORE && eqb table RECORDS && eqb left RECORDS
 
 -- a message in an entry of the store: the name at 160 times the entry, the body 32 bytes on; messages in the entries
 -- from i on
 unfoldable pub storedAt : ℕ → Message → List ℕ → List ℕ
-storedAt i m store = write (write store (160 * i) (m .name)) (160 * i + 32) (m .body)
+storedAt i m store = write (write store (ENTRY * i) (m .name)) (ENTRY * i + NAME) (m .body)
 
 unfoldable pub stored : ℕ → List Message → List ℕ → List ℕ
 stored i [] store = store

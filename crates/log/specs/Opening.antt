@@ -2,13 +2,31 @@
 -- cause.
 use mathlib.Core.Bool.{Bool, true, false, _&&_}
 use mathlib.Core.List.{List, [], _∷_, _++_}
-use Prim.Native.Nat.{ℕ, suc, _+_, _^_, _≤_, max}
+use Prim.Native.Nat.{ℕ, suc, _^_, _≤_, max}
 use lib.Dec.{eqb, leb, ltb}
 use lib.ListN.{length}
 use Rattle.text.specs.Format.{Message, lines, recordLine}
 use Rattle.text.specs.Line.{Line, put, done, other, readLine}
 use Rattle.log.specs.declared.Refusal.{Refusal}
 use Rattle.log.specs.declared.Refusal.the-variants.{LastId, TooMuch}
+
+-- the most messages that a log may leave: the rows of its tables
+abbrev pub RECORDS : ℕ
+RECORDS = 256
+
+-- the most bytes of a name, and of a body
+abbrev pub NAME : ℕ
+NAME = 32
+
+abbrev pub BODY : ℕ
+BODY = 128
+
+-- the bytes of an entry of the body store, a name and a body; the bytes of the store
+abbrev pub ENTRY : ℕ
+ENTRY = 160
+
+abbrev pub STORE : ℕ
+STORE = 40960
 
 -- the messages left so far, in rising id order: a record sets its id, the later one winning ..
 unfoldable pub insert : Message → List Message → List Message
@@ -52,7 +70,7 @@ readFile file = readLines nothingRead (lines file)
 
 -- a message within the limits: a name of at most 32 bytes, a body of at most 128
 unfoldable pub fits : Message → Bool
-fits m = leb (length (m .name)) 32 && leb (length (m .body)) 128
+fits m = leb (length (m .name)) NAME && leb (length (m .body)) BODY
 
 unfoldable pub allFit : List Message → Bool
 allFit [] = true
@@ -68,7 +86,7 @@ unfoldable pub judge : Read → Opening
 judge r = elim (ltb (r .next) (2 ^ 64)) [
   | false ↦ refused LastId
   | true ↦
-      elim (leb (length (r .left)) 256 && allFit (r .left)) [ false ↦ refused TooMuch | true ↦ opened r ]
+      elim (leb (length (r .left)) RECORDS && allFit (r .left)) [ false ↦ refused TooMuch | true ↦ opened r ]
 ]
 
 unfoldable pub opening : List ℕ → Opening

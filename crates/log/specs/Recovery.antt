@@ -14,8 +14,8 @@ use Rattle.log.specs.declared.Answer.{Answer}
 use Rattle.log.specs.declared.Answer.the-variants.{Ordered, Refused}
 use Rattle.log.specs.declared.Due.{Due}
 use Rattle.log.specs.declared.Due.the-variants as due
-use Rattle.log.specs.declared.SteppedDue.{SteppedDue}
-use Rattle.log.specs.Opening.{Read, remove}
+use Rattle.log.specs.declared.AnsweredDue.{AnsweredDue}
+use Rattle.log.specs.Opening.{Read, remove, RECORDS, STORE}
 use Rattle.log.specs.Log.{Wal, DidAppend, DidMark, newMessage, appendOf, markOf, syncOf}
 use Rattle.log.specs.Opened.{Opened, openedBy, openOf}
 
@@ -45,7 +45,7 @@ byAppend d = record { wal = d .wal; order = ordered (d .answer) }
 abbrev pub byMark : DidMark → Called
 byMark d = record { wal = d .wal; order = orderedDue (d .due) }
 
-abbrev pub bySync : Wal → SteppedDue → Called
+abbrev pub bySync : Wal → AnsweredDue → Called
 bySync w s =
     record { wal = record { bytes = w .bytes; table = w .table; counters = s .counters }; order = orderedDue (s .due) }
 
@@ -211,7 +211,7 @@ pub record Recovers (long : ℕ) (file : List ℕ) (moments : List (List Message
   pub found : Read
   pub among : List·Memᴰ (found .left) moments
   pub accepted : (log store : List ℕ) (table left : List (List ℕ)) → length log ≡ long → take (length file) log ≡ file
-      → length store ≡ 40960 → length table ≡ 256 → length left ≡ 256
+      → length store ≡ STORE → length table ≡ RECORDS → length left ≡ RECORDS
       → openOf log (length file) store table left ≡ openedBy log store table left found
 
 -- whatever file a cut may leave, the next opening finds a moment no earlier than the last confirmed flush or replace

@@ -16,13 +16,14 @@ use Rattle.log.specs.declared.opening.Pass.{Pass}
 use Rattle.log.specs.declared.opening.Taken.{Taken}
 use Rattle.log.specs.declared.opening.Taken.the-variants.{Next, Over}
 use Rattle.log.specs.declared.opening.Passing.{Passing}
-use Rattle.lines.specs.declared.Line as reader
-use Rattle.lines.specs.declared.Line.the-variants.{At, End}
+use Rattle.text.specs.declared.lines.Line as reader
+use Rattle.text.specs.declared.lines.Line.the-variants.{At, End}
 use Rattle.log.specs.declared.opening.LeftRows.{LeftRows}
 use Rattle.log.specs.declared.opening.LeftRows.the-variants.{NoNext, Many, Rows}
 use Rattle.log.specs.declared.opening.Decision.{Decision}
 use Rattle.log.specs.declared.opening.Decision.the-variants.{Refuse, Accept}
-use Rattle.log.specs.Opening.{readFile, allFit, Rising, refused, opened, opening, image}
+use Rattle.log.specs.Opening.{readFile, allFit, Rising, refused, opened, opening, image, RECORDS, NAME, BODY}
+use Rattle.log.specs.Opening.{ENTRY}
 use Rattle.log.specs.Log.{row, rowId, rowAt}
 use Rattle.log.specs.Opened.{rowsFrom}
 use Rattle.text.specs.declared.escape.Measure.the-variants as measure
@@ -111,12 +112,12 @@ CanTake lo file table (Next p) End = Unit {0}
 CanTake lo file table Over (At a e) = Unit {0}
 CanTake lo file table Over End = Unit {0}
 
-abbrev pub TookTurn : ℕ → List ℕ → List (List ℕ) → Taken → reader.Line → Passing → List (List ℕ) → Type 0
-TookTurn lo file table (Next p) (At a e) r table' =
+abbrev pub TookNextLine : ℕ → List ℕ → List (List ℕ) → Taken → reader.Line → Passing → List (List ℕ) → Type 0
+TookNextLine lo file table (Next p) (At a e) r table' =
     TookLine lo p table (readLine (part file a e)) a (r .taken) table' × (r .on ≡ going (r .taken))
-TookTurn lo file table (Next p) End r table' = (r .taken ≡ Next p) × (r .on ≡ false) × (table' ≡ table)
-TookTurn lo file table Over (At a e) r table' = (r .taken ≡ Over) × (r .on ≡ false) × (table' ≡ table)
-TookTurn lo file table Over End r table' = (r .taken ≡ Over) × (r .on ≡ false) × (table' ≡ table)
+TookNextLine lo file table (Next p) End r table' = (r .taken ≡ Next p) × (r .on ≡ false) × (table' ≡ table)
+TookNextLine lo file table Over (At a e) r table' = (r .taken ≡ Over) × (r .on ≡ false) × (table' ≡ table)
+TookNextLine lo file table Over End r table' = (r .taken ≡ Over) × (r .on ≡ false) × (table' ≡ table)
 
 -- the messages left by ids: below lo, the rows, and from hi on
 pub record Window (file : List ℕ) (lo hi : ℕ) (these : List (List ℕ)) : Type 0 where
@@ -140,13 +141,13 @@ Scanned file lo Over table = 2 ^ 64 ≤ readFile file .next
 
 -- the rows of all messages left, or that there are more than 256 of them, or that there is no next id
 pub record AllRows (file : List ℕ) (count next : ℕ) (table : List (List ℕ)) : Type 0 where
-  pub few : count ≤ 256
+  pub few : count ≤ RECORDS
   pub next-is : next ≡ readFile file .next
   pub left-are : readFile file .left ≡ messagesOf file (take count table)
 
 abbrev pub LeftIn : List ℕ → LeftRows → List (List ℕ) → Type 0
 LeftIn file NoNext table = 2 ^ 64 ≤ readFile file .next
-LeftIn file Many table = (readFile file .next < 2 ^ 64) × (256 < length (readFile file .left))
+LeftIn file Many table = (readFile file .next < 2 ^ 64) × (RECORDS < length (readFile file .left))
 LeftIn file (Rows count next) table = AllRows file count next table
 
 -- what is decided before anything is written
@@ -161,12 +162,12 @@ Decided file (Accept count next) table = Accepted file count next table
 
 -- whether the name and the body of a line are within the limits
 unfoldable pub fitLine : Line → Bool
-fitLine l = leb (length (nameOf l)) 32 && leb (length (bodyOf l)) 128
+fitLine l = leb (length (nameOf l)) NAME && leb (length (bodyOf l)) BODY
 
 -- what was handed back of messages left, by entries: within the limits ..
 unfoldable pub fitLeft : List (List ℕ) → Bool
 fitLeft [] = true
-fitLeft (x ∷ xs) = (leb (getD x 1 0) 32 && leb (getD x 2 0) 128) && fitLeft xs
+fitLeft (x ∷ xs) = (leb (getD x 1 0) NAME && leb (getD x 2 0) BODY) && fitLeft xs
 
 -- .. and the messages that the entries of the store from i on hold
 unfoldable pub fromStore : ℕ → List (List ℕ) → List ℕ → List Message
@@ -174,8 +175,8 @@ fromStore i [] store = []
 fromStore i (x ∷ xs) store =
     record {
       id = getD x 0 0;
-      name = take (getD x 1 0) (drop (160 * i) store);
-      body = take (getD x 2 0) (drop (160 * i + 32) store);
+      name = take (getD x 1 0) (drop (ENTRY * i) store);
+      body = take (getD x 2 0) (drop (ENTRY * i + NAME) store);
     } ∷ fromStore (suc i) xs store
 
 -- what the log, the records' table and the answer are after the messages' records were written from the first byte on

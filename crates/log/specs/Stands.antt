@@ -7,13 +7,13 @@ use lib.Dec.{leb}
 use lib.ListN.{length}
 use Rattle.text.specs.Format.{Message, recordLine}
 use Rattle.text.specs.Bytes.{part}
-use Rattle.log.specs.Opening.{allFit, Rising, image}
+use Rattle.log.specs.Opening.{allFit, Rising, image, RECORDS}
 use Rattle.log.specs.Log.{row, rowAt, Wal, openRows}
 use Rattle.log.specs.Recovery.{World}
 
 -- few enough and short enough
 abbrev pub Small : List Message → Type 0
-Small ms = (leb (length ms) 256 && allFit ms) ≡ true
+Small ms = (leb (length ms) RECORDS && allFit ms) ≡ true
 
 -- the rows say where the messages' records stand, in their order, from `start` on and up to `size`
 abbrev pub Tabled : List ℕ → ℕ → List Message → List (List ℕ) → ℕ → Type 0
@@ -33,7 +33,7 @@ pub record Stands (w : Wal) (ms : List Message) : Type 0 where
   pub room : w .counters .size ≤ length (w .bytes)
   pub live : w .counters .live ≡ length (image ms)
   pub count : w .counters .count ≡ length ms
-  pub rows : length (w .table) ≡ 256
+  pub rows : length (w .table) ≡ RECORDS
   pub tabled : Tabled (w .bytes) 0 ms (openRows w) (w .counters .size)
 
 -- what holds after every list of calls: the state stands for the messages of the last moment, in a log of its first

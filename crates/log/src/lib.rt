@@ -15,8 +15,26 @@ pub mod opening; // opening.rt: a file read, decided on and written anew
 pub mod table; // table.rt: rows of the table of open records
 pub mod wal; // wal.rt: append, mark, sync, and the rewrite
 
+// The most open records: as many messages as there are.
+pub const RECORDS: usize = 256;
+
+// The most bytes of a message's name.
+pub const NAME: usize = 32;
+
+// The most bytes of its body.
+pub const BODY: usize = 128;
+
+// The bytes of an entry of the body store: a name, then a body.
+pub const ENTRY: usize = NAME + BODY;
+
+// The bytes of the body store.
+pub const STORE: usize = RECORDS * ENTRY;
+
 // The id under which a message is logged.
 pub struct LogId(pub u64);
+
+// A row of the open records, as it is lent: the id, where the record begins, its length.
+pub type RecordRow = [u64; 3];
 
 // The log's counters: the next id, the length of the open records, the file's length, whether a record was appended
 // since the last flush, and the number of open records.
@@ -59,13 +77,13 @@ pub enum Due {
 }
 
 // The counters after an opening or an append, and its answer.
-pub struct Stepped {
+pub struct Answered {
     pub counters: Counters,
     pub answer: Answer,
 }
 
 // The counters after a mark or a sync, and the order that is due.
-pub struct SteppedDue {
+pub struct AnsweredDue {
     pub counters: Counters,
     pub due: Due,
 }

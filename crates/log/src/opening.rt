@@ -4,30 +4,32 @@ ghost use mathlib.Core.Path.{_≡_};
 ghost use mathlib.Core.Bool.{true};
 ghost use mathlib.Core.List.{map};
 ghost use Prim.Native.Nat.{suc, _+_, _-_, _^_, _≤_, _<_, max};
-ghost use lib.ListN.{length, take, drop};
+ghost use lib.ListN.{length, take};
 ghost use Rattle.text.specs.Bytes.{write};
 ghost use Rattle.text.specs.Line.{readLine, nameOf, bodyOf, lineAt};
 ghost use Rattle.log.specs.Opening.{readFile, allFit, image};
 ghost use Rattle.log.specs.Opened.{sized, stored, leftRow, noCounters, openedBy, openOf};
 ghost use Rattle.log.specs.Scan.{messagesOf, RowsRise, PlaceOf, holds, lenOf, Took, passRows, removeRow};
-ghost use Rattle.log.specs.Scan.{TookLine, CanTake, TookTurn, going, begun, Scanned, LeftIn, Accepted};
+ghost use Rattle.log.specs.Scan.{TookLine, CanTake, TookNextLine, going, begun, Scanned, LeftIn, Accepted};
 ghost use Rattle.log.specs.Scan.{Decided, fitLine, fitLeft, fromStore, imaged, lengthsOf};
 ghost use Rattle.log.specs.Log.{row};
 ghost use Rattle.log.specs.declared.Answer.the-variants.{Refused};
 use crate::Answer;
+use crate::Answered;
+use crate::BODY;
 use crate::Counters;
+use crate::ENTRY;
+use crate::NAME;
 use crate::Order;
+use crate::RECORDS;
+use crate::RecordRow;
 use crate::Refusal;
-use crate::Stepped;
+use crate::STORE;
 use crate::table::Found;
 use crate::table::close_row;
 use crate::table::open_row;
 use crate::table::search_row;
 use crate::table::set_row;
-use lines::Line;
-use lines::line_at;
-use lines::next;
-use lines::reader;
 use text::escape::Measure;
 use text::escape::copy_field;
 use text::escape::field_fits;
@@ -35,7 +37,14 @@ use text::line::LineKind;
 use text::line::body_field;
 use text::line::line_kind;
 use text::line::name_field;
+use text::lines::Line;
+use text::lines::line_at;
+use text::lines::next;
+use text::lines::reader;
 use text::record::encode_record;
+
+// A row of what an opening left, as it is lent: the id of a message, the lengths of its name and of its body.
+pub type LeftRow = [u64; 3];
 
 // A pass over the file: the rows in use, the id from which on rows were let go, and the next id so far.
 pub(crate) struct Pass {
@@ -74,7 +83,7 @@ pub(crate) struct Lengths {
 }
 
 // The first place whose id is not below: searched from the end, since ids mostly rise.
-fn row_place(rows: &[[u64; 3]], count: usize, id: u64) -> usize
+fn row_place(rows: &[RecordRow], count: usize, id: u64) -> usize
     requires { ⌜ (count ≤ length (now rows)) × RowsRise 0 (take count (now rows)) (2 ^ 64) ⌝ }
     ensures { λ r. ⌜ PlaceOf (take count (now (rows .entry))) id r ⌝ }
 {
@@ -91,7 +100,7 @@ fn row_place(rows: &[[u64; 3]], count: usize, id: u64) -> usize
 }
 
 // Whether the row at a place is in use and has this id.
-fn row_is(rows: &[[u64; 3]], i: usize, count: usize, id: u64) -> bool
+fn row_is(rows: &[RecordRow], i: usize, count: usize, id: u64) -> bool
     requires { ⌜ count ≤ length (now rows) ⌝ }
     ensures { λ r. ⌜ r ≡ holds (take count (now (rows .entry))) i id ⌝ }
 {
@@ -103,7 +112,7 @@ fn row_is(rows: &[[u64; 3]], i: usize, count: usize, id: u64) -> bool
 }
 
 // A record taken in, where its id is in the window. A full table lets its largest id go.
-fn put_row(rows: &mut [[u64; 3]], p: Pass, lo: u64, id: u64, at: usize) -> Pass
+fn put_row(rows: &mut [RecordRow], p: Pass, lo: u64, id: u64, at: usize) -> Pass
     requires { ⌜ (p .count ≤ length (now rows)) × (0 < length (now rows))
         × RowsRise lo (passRows p (now rows)) (p .hi) ⌝ }
     ensures within { λ r. ⌜ r .count ≤ length (now (rows .exit)) ⌝ }
@@ -152,7 +161,7 @@ fn put_row(rows: &mut [[u64; 3]], p: Pass, lo: u64, id: u64, at: usize) -> Pass
 }
 
 // A done line taken in.
-fn take_row(rows: &mut [[u64; 3]], p: Pass, id: u64) -> Pass
+fn take_row(rows: &mut [RecordRow], p: Pass, id: u64) -> Pass
     requires { ⌜ (p .count ≤ length (now rows)) × RowsRise 0 (passRows p (now rows)) (2 ^ 64) ⌝ }
     ensures within { λ r. ⌜ r .count ≤ length (now (rows .exit)) ⌝ }
     ensures out { λ r. ⌜ passRows r (now (rows .exit)) ≡ removeRow id (passRows p (now (rows .entry))) ⌝ }
@@ -182,7 +191,7 @@ fn next_after(n: u64, id: u64) -> u64
 }
 
 // What the line that begins at a place says, taken in.
-fn pass_line(rows: &mut [[u64; 3]], p: Pass, lo: u64, line: &[u8], at: usize) -> Taken
+fn pass_line(rows: &mut [RecordRow], p: Pass, lo: u64, line: &[u8], at: usize) -> Taken
     requires { ⌜ (p .count ≤ length (now rows)) × (0 < length (now rows))
         × RowsRise lo (passRows p (now rows)) (p .hi) ⌝ }
     ensures { λ r. ⌜ TookLine lo p (now (rows .entry)) (readLine (now (line .entry))) at r (now (rows .exit)) ⌝ }
@@ -243,9 +252,9 @@ fn goes_on(t: Taken) -> bool
 }
 
 // What the reader hands back, taken in.
-fn take_line(rows: &mut [[u64; 3]], file: &[u8], lo: u64, s: Passing, line: Line) -> Passing
+fn take_line(rows: &mut [RecordRow], file: &[u8], lo: u64, s: Passing, line: Line) -> Passing
     requires { ⌜ CanTake lo (now file) (now rows) (s .taken) line ⌝ }
-    ensures { λ r. ⌜ TookTurn lo (now (file .entry)) (now (rows .entry)) (s .taken) line r (now (rows .exit)) ⌝ }
+    ensures { λ r. ⌜ TookNextLine lo (now (file .entry)) (now (rows .entry)) (s .taken) line r (now (rows .exit)) ⌝ }
 {
     let taken = s.taken;
     let Taken::Next(p) = taken else {
@@ -268,7 +277,7 @@ fn take_line(rows: &mut [[u64; 3]], file: &[u8], lo: u64, s: Passing, line: Line
 
 // One pass over the file, by one reader: the rows of the messages left with ids from lo on, as far as the table goes,
 // and the next id.
-fn scan(rows: &mut [[u64; 3]], file: &[u8], lo: u64) -> Taken
+fn scan(rows: &mut [RecordRow], file: &[u8], lo: u64) -> Taken
     requires { ⌜ (0 < length (now rows)) × (lo < 2 ^ 64 - 1) ⌝ }
     ensures { λ r. ⌜ Scanned (now (file .entry)) lo r (now (rows .exit)) ⌝ }
 {
@@ -283,7 +292,7 @@ fn scan(rows: &mut [[u64; 3]], file: &[u8], lo: u64) -> Taken
 
 // The rows of the messages left: one pass where the file never has more than 257 open records, else further ones from
 // where the last left off.
-fn left_rows(rows: &mut [[u64; 3]], file: &[u8]) -> LeftRows
+fn left_rows(rows: &mut [RecordRow], file: &[u8]) -> LeftRows
     requires { ⌜ length (now rows) ≡ 257 ⌝ }
     ensures { λ r. ⌜ LeftIn (now (file .entry)) r (now (rows .exit)) ⌝ }
 {
@@ -294,7 +303,7 @@ fn left_rows(rows: &mut [[u64; 3]], file: &[u8]) -> LeftRows
             return LeftRows::NoNext;
         };
         count += p.count;
-        if 256 < count {
+        if RECORDS < count {
             return LeftRows::Many;
         }
         let hi = p.hi;
@@ -313,13 +322,13 @@ fn row_fits(file: &[u8], at: usize) -> bool
     ensures { λ r. ⌜ r ≡ fitLine (lineAt (now (file .entry)) at) ⌝ }
 {
     let line = line_at(file, at);
-    if field_fits(name_field(line), 32) {
-        return field_fits(body_field(line), 128);
+    if field_fits(name_field(line), NAME) {
+        return field_fits(body_field(line), BODY);
     }
     false
 }
 
-fn rows_fit(file: &[u8], rows: &[[u64; 3]], count: usize) -> bool
+fn rows_fit(file: &[u8], rows: &[RecordRow], count: usize) -> bool
     requires { ⌜ count ≤ length (now rows) ⌝ }
     ensures { λ r. ⌜ r ≡ allFit (messagesOf (now (file .entry)) (take count (now (rows .entry)))) ⌝ }
 {
@@ -336,7 +345,7 @@ fn rows_fit(file: &[u8], rows: &[[u64; 3]], count: usize) -> bool
 }
 
 // Accepted or not: nothing has been written yet.
-fn decide(rows: &mut [[u64; 3]], file: &[u8]) -> Decision
+fn decide(rows: &mut [RecordRow], file: &[u8]) -> Decision
     requires { ⌜ length (now rows) ≡ 257 ⌝ }
     ensures { λ r. ⌜ Decided (now (file .entry)) r (now (rows .exit)) ⌝ }
 {
@@ -372,13 +381,13 @@ fn copy_row(file: &[u8], at: usize, store: &mut [u8], base: usize) -> Lengths
 {
     let line = line_at(file, at);
     let name = len_of(copy_field(&mut store[base..], name_field(line)));
-    let from = base + 32;
+    let from = base + NAME;
     let body = len_of(copy_field(&mut store[from..], body_field(line)));
     Lengths { name, body }
 }
 
 // The messages of the rows into the entries of the store, in their order, and what is handed back of each.
-fn store_rows(file: &[u8], rows: &[[u64; 3]], count: usize, store: &mut [u8], left: &mut [[u64; 3]])
+fn store_rows(file: &[u8], rows: &[RecordRow], count: usize, store: &mut [u8], left: &mut [LeftRow])
     requires { ⌜ (count ≤ 256)
         × (count ≤ length (now rows))
         × (length (now store) ≡ 40960)
@@ -393,7 +402,7 @@ fn store_rows(file: &[u8], rows: &[[u64; 3]], count: usize, store: &mut [u8], le
     let mut i: usize = 0;
     while i < count {
         let r = rows[i];
-        let l = copy_row(file, r[1] as usize, store, 160 * i);
+        let l = copy_row(file, r[1] as usize, store, ENTRY * i);
         set_row(left, i, r[0], l.name, l.body);
         i += 1;
     }
@@ -402,9 +411,9 @@ fn store_rows(file: &[u8], rows: &[[u64; 3]], count: usize, store: &mut [u8], le
 // The records of the store's messages, written one behind the other from the first byte on, and their rows.
 fn write_image(
     log: &mut [u8],
-    records: &mut [[u64; 3]],
+    records: &mut [RecordRow],
     store: &[u8],
-    left: &[[u64; 3]],
+    left: &[LeftRow],
     count: usize,
 ) -> usize
     requires { ⌜ (count ≤ length (now left))
@@ -421,8 +430,8 @@ fn write_image(
     let mut i: usize = 0;
     while i < count {
         let x = left[i];
-        let a = 160 * i;
-        let b = a + 32;
+        let a = ENTRY * i;
+        let b = a + NAME;
         let c = a + x[1] as usize;
         let d = b + x[2] as usize;
         let n = len_of(encode_record(&mut log[p..], x[0], &store[a..c], &store[b..d]));
@@ -446,16 +455,16 @@ fn sizes_fit(log: usize, n: usize, store: usize, table: usize, left: usize) -> b
     if log < n {
         return false;
     }
-    if store != 40960 {
+    if store != STORE {
         return false;
     }
-    if table != 256 {
+    if table != RECORDS {
         return false;
     }
-    left == 256
+    left == RECORDS
 }
 
-fn closed(r: Refusal) -> Stepped
+fn closed(r: Refusal) -> Answered
     ensures { λ s. ⌜ s ≡ record { counters = noCounters; answer = Refused r } ⌝ }
 {
     let none = Counters {
@@ -465,7 +474,7 @@ fn closed(r: Refusal) -> Stepped
         dirty: false,
         count: 0,
     };
-    Stepped {
+    Answered {
         counters: none,
         answer: Answer::Refused(r),
     }
@@ -476,12 +485,12 @@ fn accept(
     log: &mut [u8],
     n: usize,
     store: &mut [u8],
-    records: &mut [[u64; 3]],
-    left: &mut [[u64; 3]],
-    rows: &[[u64; 3]],
+    records: &mut [RecordRow],
+    left: &mut [LeftRow],
+    rows: &[RecordRow],
     count: usize,
     next: u64,
-) -> Stepped
+) -> Answered
     requires { ⌜ (sized (length (now log)) n (length (now store)) (length (now records)) (length (now left)) ≡ true)
         × (length (now rows) ≡ 257)
         × Accepted (take n (now log)) count next (now rows) ⌝ }
@@ -504,7 +513,7 @@ fn accept(
         dirty: false,
         count,
     };
-    Stepped {
+    Answered {
         counters,
         answer: Answer::Ordered(Order::Replace(size)),
     }
@@ -516,9 +525,9 @@ pub fn open_log(
     log: &mut [u8],
     n: usize,
     store: &mut [u8],
-    records: &mut [[u64; 3]],
-    left: &mut [[u64; 3]],
-) -> Stepped
+    records: &mut [RecordRow],
+    left: &mut [LeftRow],
+) -> Answered
     ensures { λ r. ⌜ record {
       log = now (log .exit);
       store = now (store .exit);
@@ -529,7 +538,7 @@ pub fn open_log(
         ≡ openOf (now (log .entry)) n (now (store .entry)) (now (records .entry)) (now (left .entry)) ⌝ }
 {
     if sizes_fit(log.len(), n, store.len(), records.len(), left.len()) {
-        let mut rows = [[0u64; 3]; 257];
+        let mut rows = [[0u64; 3]; RECORDS + 1];
         match decide(&mut rows, &log[..n]) {
             Decision::Refuse(r) => closed(r),
             Decision::Accept { count, next } => accept(

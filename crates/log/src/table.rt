@@ -7,6 +7,7 @@ ghost use lib.ListN.{length, take, set};
 ghost use Rattle.text.specs.Bytes.{write, part};
 ghost use Rattle.log.specs.Log.{row, searchRow};
 ghost use Rattle.log.specs.Table.{foundOf};
+use crate::RecordRow;
 
 pub enum Found {
     At(usize),
@@ -14,7 +15,7 @@ pub enum Found {
 }
 
 // The place of an id's row. Ids rise, so it is searched by halving: of 256 rows at most 9 are read.
-pub(crate) fn search_row(rows: &[[u64; 3]], count: usize, id: u64) -> Found
+pub(crate) fn search_row(rows: &[RecordRow], count: usize, id: u64) -> Found
     ensures { λ r. ⌜ r ≡ foundOf (searchRow id (take count (now (rows .entry)))) ⌝ }
 {
     let mut lo: usize = 0;
@@ -38,7 +39,7 @@ pub(crate) fn search_row(rows: &[[u64; 3]], count: usize, id: u64) -> Found
 }
 
 // A row stored, where there is one at that place.
-pub(crate) fn set_row(rows: &mut [[u64; 3]], i: usize, id: u64, at: usize, len: usize)
+pub(crate) fn set_row(rows: &mut [RecordRow], i: usize, id: u64, at: usize, len: usize)
     ensures { λ r. ⌜ now (rows .exit) ≡ set (now (rows .entry)) i (row id at len) ⌝ }
 {
     let r = [id, at as u64, len as u64];
@@ -48,7 +49,7 @@ pub(crate) fn set_row(rows: &mut [[u64; 3]], i: usize, id: u64, at: usize, len: 
 }
 
 // A row taken out: those behind it move down by one.
-pub(crate) fn close_row(rows: &mut [[u64; 3]], i: usize, count: usize)
+pub(crate) fn close_row(rows: &mut [RecordRow], i: usize, count: usize)
     ensures { λ r. ⌜ now (rows .exit) ≡ write (now (rows .entry)) i (part (now (rows .entry)) (i + 1) count) ⌝ }
 {
     if rows.len() <= i {
@@ -68,7 +69,7 @@ pub(crate) fn close_row(rows: &mut [[u64; 3]], i: usize, count: usize)
 }
 
 // A row put at place i: those from there on, up to place n, move up by one.
-pub(crate) fn open_row(rows: &mut [[u64; 3]], i: usize, n: usize, row: [u64; 3])
+pub(crate) fn open_row(rows: &mut [RecordRow], i: usize, n: usize, row: RecordRow)
     requires { ⌜ (i ≤ n) × (n < length (now rows)) ⌝ }
     ensures { λ r. ⌜ now (rows .exit) ≡ write (now (rows .entry)) i (row ∷ part (now (rows .entry)) i n) ⌝ }
 {

@@ -7,17 +7,21 @@ ghost use Prim.Native.Nat.{_+_, _-_, _≤_};
 ghost use lib.Dec.{leb};
 ghost use lib.ListN.{length, take, getD};
 ghost use Rattle.text.specs.Bytes.{write, part};
-ghost use Rattle.log.specs.Log.{state, rowLen, squeezed, settled, CanAppend, newMessage, logged, appended};
+ghost use Rattle.log.specs.Log.{state, rowLen, compactedBytes, compactedRows, CanAppend, newMessage, logged};
+ghost use Rattle.log.specs.Log.{appended};
 ghost use Rattle.log.specs.Log.{appendOf, withoutRow, keeps, markedDone, markOf, syncOf};
 ghost use Rattle.log.specs.declared.Answer.the-variants.{Refused};
 use crate::Answer;
+use crate::Answered;
+use crate::AnsweredDue;
+use crate::BODY;
 use crate::Counters;
 use crate::Due;
 use crate::LogId;
+use crate::NAME;
 use crate::Order;
+use crate::RecordRow;
 use crate::Refusal;
-use crate::Stepped;
-use crate::SteppedDue;
 use crate::table::Found;
 use crate::table::close_row;
 use crate::table::search_row;
@@ -59,11 +63,12 @@ fn fits_behind(size: usize, n: usize, long: usize) -> bool
 
 // The log rewritten to its open records: their ranges are moved down, in their order, and their rows say where to. It
 // goes by the table, and reads no line.
-pub(crate) fn compact(log: &mut [u8], records: &mut [[u64; 3]], count: usize)
-    ensures bytes { λ r. ⌜ now (log .exit) ≡ squeezed (take count (now (records .entry))) 0 (now (log .entry)) ⌝ }
+fn compact(log: &mut [u8], records: &mut [RecordRow], count: usize)
+    ensures bytes { λ r. ⌜ now (log .exit)
+        ≡ compactedBytes (take count (now (records .entry))) 0 (now (log .entry)) ⌝ }
     ensures table { λ r. ⌜ now (records .exit)
         ≡ write (now (records .entry)) 0
-        (settled (length (now (log .entry))) (take count (now (records .entry))) 0) ⌝ }
+        (compactedRows (length (now (log .entry))) (take count (now (records .entry))) 0) ⌝ }
 {
     let mut to: usize = 0;
     let mut i: usize = 0;
@@ -89,7 +94,7 @@ pub(crate) fn compact(log: &mut [u8], records: &mut [[u64; 3]], count: usize)
 // The record of a message behind the file's bytes, its row behind the others, and the counters after it.
 fn put_record(
     log: &mut [u8],
-    records: &mut [[u64; 3]],
+    records: &mut [RecordRow],
     counters: Counters,
     len: usize,
     name: &[u8],
@@ -119,12 +124,12 @@ fn put_record(
 // A message that is not turned away: its record behind the others, or, for lack of room, behind the open ones alone.
 fn append_record(
     log: &mut [u8],
-    records: &mut [[u64; 3]],
+    records: &mut [RecordRow],
     counters: Counters,
     len: usize,
     name: &[u8],
     body: &[u8],
-) -> Stepped
+) -> Answered
     requires { ⌜ CanAppend (state (now log) (now records) counters)
         (newMessage (state (now log) (now records) counters) (now name) (now body)) len ⌝ }
     ensures { λ r. ⌜ record { wal = state (now (log .exit)) (now (records .exit)) (r .counters); answer = r .answer }
@@ -134,7 +139,7 @@ fn append_record(
     let size = counters.size;
     if fits_behind(size, len, log.len()) {
         let more = put_record(log, records, counters, len, name, body);
-        return Stepped {
+        return Answered {
             counters: more,
             answer: Answer::Ordered(Order::Append(size, size + len)),
         };
@@ -150,16 +155,16 @@ fn append_record(
         count,
     };
     let more = put_record(log, records, dense, len, name, body);
-    Stepped {
+    Answered {
         counters: more,
         answer: Answer::Ordered(Order::Replace(live + len)),
     }
 }
 
-fn turned_away(counters: Counters, r: Refusal) -> Stepped
+fn turned_away(counters: Counters, r: Refusal) -> Answered
     ensures { λ s. ⌜ s ≡ record { counters = counters; answer = Refused r } ⌝ }
 {
-    Stepped {
+    Answered {
         counters,
         answer: Answer::Refused(r),
     }
@@ -169,18 +174,18 @@ fn turned_away(counters: Counters, r: Refusal) -> Stepped
 fn append_step(
     counters: Counters,
     log: &mut [u8],
-    records: &mut [[u64; 3]],
+    records: &mut [RecordRow],
     name: &[u8],
     body: &[u8],
-) -> Stepped
+) -> Answered
     ensures { λ r. ⌜ record { wal = state (now (log .exit)) (now (records .exit)) (r .counters); answer = r .answer }
         ≡ appendOf (state (now (log .entry)) (now (records .entry)) counters)
         (now (name .entry)) (now (body .entry)) ⌝ }
 {
-    if 32 < name.len() {
+    if NAME < name.len() {
         return turned_away(counters, Refusal::TooLong);
     }
-    if 128 < body.len() {
+    if BODY < body.len() {
         return turned_away(counters, Refusal::TooLong);
     }
     let next = counters.next;
@@ -205,7 +210,7 @@ fn append_step(
 pub fn append(
     counters: &mut Counters,
     log: &mut [u8],
-    records: &mut [[u64; 3]],
+    records: &mut [RecordRow],
     name: &[u8],
     body: &[u8],
 ) -> Answer
@@ -219,7 +224,7 @@ pub fn append(
 }
 
 // A difference, 0 where there is none.
-fn less(a: usize, b: usize) -> usize
+fn saturating_sub(a: usize, b: usize) -> usize
     ensures { λ r. ⌜ r ≡ a - b ⌝ }
 {
     if a < b {
@@ -229,7 +234,7 @@ fn less(a: usize, b: usize) -> usize
 }
 
 // The length of the record of a row, 0 where there is no such row.
-fn len_at(records: &[[u64; 3]], i: usize) -> usize
+fn len_at(records: &[RecordRow], i: usize) -> usize
     ensures { λ r. ⌜ r ≡ rowLen (getD (now (records .entry)) i []) ⌝ }
 {
     if i < records.len() {
@@ -240,15 +245,15 @@ fn len_at(records: &[[u64; 3]], i: usize) -> usize
 }
 
 // The row of a message that is done taken out, and the counters after it.
-fn take_record(records: &mut [[u64; 3]], counters: Counters, i: usize) -> Counters
+fn take_record(records: &mut [RecordRow], counters: Counters, i: usize) -> Counters
     ensures { λ r. ⌜ state [] (now (records .exit)) r ≡ withoutRow (state [] (now (records .entry)) counters) i ⌝ }
 {
     let live = counters.live;
     let count = counters.count;
     let len = len_at(records, i);
     close_row(records, i, count);
-    let rest = less(live, len);
-    let fewer = less(count, 1);
+    let rest = saturating_sub(live, len);
+    let fewer = saturating_sub(count, 1);
     Counters {
         next: counters.next,
         live: rest,
@@ -278,11 +283,11 @@ fn keeps_on(size: usize, n: usize, long: usize, limit: usize, live: usize) -> bo
 // The done line behind the others, or the log rewritten to the open records.
 fn mark_done(
     log: &mut [u8],
-    records: &mut [[u64; 3]],
+    records: &mut [RecordRow],
     counters: Counters,
     limit: usize,
     id: u64,
-) -> SteppedDue
+) -> AnsweredDue
     ensures { λ r. ⌜ record { wal = state (now (log .exit)) (now (records .exit)) (r .counters); due = r .due }
         ≡ markedDone limit (state (now (log .entry)) (now (records .entry)) counters) id ⌝ }
 {
@@ -299,7 +304,7 @@ fn mark_done(
             dirty: counters.dirty,
             count,
         };
-        return SteppedDue {
+        return AnsweredDue {
             counters: more,
             due: Due::Ordered(Order::Append(size, size + n)),
         };
@@ -312,7 +317,7 @@ fn mark_done(
         dirty: counters.dirty,
         count,
     };
-    SteppedDue {
+    AnsweredDue {
         counters: dense,
         due: Due::Ordered(Order::Replace(live)),
     }
@@ -322,17 +327,17 @@ fn mark_done(
 fn mark_step(
     counters: Counters,
     log: &mut [u8],
-    records: &mut [[u64; 3]],
+    records: &mut [RecordRow],
     limit: usize,
     id: LogId,
-) -> SteppedDue
+) -> AnsweredDue
     ensures { λ r. ⌜ record { wal = state (now (log .exit)) (now (records .exit)) (r .counters); due = r .due }
         ≡ markOf limit (state (now (log .entry)) (now (records .entry)) counters) (id .0) ⌝ }
 {
     let n = id.0;
     let count = counters.count;
     let Found::At(i) = search_row(records, count, n) else {
-        return SteppedDue {
+        return AnsweredDue {
             counters,
             due: Due::Nothing,
         };
@@ -345,7 +350,7 @@ fn mark_step(
 pub fn mark(
     counters: &mut Counters,
     log: &mut [u8],
-    records: &mut [[u64; 3]],
+    records: &mut [RecordRow],
     limit: usize,
     id: LogId,
 ) -> Due
@@ -358,7 +363,7 @@ pub fn mark(
 }
 
 // Sync, by value.
-fn sync_step(counters: Counters) -> SteppedDue
+fn sync_step(counters: Counters) -> AnsweredDue
     ensures { λ r. ⌜ r ≡ syncOf counters ⌝ }
 {
     if counters.dirty {
@@ -369,12 +374,12 @@ fn sync_step(counters: Counters) -> SteppedDue
             dirty: false,
             count: counters.count,
         };
-        return SteppedDue {
+        return AnsweredDue {
             counters: clean,
             due: Due::Ordered(Order::Flush),
         };
     }
-    SteppedDue {
+    AnsweredDue {
         counters,
         due: Due::Nothing,
     }

@@ -5,18 +5,19 @@ use mathlib.Core.Bool.{true, false}
 use mathlib.Core.List.{List}
 use Prim.Native.Nat.{ℕ}
 use Rattle.actor.specs.declared.question.Reply.{Reply}
-use Rattle.group.specs.declared.at.At.{At}
-use Rattle.group.specs.declared.at.At.the-variants as at
-use Rattle.group.specs.declared.at.Ask.{Ask}
-use Rattle.group.specs.declared.at.Point.{Point}
+use Rattle.points.specs.declared.at.At.{At}
+use Rattle.points.specs.declared.at.At.the-variants as at
+use Rattle.points.specs.declared.at.Ask.{Ask}
+use Rattle.points.specs.declared.at.Point.{Point}
 use Rattle.turn.specs.declared.state.Disk.the-variants as disk
 use Rattle.turn.specs.State.{Pool, State, withPool, withDisk}
 use Rattle.turn.specs.Resume.{resumeOf}
-use Rattle.front.specs.declared.refusals.Check.the-variants as check
-use Rattle.front.specs.Answers.{Did, shown}
-use Rattle.front.specs.Refusals.{judged, inTurn, isMessage, turnRefusals}
+use Rattle.answers.specs.declared.refusals.Check.the-variants as check
+use Rattle.answers.specs.Answers.{Did, shown}
+use Rattle.answers.specs.Refusals.{judged, inTurn, isMessage, turnRefusals}
 use Rattle.pool.specs.declared.calls.StoredIn.the-variants as stored
-use Rattle.pool.specs.Calls.{begunOf, turnOf, storedIn, storedOf, failedOf, sentOf, resumeIn, resumeAt, resumedOf}
+use Rattle.pool.specs.Calls.{begunOf, turnOf, storedIn, storedOf, failedOf, collectSend, resumeIn, resumeAt}
+use Rattle.pool.specs.Calls.{resumedOf}
 use Rattle.pool.specs.Calls.{replyEffect}
 use Rattle.pool.specs.Run.{runOf}
 
@@ -27,7 +28,7 @@ pub turn-runs : (s : State) (p : Pool) (did : Did) → judged (turnRefusals (s .
 unfolding turnOf
 turn-runs s p did fine begun runs = rw fine (runs ∙ ap (λ (q : Pool). runOf (withPool s q)) begun)
 
-module _ (s : State) (p : Pool) (did : Did) (free : p ≡ withDisk (s .pool) (s .pool .turn .log) disk.Free) where
+module _ (s : State) (p : Pool) (did : Did) (free : p ≡ withDisk (s .pool) (s .pool .turn .counters) disk.Free) where
   pub stored-runs : inTurn (s .pool .turn .at) ≡ true → did ≡ runOf (withPool s p) → did ≡ storedOf s
   unfolding storedOf
   stored-runs during runs = rw during (runs ∙ ap (λ (q : Pool). runOf (withPool s q)) free)
@@ -63,7 +64,7 @@ module _ (s : State) (r : Reply) (name body : List ℕ) (did : Did) where
   fails is does = rw is does
 
 module _ (s : State) (r : Reply) (name body : List ℕ) (did : Did) (other : storedIn r ≡ stored.Other) where
-  pub sends : isMessage r ≡ true → did ≡ sentOf s name body → did ≡ replyEffect s r name body
+  pub sends : isMessage r ≡ true → did ≡ collectSend s name body → did ≡ replyEffect s r name body
   unfolding replyEffect
   sends message does = rw (other, message) does
 

@@ -1,27 +1,26 @@
--- Turn, reply, sync and close: refused by its table (crates/front/specs/Refusals), or with its effect.
+-- Turn, reply, sync and close: refused by its table (crates/answers/specs/Refusals), or with its effect.
 use mathlib.Core.Bool.{Bool, true, false}
 use mathlib.Core.List.{List}
 use Prim.Native.Nat.{ℕ}
-use Rattle.lists.specs.Links.{pick}
+use Rattle.lists.specs.Links.{pick, PENDING, ENTRIES}
 use Rattle.log.specs.declared.Due.{Due}
 use Rattle.log.specs.declared.Due.the-variants as due
-use Rattle.log.specs.declared.SteppedDue.{SteppedDue}
+use Rattle.log.specs.declared.AnsweredDue.{AnsweredDue}
 use Rattle.log.specs.Log as log
 use Rattle.actor.specs.declared.message.Caller.the-variants as caller
 use Rattle.actor.specs.declared.message.Logged.the-variants as id
 use Rattle.actor.specs.declared.question.Reply.{Reply}
 use Rattle.actor.specs.declared.question.Reply.the-variants as reply
-use Rattle.group.specs.declared.at.At.{At}
-use Rattle.group.specs.declared.at.At.the-variants as at
-use Rattle.group.specs.declared.at.Point.the-variants as point
-use Rattle.routing.specs.Intake.{PENDING}
-use Rattle.turn.specs.declared.state.What.the-variants as what
+use Rattle.points.specs.declared.at.At.{At}
+use Rattle.points.specs.declared.at.At.the-variants as at
+use Rattle.points.specs.declared.at.Point.the-variants as point
+use Rattle.turn.specs.declared.state.OrderFor.the-variants as orderFor
 use Rattle.turn.specs.declared.state.Disk.the-variants as disk
 use Rattle.turn.specs.State.{Pool, State, withPool, withDisk, begunAt, closedPool}
 use Rattle.turn.specs.Resume.{resumeOf}
-use Rattle.front.specs.Answers.{Did, shown, kept}
-use Rattle.front.specs.Refusals.{judged, byTable, inTurn, isMessage, turnRefusals, replyRefusals, syncRefusals}
-use Rattle.front.specs.Refusals.{closeRefusals}
+use Rattle.answers.specs.Answers.{Did, shown, kept}
+use Rattle.answers.specs.Refusals.{judged, byTable, inTurn, isMessage, turnRefusals, replyRefusals, syncRefusals}
+use Rattle.answers.specs.Refusals.{closeRefusals}
 use Rattle.pool.specs.declared.calls.StoredIn.{StoredIn}
 use Rattle.pool.specs.declared.calls.StoredIn.the-variants as stored
 use Rattle.pool.specs.Run.{runOf}
@@ -30,7 +29,7 @@ use Rattle.pool.specs.Run.{runOf}
 
 -- the first turn begins with the spawns, a later one with the intake
 abbrev pub firstPoint : Bool → At
-firstPoint true = at.Runs (point.Intake 256)
+firstPoint true = at.Runs (point.Intake ENTRIES)
 firstPoint false = at.Runs (point.Seed 0)
 
 abbrev pub begunOf : Pool → Pool
@@ -56,18 +55,18 @@ storedIn reply.Failed = stored.Failed
 
 -- the order is stored: the turn runs on, or its question is shown again; with no turn under way nothing is open then
 abbrev pub freed : State → State
-freed s = withPool s (withDisk (s .pool) (s .pool .turn .log) disk.Free)
+freed s = withPool s (withDisk (s .pool) (s .pool .turn .counters) disk.Free)
 
 unfoldable pub storedOf : State → Did
 storedOf s = pick (inTurn (s .pool .turn .at)) (runOf (freed s)) (shown (freed s))
 
 -- the order failed: nothing is taken any more
 unfoldable pub failedOf : State → Did
-failedOf s = shown (withPool s (withDisk (s .pool) (s .pool .turn .log) disk.Failed))
+failedOf s = shown (withPool s (withDisk (s .pool) (s .pool .turn .counters) disk.Failed))
 
 -- a message that was sent goes to pending's end, not logged, and Sends is asked again
-unfoldable pub sentOf : State → List ℕ → List ℕ → Did
-sentOf s name body =
+unfoldable pub collectSend : State → List ℕ → List ℕ → Did
+collectSend s name body =
     shown (kept s (record { name = name; body = body; caller = caller.Nobody; id = id.Never }) PENDING)
 
 -- the turn's question is answered, where one is open
@@ -86,7 +85,7 @@ resumedOf s r = runOf (resumeAt s r)
 abbrev pub replyBy : State → Reply → List ℕ → List ℕ → StoredIn → Did
 replyBy s r name body stored.Stored = storedOf s
 replyBy s r name body stored.Failed = failedOf s
-replyBy s r name body stored.Other = pick (isMessage r) (sentOf s name body) (resumedOf s r)
+replyBy s r name body stored.Other = pick (isMessage r) (collectSend s name body) (resumedOf s r)
 
 unfoldable pub replyEffect : State → Reply → List ℕ → List ℕ → Did
 replyEffect s r name body = replyBy s r name body (storedIn r)
@@ -97,16 +96,16 @@ replyOf s r name body = byTable s (judged (replyRefusals s r name body)) (replyE
 
 -- ---- sync, close
 
-abbrev pub syncedIn : Pool → SteppedDue → Due → Pool
-syncedIn p d (due.Ordered o) = withDisk p (d .counters) (disk.Waits o what.Nothing)
+abbrev pub syncedIn : Pool → AnsweredDue → Due → Pool
+syncedIn p d (due.Ordered o) = withDisk p (d .counters) (disk.Waits o orderFor.Nothing)
 syncedIn p d due.Nothing = p
 
 -- a flush waits, if one was due
-unfoldable pub syncedBy : Pool → SteppedDue → Pool
+unfoldable pub syncedBy : Pool → AnsweredDue → Pool
 syncedBy p d = syncedIn p d (d .due)
 
 unfoldable pub syncEffect : Pool → Pool
-syncEffect p = syncedBy p (log.syncOf (p .turn .log))
+syncEffect p = syncedBy p (log.syncOf (p .turn .counters))
 
 abbrev pub syncDid : State → Did
 syncDid s = shown (withPool s (syncEffect (s .pool)))

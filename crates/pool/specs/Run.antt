@@ -3,15 +3,14 @@
 use mathlib.Core.Bool.{Bool, true, false}
 use Prim.Native.Nat.{ℕ, zero, suc}
 use lib.Dec.{ltb}
-use Rattle.lists.specs.Links.{pick, Table, lenOf}
+use Rattle.lists.specs.Links.{pick, Table, lenOf, PENDING}
 use Rattle.lists.specs.KeyLists.{keysAt, countOf}
 use Rattle.group.specs.Roster.{waitingRow}
-use Rattle.routing.specs.Intake.{PENDING}
 use Rattle.turn.specs.State.{Counts, State}
 use Rattle.turn.specs.Step.{advanced}
-use Rattle.front.specs.declared.answer.Answer.the-variants as answer
-use Rattle.front.specs.Answers.{Did, shown}
-use Rattle.front.specs.Refusals.{inTurn}
+use Rattle.answers.specs.declared.answer.Answer.the-variants as answer
+use Rattle.answers.specs.Answers.{Did, shown}
+use Rattle.answers.specs.Refusals.{inTurn}
 
 -- some waiting list of the first n groups is not empty
 unfoldable pub waitersFrom : Table → ℕ → Bool

@@ -3,27 +3,35 @@ ghost use mathlib.Core.Path.{_≡_};
 ghost use mathlib.Core.List.{List};
 ghost use Prim.Native.Nat.{ℕ};
 ghost use Rattle.lists.specs.Links.{Table};
-ghost use Rattle.group.specs.Words.{atOf};
+ghost use Rattle.points.specs.Words.{atOf};
 ghost use Rattle.turn.specs.Words.{poolOf};
-ghost use Rattle.front.specs.Answers.{answerOf};
-ghost use Rattle.pool.specs.Calls.{firstPoint, begunOf, turnOf, storedIn, storedOf, failedOf, sentOf, resumeAt};
+ghost use Rattle.answers.specs.Answers.{answerOf};
+ghost use Rattle.pool.specs.Calls.{firstPoint, begunOf, turnOf, storedIn, storedOf, failedOf, collectSend};
+ghost use Rattle.pool.specs.Calls.{resumeAt};
 ghost use Rattle.pool.specs.Calls.{resumedOf, replyOf, syncDid, syncOf};
 ghost use Rattle.pool.specs.Calls.{closeOf};
 use crate::run;
+use actor::entry;
 use actor::message::Caller;
 use actor::message::Logged;
+use actor::message::MessageRow;
 use actor::question::Reply;
-use front::answer;
-use front::answer::Called;
-use front::refusals;
-use front::refusals::Check;
-use group::words;
-use group::words::AtKind;
-use group::words::Where;
-use setup::entry;
+use actor::state::ActorRow;
+use answers::answer;
+use answers::answer::Called;
+use answers::refusals;
+use answers::refusals::Check;
+use group::settings::GroupRow;
+use lists::LinkRow;
+use lists::keys::KeyRow;
+use log::RecordRow;
+use points::words;
+use points::words::AtKind;
+use points::words::Where;
 use turn::logged;
 use turn::resume;
 use turn::state;
+use turn::state::PoolCells;
 
 // A reply read as the answer to an order.
 pub enum StoredIn {
@@ -37,14 +45,14 @@ fn first_point(seeded: bool) -> Where
     ensures { λ r. ⌜ atOf r ≡ firstPoint seeded ⌝ }
 {
     if seeded {
-        words::intake(256)
+        words::intake(lists::MESSAGES)
     } else {
         words::seed(0)
     }
 }
 
 // A turn begins.
-fn begin(pool: &mut [u64; 28])
+fn begin(pool: &mut PoolCells)
     ensures { λ r. ⌜ poolOf (now (pool .exit)) ≡ begunOf (poolOf (now (pool .entry))) ⌝ }
 {
     let seeded = state::seeded(pool);
@@ -54,15 +62,15 @@ fn begin(pool: &mut [u64; 28])
 
 // A turn: it runs until a question or an order is open, or it ended.
 pub fn turn(
-    pool: &mut [u64; 28],
+    pool: &mut PoolCells,
     log: &mut [u8],
-    records: &mut [[u64; 3]],
+    records: &mut [RecordRow],
     store: &[u8],
-    groups: &[[u64; 37]],
-    links: &mut [[u64; 4]],
-    rows: &mut [[u64; 7]],
-    lists: &mut [[u8; 65]],
-    actors: &mut [[u64; 12]],
+    groups: &[GroupRow],
+    links: &mut [LinkRow],
+    rows: &mut [MessageRow],
+    keys: &mut [KeyRow],
+    actors: &mut [ActorRow],
 ) -> Called
     ensures { λ r. ⌜
         record {
@@ -74,7 +82,7 @@ pub fn turn(
             groups = now (groups .entry);
             links = now (links .exit);
             rows = now (rows .exit);
-            keys = now (lists .exit);
+            keys = now (keys .exit);
             actors = now (actors .exit);
           };
           answer = answerOf r (poolOf (now (pool .exit))) (now (links .exit)) (now (rows .exit));
@@ -88,7 +96,7 @@ pub fn turn(
           groups = now (groups .entry);
           links = now (links .entry);
           rows = now (rows .entry);
-          keys = now (lists .entry);
+          keys = now (keys .entry);
           actors = now (actors .entry);
         })
         ⌝ }
@@ -98,17 +106,7 @@ pub fn turn(
         Check::Refuse(r) => answer::refused(r),
         Check::Fine => {
             begin(pool);
-            run::run(
-                pool,
-                log,
-                records,
-                store,
-                groups,
-                links,
-                rows,
-                lists,
-                actors,
-            )
+            run::run(pool, log, records, store, groups, links, rows, keys, actors)
         }
     }
 }
@@ -133,15 +131,15 @@ fn stored_in(r: Reply) -> StoredIn
 // The order is stored: a turn that waited for it runs on, or its question is shown again; with no turn under way
 // nothing is open.
 fn stored(
-    pool: &mut [u64; 28],
+    pool: &mut PoolCells,
     log: &mut [u8],
-    records: &mut [[u64; 3]],
+    records: &mut [RecordRow],
     store: &[u8],
-    groups: &[[u64; 37]],
-    links: &mut [[u64; 4]],
-    rows: &mut [[u64; 7]],
-    lists: &mut [[u8; 65]],
-    actors: &mut [[u64; 12]],
+    groups: &[GroupRow],
+    links: &mut [LinkRow],
+    rows: &mut [MessageRow],
+    keys: &mut [KeyRow],
+    actors: &mut [ActorRow],
 ) -> Called
     ensures { λ r. ⌜
         record {
@@ -153,7 +151,7 @@ fn stored(
             groups = now (groups .entry);
             links = now (links .exit);
             rows = now (rows .exit);
-            keys = now (lists .exit);
+            keys = now (keys .exit);
             actors = now (actors .exit);
           };
           answer = answerOf r (poolOf (now (pool .exit))) (now (links .exit)) (now (rows .exit));
@@ -167,7 +165,7 @@ fn stored(
           groups = now (groups .entry);
           links = now (links .entry);
           rows = now (rows .entry);
-          keys = now (lists .entry);
+          keys = now (keys .entry);
           actors = now (actors .entry);
         })
         ⌝ }
@@ -177,23 +175,13 @@ fn stored(
     let disk = state::free();
     state::set_disk(pool, disk);
     if during {
-        return run::run(
-            pool,
-            log,
-            records,
-            store,
-            groups,
-            links,
-            rows,
-            lists,
-            actors,
-        );
+        return run::run(pool, log, records, store, groups, links, rows, keys, actors);
     }
     answer::shown_now()
 }
 
 // The order failed: nothing is open, and nothing is taken any more.
-fn failed(pool: &mut [u64; 28]) -> Called
+fn failed(pool: &mut PoolCells) -> Called
     ensures { λ r. ⌜
         ((bytes : List ℕ) (records : Table) (store : List ℕ) (groups links rows keys actors : Table) →
         record {
@@ -230,11 +218,11 @@ fn failed(pool: &mut [u64; 28]) -> Called
 }
 
 // A message that was sent goes to pending's end, not logged, and Sends is asked again.
-fn sent(
-    pool: &mut [u64; 28],
+fn collect_send(
+    pool: &mut PoolCells,
     store: &mut [u8],
-    links: &mut [[u64; 4]],
-    rows: &mut [[u64; 7]],
+    links: &mut [LinkRow],
+    rows: &mut [MessageRow],
     name: &[u8],
     body: &[u8],
 ) -> Called
@@ -254,7 +242,7 @@ fn sent(
           };
           answer = answerOf r (poolOf (now (pool .exit))) (now (links .exit)) (now (rows .exit));
         }
-        ≡ sentOf
+        ≡ collectSend
         (record {
           pool = poolOf (now (pool .entry));
           bytes = bytes;
@@ -284,12 +272,12 @@ fn sent(
 
 // The turn's question is answered, where one is open.
 fn resume_at(
-    pool: &mut [u64; 28],
-    groups: &[[u64; 37]],
-    links: &mut [[u64; 4]],
-    rows: &[[u64; 7]],
-    lists: &mut [[u8; 65]],
-    actors: &mut [[u64; 12]],
+    pool: &mut PoolCells,
+    groups: &[GroupRow],
+    links: &mut [LinkRow],
+    rows: &[MessageRow],
+    keys: &mut [KeyRow],
+    actors: &mut [ActorRow],
     reply: Reply,
 )
     ensures { λ r. ⌜
@@ -302,7 +290,7 @@ fn resume_at(
           groups = now (groups .entry);
           links = now (links .exit);
           rows = now (rows .entry);
-          keys = now (lists .exit);
+          keys = now (keys .exit);
           actors = now (actors .exit);
         }
         ≡ resumeAt
@@ -314,7 +302,7 @@ fn resume_at(
           groups = now (groups .entry);
           links = now (links .entry);
           rows = now (rows .entry);
-          keys = now (lists .entry);
+          keys = now (keys .entry);
           actors = now (actors .entry);
         })
         reply)
@@ -324,22 +312,22 @@ fn resume_at(
     let kind = words::at_kind(w.place);
     match kind {
         AtKind::Rest => {}
-        AtKind::Asks => resume::resume(pool, groups, links, rows, lists, actors, w, reply),
+        AtKind::Asks => resume::resume(pool, groups, links, rows, keys, actors, w, reply),
         AtKind::Runs => {}
     }
 }
 
 // The turn goes on from the reply to its question.
 fn resumed(
-    pool: &mut [u64; 28],
+    pool: &mut PoolCells,
     log: &mut [u8],
-    records: &mut [[u64; 3]],
+    records: &mut [RecordRow],
     store: &[u8],
-    groups: &[[u64; 37]],
-    links: &mut [[u64; 4]],
-    rows: &mut [[u64; 7]],
-    lists: &mut [[u8; 65]],
-    actors: &mut [[u64; 12]],
+    groups: &[GroupRow],
+    links: &mut [LinkRow],
+    rows: &mut [MessageRow],
+    keys: &mut [KeyRow],
+    actors: &mut [ActorRow],
     reply: Reply,
 ) -> Called
     ensures { λ r. ⌜
@@ -352,7 +340,7 @@ fn resumed(
             groups = now (groups .entry);
             links = now (links .exit);
             rows = now (rows .exit);
-            keys = now (lists .exit);
+            keys = now (keys .exit);
             actors = now (actors .exit);
           };
           answer = answerOf r (poolOf (now (pool .exit))) (now (links .exit)) (now (rows .exit));
@@ -366,38 +354,28 @@ fn resumed(
           groups = now (groups .entry);
           links = now (links .entry);
           rows = now (rows .entry);
-          keys = now (lists .entry);
+          keys = now (keys .entry);
           actors = now (actors .entry);
         })
         reply
         ⌝ }
 {
-    resume_at(pool, groups, links, rows, lists, actors, reply);
-    run::run(
-        pool,
-        log,
-        records,
-        store,
-        groups,
-        links,
-        rows,
-        lists,
-        actors,
-    )
+    resume_at(pool, groups, links, rows, keys, actors, reply);
+    run::run(pool, log, records, store, groups, links, rows, keys, actors)
 }
 
 // A reply, with the bytes of a message that was sent: the order's, such a message, or the answer to the turn's
 // question.
 pub fn reply(
-    pool: &mut [u64; 28],
+    pool: &mut PoolCells,
     log: &mut [u8],
-    records: &mut [[u64; 3]],
+    records: &mut [RecordRow],
     store: &mut [u8],
-    groups: &[[u64; 37]],
-    links: &mut [[u64; 4]],
-    rows: &mut [[u64; 7]],
-    lists: &mut [[u8; 65]],
-    actors: &mut [[u64; 12]],
+    groups: &[GroupRow],
+    links: &mut [LinkRow],
+    rows: &mut [MessageRow],
+    keys: &mut [KeyRow],
+    actors: &mut [ActorRow],
     reply: Reply,
     name: &[u8],
     body: &[u8],
@@ -412,7 +390,7 @@ pub fn reply(
             groups = now (groups .entry);
             links = now (links .exit);
             rows = now (rows .exit);
-            keys = now (lists .exit);
+            keys = now (keys .exit);
             actors = now (actors .exit);
           };
           answer = answerOf r (poolOf (now (pool .exit))) (now (links .exit)) (now (rows .exit));
@@ -426,7 +404,7 @@ pub fn reply(
           groups = now (groups .entry);
           links = now (links .entry);
           rows = now (rows .entry);
-          keys = now (lists .entry);
+          keys = now (keys .entry);
           actors = now (actors .entry);
         })
         reply (now (name .entry)) (now (body .entry))
@@ -446,14 +424,14 @@ pub fn reply(
                     groups,
                     links,
                     rows,
-                    lists,
+                    keys,
                     actors,
                 ),
                 StoredIn::Failed => failed(pool),
                 StoredIn::Other => {
                     let message = refusals::is_message(reply);
                     if message {
-                        return sent(pool, store, links, rows, name, body);
+                        return collect_send(pool, store, links, rows, name, body);
                     }
                     resumed(
                         pool,
@@ -463,7 +441,7 @@ pub fn reply(
                         groups,
                         links,
                         rows,
-                        lists,
+                        keys,
                         actors,
                         reply,
                     )
@@ -474,7 +452,7 @@ pub fn reply(
 }
 
 // A sync that is accepted: a flush waits, if one was due.
-fn sync_log(pool: &mut [u64; 28]) -> Called
+fn sync_log(pool: &mut PoolCells) -> Called
     ensures { λ r. ⌜
         ((bytes : List ℕ) (records : Table) (store : List ℕ) (groups links rows keys actors : Table) →
         record {
@@ -519,7 +497,7 @@ fn sync_log(pool: &mut [u64; 28]) -> Called
 }
 
 // A flush is ordered, if a record was appended since the last one.
-pub fn sync(pool: &mut [u64; 28]) -> Called
+pub fn sync(pool: &mut PoolCells) -> Called
     ensures { λ r. ⌜
         ((bytes : List ℕ) (records : Table) (store : List ℕ) (groups links rows keys actors : Table) →
         record {
@@ -558,7 +536,7 @@ pub fn sync(pool: &mut [u64; 28]) -> Called
 }
 
 // No more is admitted; closing twice is accepted.
-pub fn close(pool: &mut [u64; 28]) -> Called
+pub fn close(pool: &mut PoolCells) -> Called
     ensures { λ r. ⌜
         ((bytes : List ℕ) (records : Table) (store : List ℕ) (groups links rows keys actors : Table) →
         record {

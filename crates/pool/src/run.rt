@@ -4,25 +4,32 @@ ghost use mathlib.Core.List.{List};
 ghost use Prim.Native.Nat.{ℕ};
 ghost use Rattle.lists.specs.Links.{Table};
 ghost use Rattle.turn.specs.Words.{poolOf};
-ghost use Rattle.front.specs.Answers.{answerOf};
+ghost use Rattle.answers.specs.Answers.{answerOf};
 ghost use Rattle.pool.specs.Run.{waitersFrom, busyOf, answeredOf, runOf};
-use front::answer;
-use front::answer::Called;
-use front::refusals;
+use actor::message::MessageRow;
+use actor::state::ActorRow;
+use answers::answer;
+use answers::answer::Called;
+use answers::refusals;
 use group::roster;
+use group::settings::GroupRow;
+use lists::LinkRow;
 use lists::keys;
+use lists::keys::KeyRow;
+use log::RecordRow;
 use turn::state;
+use turn::state::PoolCells;
 use turn::step;
 
 // Whether some waiting list is not empty.
-fn waiters(lists: &[[u8; 65]], groups: usize) -> bool
-    ensures { λ r. ⌜ r ≡ waitersFrom (now (lists .entry)) groups ⌝ }
+fn waiters(keys: &[KeyRow], groups: usize) -> bool
+    ensures { λ r. ⌜ r ≡ waitersFrom (now (keys .entry)) groups ⌝ }
 {
     let mut g = groups;
     while 0 < g {
         g -= 1;
         let row = roster::waiting_row(g);
-        let n = keys::count_at(lists, row);
+        let n = keys::count_at(keys, row);
         if 0 < n {
             return true;
         }
@@ -31,7 +38,7 @@ fn waiters(lists: &[[u8; 65]], groups: usize) -> bool
 }
 
 // Whether an actor was stepped, or pending is not empty.
-fn busy(pool: &[u64; 28], links: &[[u64; 4]]) -> bool
+fn busy(pool: &PoolCells, links: &[LinkRow]) -> bool
     ensures { λ r. ⌜ r ≡ busyOf (poolOf (now (pool .entry)) .turn .counts) (now (links .entry)) ⌝ }
 {
     let stepped = state::stepped(pool);
@@ -43,7 +50,7 @@ fn busy(pool: &[u64; 28], links: &[[u64; 4]]) -> bool
 }
 
 // The turn ended where it is at rest; else a question or an order is open.
-fn answered(pool: &[u64; 28], links: &[[u64; 4]], lists: &[[u8; 65]]) -> Called
+fn answered(pool: &PoolCells, links: &[LinkRow], keys: &[KeyRow]) -> Called
     ensures { λ r. ⌜
         ((bytes : List ℕ) (records : Table) (store : List ℕ) (groups rows actors : Table) →
         record {
@@ -55,7 +62,7 @@ fn answered(pool: &[u64; 28], links: &[[u64; 4]], lists: &[[u8; 65]]) -> Called
             groups = groups;
             links = now (links .entry);
             rows = rows;
-            keys = now (lists .entry);
+            keys = now (keys .entry);
             actors = actors;
           };
           answer = answerOf r (poolOf (now (pool .entry))) (now (links .entry)) rows;
@@ -69,7 +76,7 @@ fn answered(pool: &[u64; 28], links: &[[u64; 4]], lists: &[[u8; 65]]) -> Called
           groups = groups;
           links = now (links .entry);
           rows = rows;
-          keys = now (lists .entry);
+          keys = now (keys .entry);
           actors = actors;
         }))
         ⌝ }
@@ -81,21 +88,21 @@ fn answered(pool: &[u64; 28], links: &[[u64; 4]], lists: &[[u8; 65]]) -> Called
     }
     let b = busy(pool, links);
     let count = state::groups(pool);
-    let w = waiters(lists, count);
+    let w = waiters(keys, count);
     answer::turn_ended(b, w)
 }
 
 // Runs until a question, an order or the end.
 pub(crate) fn run(
-    pool: &mut [u64; 28],
+    pool: &mut PoolCells,
     log: &mut [u8],
-    records: &mut [[u64; 3]],
+    records: &mut [RecordRow],
     store: &[u8],
-    groups: &[[u64; 37]],
-    links: &mut [[u64; 4]],
-    rows: &mut [[u64; 7]],
-    lists: &mut [[u8; 65]],
-    actors: &mut [[u64; 12]],
+    groups: &[GroupRow],
+    links: &mut [LinkRow],
+    rows: &mut [MessageRow],
+    keys: &mut [KeyRow],
+    actors: &mut [ActorRow],
 ) -> Called
     ensures { λ r. ⌜
         record {
@@ -107,7 +114,7 @@ pub(crate) fn run(
             groups = now (groups .entry);
             links = now (links .exit);
             rows = now (rows .exit);
-            keys = now (lists .exit);
+            keys = now (keys .exit);
             actors = now (actors .exit);
           };
           answer = answerOf r (poolOf (now (pool .exit))) (now (links .exit)) (now (rows .exit));
@@ -121,21 +128,11 @@ pub(crate) fn run(
           groups = now (groups .entry);
           links = now (links .entry);
           rows = now (rows .entry);
-          keys = now (lists .entry);
+          keys = now (keys .entry);
           actors = now (actors .entry);
         })
         ⌝ }
 {
-    step::advance(
-        pool,
-        store,
-        groups,
-        log,
-        records,
-        links,
-        rows,
-        lists,
-        actors,
-    );
-    answered(pool, links, lists)
+    step::advance(pool, store, groups, log, records, links, rows, keys, actors);
+    answered(pool, links, keys)
 }

@@ -10,6 +10,7 @@ use Rattle.log.specs.declared.Answer.{Answer}
 use Rattle.reopening.specs.declared.Reopened.{Reopened}
 use Rattle.reopening.specs.declared.Reopened.the-variants.{Log, Refused}
 use Rattle.log.specs.declared.Answer.the-variants as answer
+use Rattle.log.specs.Opening.{RECORDS, STORE}
 
 -- the length of the new log, or the number of the refusal; opening orders nothing but a replace
 abbrev pub answerOf : Answer → Reopened
@@ -24,7 +25,8 @@ pub record Reopening : Type 0 where
 
 -- opening with a store and tables that hold zeros
 unfoldable pub freshly : List ℕ → ℕ → Opened
-freshly log n = openOf log n (replicate 40960 0) (replicate 256 (0 ∷ 0 ∷ 0 ∷ [])) (replicate 256 (0 ∷ 0 ∷ 0 ∷ []))
+freshly log n =
+    openOf log n (replicate STORE 0) (replicate RECORDS (0 ∷ 0 ∷ 0 ∷ [])) (replicate RECORDS (0 ∷ 0 ∷ 0 ∷ []))
 
 abbrev pub reopenOf : List ℕ → ℕ → Reopening
 reopenOf log n = record { log = freshly log n .log; answer = answerOf (freshly log n .step .answer) }

@@ -7,6 +7,8 @@ ghost use Rattle.reopening.specs.Reopened.{reopenOf, answerOf, OfSomeFil
 use libc::STDOUT_FILENO;
 use log::Answer;
 use log::Order;
+use log::RECORDS;
+use log::STORE;
 
 pub enum Reopened {
     // The new log is the first bytes, so many of them.
@@ -32,9 +34,9 @@ fn answered(a: Answer) -> Reopened
 pub fn reopen(log: &mut [u8], n: usize) -> Reopened
     ensures { λ r. ⌜ record { log = now (log .exit); answer = r } ≡ reopenOf (now (log .entry)) n ⌝ }
 {
-    let mut store = [0u8; 40960];
-    let mut records = [[0u64; 3]; 256];
-    let mut left = [[0u64; 3]; 256];
+    let mut store = [0u8; STORE];
+    let mut records = [[0u64; 3]; RECORDS];
+    let mut left = [[0u64; 3]; RECORDS];
     let opened = log::opening::open_log(log, n, &mut store, &mut records, &mut left);
     let answer = opened.answer;
     answered(answer)

@@ -2,59 +2,66 @@
 // asked for, the log, the tables and the store.
 ghost use mathlib.Core.Path.{_≡_};
 ghost use Rattle.turn.specs.Words.{poolOf};
-ghost use Rattle.front.specs.Answers.{answerOf};
+ghost use Rattle.answers.specs.Answers.{answerOf};
 ghost use Rattle.replay.specs.Entry.{
   entryNumbers,
-  pourTexts,
-  pourMessage,
-  pourLog,
-  pourTables,
-  pourStore,
-  pourEntry,
+  outputTexts,
+  outputMessage,
+  outputLog,
+  outputTables,
+  outputStore,
+  outputEntry,
 };
-ghost use Rattle.wire.specs.Pour.{pour};
+ghost use Rattle.wire.specs.Output.{output};
 ghost use Rattle.wire.specs.Number.{numbers};
-use front::answer;
-use front::answer::Called;
-use front::numbers;
-use front::numbers::AnswerNumbers;
+use actor::message::MessageRow;
+use actor::part;
+use actor::part::Span;
+use actor::state::ActorRow;
+use answers::answer;
+use answers::answer::Called;
+use answers::numbers;
+use answers::numbers::AnswerNumbers;
+use group::settings::GroupRow;
 use lists::Found;
-use setup::part;
-use setup::part::Span;
+use lists::LinkRow;
+use lists::keys::KeyRow;
+use log::RecordRow;
 use turn::state;
-use wire::pour;
-use wire::pour::Done;
+use turn::state::PoolCells;
+use wire::output;
+use wire::output::Done;
 
 // Two texts, with a 1 and their lengths before them.
-fn pour_texts(out: &mut [u8], d: Done, name: &[u8], body: &[u8]) -> Done
+fn output_texts(out: &mut [u8], d: Done, name: &[u8], body: &[u8]) -> Done
     ensures { λ r.
         ⌜ record { out = now (out .exit); at = r .at; code = r .code }
-        ≡ pourTexts (record { out = now (out .entry); at = d .at; code = d .code })
+        ≡ outputTexts (record { out = now (out .entry); at = d .at; code = d .code })
         (now (name .entry)) (now (body .entry)) ⌝ }
 {
     let lengths = [1, name.len() as u64, body.len() as u64];
-    let a = pour::pour_numbers(out, d, &lengths);
-    let b = pour::pour_bytes(out, a, name);
-    pour::pour_bytes(out, b, body)
+    let a = output::output_numbers(out, d, &lengths);
+    let b = output::output_bytes(out, a, name);
+    output::output_bytes(out, b, body)
 }
 
 // The message that an answer shows, from its part of the body store.
-fn pour_message(out: &mut [u8], d: Done, m: Found, rows: &[[u64; 7]], store: &[u8]) -> Done
+fn output_message(out: &mut [u8], d: Done, m: Found, rows: &[MessageRow], store: &[u8]) -> Done
     ensures { λ r.
         ⌜ record { out = now (out .exit); at = r .at; code = r .code }
-        ≡ pourMessage (record { out = now (out .entry); at = d .at; code = d .code }) m
+        ≡ outputMessage (record { out = now (out .entry); at = d .at; code = d .code }) m
         (now (rows .entry)) (now (store .entry)) ⌝ }
 {
     match m {
         Found::Nothing => {
             let none = [0];
-            pour::pour_numbers(out, d, &none)
+            output::output_numbers(out, d, &none)
         }
         Found::Entry(_) => {
             let shown = part::message_part(rows, m);
             let name = shown.name;
             let body = shown.body;
-            pour_texts(
+            output_texts(
                 out,
                 d,
                 part::bytes_in(store, name),
@@ -65,70 +72,70 @@ fn pour_message(out: &mut [u8], d: Done, m: Found, rows: &[[u64; 7]], store: &[u
 }
 
 // The file.
-fn pour_log(out: &mut [u8], d: Done, show: u64, log: &[u8], size: usize) -> Done
+fn output_log(out: &mut [u8], d: Done, show: u64, log: &[u8], size: usize) -> Done
     ensures { λ r.
         ⌜ record { out = now (out .exit); at = r .at; code = r .code }
-        ≡ pourLog show (record { out = now (out .entry); at = d .at; code = d .code }) (now (log .entry)) size ⌝ }
+        ≡ outputLog show (record { out = now (out .entry); at = d .at; code = d .code }) (now (log .entry)) size ⌝ }
 {
     if show < 1 {
         return d;
     }
     let file = part::bytes_in(log, Span { from: 0, to: size });
-    pour::pour_bytes(out, d, file)
+    output::output_bytes(out, d, file)
 }
 
 // The tables.
-fn pour_tables(
+fn output_tables(
     out: &mut [u8],
     d: Done,
     show: u64,
-    records: &[[u64; 3]],
-    groups: &[[u64; 37]],
-    links: &[[u64; 4]],
-    rows: &[[u64; 7]],
-    lists: &[[u8; 65]],
-    actors: &[[u64; 12]],
+    records: &[RecordRow],
+    groups: &[GroupRow],
+    links: &[LinkRow],
+    rows: &[MessageRow],
+    keys: &[KeyRow],
+    actors: &[ActorRow],
 ) -> Done
     ensures { λ r.
         ⌜ record { out = now (out .exit); at = r .at; code = r .code }
-        ≡ pourTables show (record { out = now (out .entry); at = d .at; code = d .code })
+        ≡ outputTables show (record { out = now (out .entry); at = d .at; code = d .code })
         (record {
           records = now (records .entry);
           groups = now (groups .entry);
           links = now (links .entry);
           rows = now (rows .entry);
-          keys = now (lists .entry);
+          keys = now (keys .entry);
           actors = now (actors .entry);
         }) ⌝ }
 {
     if show < 2 {
         return d;
     }
-    let a = pour::pour_records(out, d, records);
-    let b = pour::pour_groups(out, a, groups);
-    let c = pour::pour_links(out, b, links);
-    let e = pour::pour_messages(out, c, rows);
-    let f = pour::pour_keys(out, e, lists);
-    pour::pour_actors(out, f, actors)
+    let a = output::output_records(out, d, records);
+    let b = output::output_groups(out, a, groups);
+    let c = output::output_links(out, b, links);
+    let e = output::output_messages(out, c, rows);
+    let f = output::output_keys(out, e, keys);
+    output::output_actors(out, f, actors)
 }
 
 // The body store.
-fn pour_store(out: &mut [u8], d: Done, show: u64, store: &[u8]) -> Done
+fn output_store(out: &mut [u8], d: Done, show: u64, store: &[u8]) -> Done
     ensures { λ r.
         ⌜ record { out = now (out .exit); at = r .at; code = r .code }
-        ≡ pourStore show (record { out = now (out .entry); at = d .at; code = d .code }) (now (store .entry)) ⌝ }
+        ≡ outputStore show (record { out = now (out .entry); at = d .at; code = d .code }) (now (store .entry)) ⌝ }
 {
     if show < 3 {
         return d;
     }
-    pour::pour_bytes(out, d, store)
+    output::output_bytes(out, d, store)
 }
 
 // The answer and the counters.
-fn pour_head(out: &mut [u8], d: Done, s: AnswerNumbers, pool: &[u64; 28]) -> Done
+fn output_head(out: &mut [u8], d: Done, s: AnswerNumbers, pool: &PoolCells) -> Done
     ensures { λ r.
         ⌜ record { out = now (out .exit); at = r .at; code = r .code }
-        ≡ pour (record { out = now (out .entry); at = d .at; code = d .code })
+        ≡ output (record { out = now (out .entry); at = d .at; code = d .code })
         (numbers (entryNumbers s (poolOf (now (pool .entry))))) ⌝ }
 {
     let counters = state::counters(pool);
@@ -148,28 +155,28 @@ fn pour_head(out: &mut [u8], d: Done, s: AnswerNumbers, pool: &[u64; 28]) -> Don
         losses.dead,
         losses.crashes,
     ];
-    pour::pour_numbers(out, d, &head)
+    output::output_numbers(out, d, &head)
 }
 
 // An entry.
-pub(crate) fn pour_entry(
+pub(crate) fn output_entry(
     out: &mut [u8],
     d: Done,
     show: u64,
     called: Called,
-    pool: &[u64; 28],
+    pool: &PoolCells,
     log: &[u8],
-    records: &[[u64; 3]],
+    records: &[RecordRow],
     store: &[u8],
-    groups: &[[u64; 37]],
-    links: &[[u64; 4]],
-    rows: &[[u64; 7]],
-    lists: &[[u8; 65]],
-    actors: &[[u64; 12]],
+    groups: &[GroupRow],
+    links: &[LinkRow],
+    rows: &[MessageRow],
+    keys: &[KeyRow],
+    actors: &[ActorRow],
 ) -> Done
     ensures { λ r.
         ⌜ record { out = now (out .exit); at = r .at; code = r .code }
-        ≡ pourEntry show (record { out = now (out .entry); at = d .at; code = d .code })
+        ≡ outputEntry show (record { out = now (out .entry); at = d .at; code = d .code })
         (record {
           state = record {
             pool = poolOf (now (pool .entry));
@@ -179,7 +186,7 @@ pub(crate) fn pour_entry(
             groups = now (groups .entry);
             links = now (links .entry);
             rows = now (rows .entry);
-            keys = now (lists .entry);
+            keys = now (keys .entry);
             actors = now (actors .entry);
           };
           answer = answerOf called (poolOf (now (pool .entry))) (now (links .entry)) (now (rows .entry));
@@ -190,9 +197,9 @@ pub(crate) fn pour_entry(
     let message = s.message;
     let counters = state::counters(pool);
     let size = counters.size;
-    let a = pour_head(out, d, s, pool);
-    let b = pour_message(out, a, message, rows, store);
-    let c = pour_log(out, b, show, log, size);
-    let e = pour_tables(out, c, show, records, groups, links, rows, lists, actors);
-    pour_store(out, e, show, store)
+    let a = output_head(out, d, s, pool);
+    let b = output_message(out, a, message, rows, store);
+    let c = output_log(out, b, show, log, size);
+    let e = output_tables(out, c, show, records, groups, links, rows, keys, actors);
+    output_store(out, e, show, store)
 }

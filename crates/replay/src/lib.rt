@@ -2,11 +2,13 @@
 // lengths, file, then a whole list of calls and replies) is run, and each answer, order and log is written out
 // (docs/PROTOCOL.md). `replay` requires nothing and equals its definition, `replayOf` (specs/Replay): the calls
 // decoded from the script, run by the same `callOf` that the theorem of the whole rail is about
-// (crates/rail/specs/Rail). It keeps nothing from one script to the next.
+// (crates/theorem/specs/Rail). It keeps nothing from one script to the next.
 ghost use mathlib.Core.Path.{_≡_};
 ghost use Rattle.replay.specs.Replay.{replayOf};
-use wire::pour;
-use wire::pour::Done;
+use group::roster;
+use log::RECORDS;
+use wire::output;
+use wire::output::Done;
 
 pub mod entry; // entry.rt: an entry of the output
 pub mod play; // play.rt: a script from its header to its end
@@ -25,12 +27,12 @@ pub extern "C" fn replay(script: &[u8], log: &mut [u8], store: &mut [u8], out: &
     }
     let mut given = [[0u64; 37]; 16];
     let mut pool = [0u64; 28];
-    let mut records = [[0u64; 3]; 256];
-    let mut groups = [[0u64; 37]; 8];
-    let mut links = [[0u64; 4]; 262];
-    let mut rows = [[0u64; 7]; 256];
-    let mut lists = [[0u8; 65]; 34];
-    let mut actors = [[0u64; 12]; 128];
+    let mut records = [[0u64; 3]; RECORDS];
+    let mut groups = [[0u64; 37]; lists::GROUPS];
+    let mut links = [[0u64; 4]; lists::LISTS];
+    let mut rows = [[0u64; 7]; lists::ENTRIES];
+    let mut keys = [[0u8; 65]; roster::ROWS];
+    let mut actors = [[0u64; 12]; lists::SLOTS];
     let done = play::play(
         script,
         log,
@@ -42,11 +44,11 @@ pub extern "C" fn replay(script: &[u8], log: &mut [u8], store: &mut [u8], out: &
         &mut groups,
         &mut links,
         &mut rows,
-        &mut lists,
+        &mut keys,
         &mut actors,
     );
     let at = done.at;
     let count = [(at - 8) as u64];
-    pour::pour_numbers(out, Done { at: 0, code: 0 }, &count);
+    output::output_numbers(out, Done { at: 0, code: 0 }, &count);
     done.code
 }

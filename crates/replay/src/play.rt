@@ -1,24 +1,30 @@
 // A script: its header, the opening, and its calls one after the other.
 ghost use mathlib.Core.Path.{_≡_};
-ghost use mathlib.Core.Bool.{true};
 ghost use Prim.Native.Nat.{_+_, _≤_};
-ghost use lib.ListN.{length, take};
-ghost use Rattle.rail.specs.Rail.{callOf, accepted};
-ghost use Rattle.door.specs.Open.{openOf};
+ghost use lib.ListN.{length};
+ghost use Rattle.theorem.specs.Rail.{callOf, accepted};
+ghost use Rattle.pool.specs.Open.{openOf};
 ghost use Rattle.lists.specs.Links.{Table};
 ghost use Rattle.turn.specs.State.{Pool};
 ghost use Rattle.turn.specs.Words.{poolOf};
-ghost use Rattle.front.specs.Answers.{answerOf};
-ghost use Rattle.replay.specs.Replay.{heard, callsAt, play, blank, placed, playOpened, playScript};
+ghost use Rattle.answers.specs.Answers.{answerOf};
+ghost use Rattle.replay.specs.Replay.{decoded, callsAt, play, blank, placed, playOpened, playScript};
 use crate::entry;
-use door::admit;
-use door::open;
-use front::answer::AnswerKind;
-use front::answer::Called;
+use actor::message::MessageRow;
+use actor::state::ActorRow;
+use answers::answer::AnswerKind;
+use answers::answer::Called;
+use group::settings::GroupRow;
+use lists::LinkRow;
+use lists::keys::KeyRow;
+use log::RecordRow;
+use pool::admit;
 use pool::calls;
-use setup::settings::Settings;
-use wire::pour;
-use wire::pour::Done;
+use pool::open;
+use settings::ranges::Settings;
+use turn::state::PoolCells;
+use wire::output;
+use wire::output::Done;
 use wire::script;
 use wire::script::CallAt;
 use wire::script::CallRead;
@@ -29,15 +35,15 @@ use wire::script::Kind;
 fn step(
     script: &[u8],
     call: CallAt,
-    pool: &mut [u64; 28],
+    pool: &mut PoolCells,
     log: &mut [u8],
-    records: &mut [[u64; 3]],
+    records: &mut [RecordRow],
     store: &mut [u8],
-    groups: &[[u64; 37]],
-    links: &mut [[u64; 4]],
-    rows: &mut [[u64; 7]],
-    lists: &mut [[u8; 65]],
-    actors: &mut [[u64; 12]],
+    groups: &[GroupRow],
+    links: &mut [LinkRow],
+    rows: &mut [MessageRow],
+    keys: &mut [KeyRow],
+    actors: &mut [ActorRow],
 ) -> Called
     requires { ⌜ (call .name ≤ call .body) × (call .body ≤ call .end) × (call .end ≤ length (now script)) ⌝ }
     ensures { λ r.
@@ -50,7 +56,7 @@ fn step(
             groups = now (groups .entry);
             links = now (links .exit);
             rows = now (rows .exit);
-            keys = now (lists .exit);
+            keys = now (keys .exit);
             actors = now (actors .exit);
           };
           answer = answerOf r (poolOf (now (pool .exit))) (now (links .exit)) (now (rows .exit));
@@ -64,10 +70,10 @@ fn step(
           groups = now (groups .entry);
           links = now (links .entry);
           rows = now (rows .entry);
-          keys = now (lists .entry);
+          keys = now (keys .entry);
           actors = now (actors .entry);
         })
-        (heard (now (script .entry)) call) ⌝ }
+        (decoded (now (script .entry)) call) ⌝ }
 {
     let kind = call.kind;
     let from = call.name;
@@ -86,17 +92,7 @@ fn step(
             &script[mid..end],
             caller,
         ),
-        Kind::Turn => calls::turn(
-            pool,
-            log,
-            records,
-            store,
-            groups,
-            links,
-            rows,
-            lists,
-            actors,
-        ),
+        Kind::Turn => calls::turn(pool, log, records, store, groups, links, rows, keys, actors),
         Kind::Reply(reply) => calls::reply(
             pool,
             log,
@@ -105,7 +101,7 @@ fn step(
             groups,
             links,
             rows,
-            lists,
+            keys,
             actors,
             reply,
             &script[from..mid],
@@ -121,15 +117,15 @@ fn run_calls(
     script: &[u8],
     start: usize,
     show: u64,
-    pool: &mut [u64; 28],
+    pool: &mut PoolCells,
     log: &mut [u8],
-    records: &mut [[u64; 3]],
+    records: &mut [RecordRow],
     store: &mut [u8],
-    groups: &[[u64; 37]],
-    links: &mut [[u64; 4]],
-    rows: &mut [[u64; 7]],
-    lists: &mut [[u8; 65]],
-    actors: &mut [[u64; 12]],
+    groups: &[GroupRow],
+    links: &mut [LinkRow],
+    rows: &mut [MessageRow],
+    keys: &mut [KeyRow],
+    actors: &mut [ActorRow],
     out: &mut [u8],
     d: Done,
 ) -> Done
@@ -137,7 +133,7 @@ fn run_calls(
         ⌜ record {
           bytes = now (log .exit);
           store = now (store .exit);
-          poured = record { out = now (out .exit); at = r .at; code = r .code };
+          output = record { out = now (out .exit); at = r .at; code = r .code };
         }
         ≡ play show
         (record {
@@ -148,7 +144,7 @@ fn run_calls(
           groups = now (groups .entry);
           links = now (links .entry);
           rows = now (rows .entry);
-          keys = now (lists .entry);
+          keys = now (keys .entry);
           actors = now (actors .entry);
         })
         (record { out = now (out .entry); at = d .at; code = d .code })
@@ -177,10 +173,10 @@ fn run_calls(
                     groups,
                     links,
                     rows,
-                    lists,
+                    keys,
                     actors,
                 );
-                let next = entry::pour_entry(
+                let next = entry::output_entry(
                     out,
                     e,
                     show,
@@ -192,7 +188,7 @@ fn run_calls(
                     groups,
                     links,
                     rows,
-                    lists,
+                    keys,
                     actors,
                 );
                 e = next;
@@ -221,17 +217,17 @@ fn run_opened(
     start: usize,
     show: u64,
     settings: Settings,
-    given: &[[u64; 37]],
+    given: &[GroupRow],
     n: usize,
-    pool: &mut [u64; 28],
+    pool: &mut PoolCells,
     log: &mut [u8],
-    records: &mut [[u64; 3]],
+    records: &mut [RecordRow],
     store: &mut [u8],
-    groups: &mut [[u64; 37]],
-    links: &mut [[u64; 4]],
-    rows: &mut [[u64; 7]],
-    lists: &mut [[u8; 65]],
-    actors: &mut [[u64; 12]],
+    groups: &mut [GroupRow],
+    links: &mut [LinkRow],
+    rows: &mut [MessageRow],
+    keys: &mut [KeyRow],
+    actors: &mut [ActorRow],
     out: &mut [u8],
     d: Done,
 ) -> Done
@@ -239,7 +235,7 @@ fn run_opened(
         ⌜ record {
           bytes = now (log .exit);
           store = now (store .exit);
-          poured = record { out = now (out .exit); at = r .at; code = r .code };
+          output = record { out = now (out .exit); at = r .at; code = r .code };
         }
         ≡ playOpened show (now (script .entry)) start
         (openOf (record {
@@ -252,7 +248,7 @@ fn run_opened(
           groups = now (groups .entry);
           links = now (links .entry);
           rows = now (rows .entry);
-          keys = now (lists .entry);
+          keys = now (keys .entry);
           actors = now (actors .entry);
         }))
         (record { out = now (out .entry); at = d .at; code = d .code }) ⌝ }
@@ -268,10 +264,10 @@ fn run_opened(
         groups,
         links,
         rows,
-        lists,
+        keys,
         actors,
     );
-    let e = entry::pour_entry(
+    let e = entry::output_entry(
         out,
         d,
         show,
@@ -283,7 +279,7 @@ fn run_opened(
         groups,
         links,
         rows,
-        lists,
+        keys,
         actors,
     );
     let goes_on = is_accepted(called);
@@ -299,7 +295,7 @@ fn run_opened(
             groups,
             links,
             rows,
-            lists,
+            keys,
             actors,
             out,
             e,
@@ -314,7 +310,7 @@ fn place_file(log: &mut [u8], script: &[u8], from: usize, n: usize)
     ensures { λ r. ⌜ now (log .exit) ≡ placed (now (script .entry)) from n (now (log .entry)) ⌝ }
 {
     let end = from + n;
-    pour::pour_bytes(log, Done { at: 0, code: 0 }, &script[from..end]);
+    output::output_bytes(log, Done { at: 0, code: 0 }, &script[from..end]);
 }
 
 // A whole script. What is lent beside log and store is blank.
@@ -323,23 +319,23 @@ pub(crate) fn play(
     log: &mut [u8],
     store: &mut [u8],
     out: &mut [u8],
-    given: &mut [[u64; 37]],
-    pool: &mut [u64; 28],
-    records: &mut [[u64; 3]],
-    groups: &mut [[u64; 37]],
-    links: &mut [[u64; 4]],
-    rows: &mut [[u64; 7]],
-    lists: &mut [[u8; 65]],
-    actors: &mut [[u64; 12]],
+    given: &mut [GroupRow],
+    pool: &mut PoolCells,
+    records: &mut [RecordRow],
+    groups: &mut [GroupRow],
+    links: &mut [LinkRow],
+    rows: &mut [MessageRow],
+    keys: &mut [KeyRow],
+    actors: &mut [ActorRow],
 ) -> Done
     requires { ⌜ (now given ≡ blank 16 37) × (now records ≡ blank 256 3) × (now groups ≡ blank 8 37)
         × (now links ≡ blank 262 4)
-        × (now rows ≡ blank 256 7) × (now lists ≡ blank 34 65) × (now actors ≡ blank 128 12) ⌝ }
+        × (now rows ≡ blank 256 7) × (now keys ≡ blank 34 65) × (now actors ≡ blank 128 12) ⌝ }
     ensures { λ r.
         ⌜ record {
           bytes = now (log .exit);
           store = now (store .exit);
-          poured = record { out = now (out .exit); at = r .at; code = r .code };
+          output = record { out = now (out .exit); at = r .at; code = r .code };
         }
         ≡ playScript (now (script .entry)) (now (log .entry)) (now (store .entry))
         (record { out = now (out .entry); at = 8; code = 0 }) ⌝ }
@@ -371,7 +367,7 @@ pub(crate) fn play(
                         groups,
                         links,
                         rows,
-                        lists,
+                        keys,
                         actors,
                         out,
                         Done { at: 8, code: 0 },

@@ -5,6 +5,7 @@ ghost use Prim.Native.Nat.{_≤_};
 ghost use lib.ListN.{length};
 use libc::STDIN_FILENO;
 use libc::STDOUT_FILENO;
+use log::STORE;
 use replay::replay;
 use wire::number::number_at;
 
@@ -214,7 +215,7 @@ fn main() {
     let mut script = [0u8; 16384];
     let mut expected = [0u8; 32768];
     let mut log = [0u8; 65536];
-    let mut store = [0u8; 40960];
+    let mut store = [0u8; STORE];
     let mut out = [0u8; 32768];
     let n = io::read_full(STDIN_FILENO, &mut text);
     let tally = replay_list(

@@ -3,18 +3,17 @@
 use mathlib.Core.Path.{_≡_, refl, sym, ap, _∙_}
 use mathlib.Core.Bool.{Bool, true, false}
 use mathlib.Core.Logic.{_≢_}
-use mathlib.Core.List.{List, _++_}
 use Prim.Native.Nat.{ℕ, _+_, _*_, _-_, _≤_, _<_}
 use native.Mathlib.Omega.{arith}
-use native.Mathlib.Decide.{ℕ-discrete, decLt}
+use native.Mathlib.Decide.{ℕ-discrete}
 use borrow.Author.Tests.{eq-eqb, ne-eqb, lt-ltb}
 use lib.Dec.{eqb, ltb, leb}
-use lib.ListN.{length, take, drop, length-append, length-drop}
+use lib.ListN.{length, take, length-append, length-drop}
 use lib.Seq.{length-take-le}
 use Rattle.lists.specs.declared.Found.{Found}
 use Rattle.lists.specs.declared.Found.the-variants.{Entry, Nothing}
 use Rattle.lists.specs.Links.{pick, LISTS, Table, lenOf, capped, firstOf, moveFirst, moveFirstToFront, mailboxOf}
-use Rattle.lists.specs.Links.{handOf}
+use Rattle.lists.specs.Links.{handOf, FREE, OVER, HAND}
 use Rattle.lists.specs.Family.{view, Good, Pair, Moved, MovedToFront}
 use Rattle.lists.proofs.Family.{length-view}
 use Rattle.lists.proofs.Moves.{move-first, move-first-to-front}
@@ -44,8 +43,8 @@ use Rattle.steps.specs.declared.eval.EvalAsk.the-variants as eval
 use Rattle.steps.specs.declared.eval.Limit.{Limit}
 use Rattle.actor.specs.Questions.{yesIn, clockIn, countIn, ranIn, isTold}
 use Rattle.actor.specs.Messages.{messageAt}
-use Rattle.actor.specs.Actors.{actorAt, putActor, runningTo, hasRun, deadlineOf}
-use Rattle.steps.specs.Steps.{FREE, OVER, HAND, placeLogged, placeOver, callerFirst, overFirst, idledAt}
+use Rattle.actor.specs.Actors.{actorAt, hasRun, deadlineOf}
+use Rattle.steps.specs.Steps.{placeLogged, placeOver, callerFirst, overFirst, idledAt}
 use Rattle.steps.specs.Steps.{MailTaken, takeMail}
 use Rattle.steps.specs.StepFixed as one
 use Rattle.steps.specs.StepEval as two
@@ -340,7 +339,8 @@ module _ (slot : ℕ) (slot-is : slot < 128) where
     by-dispatch (count.Of n) = dispatched-kept t l q n good
     by-dispatch count.Other = record { kept = same-kept t q good; holds = omega arith }
 
-    pub step-fixed-kept : (a : FixedAsk) → Holds a t → (r : Reply) → FixedKept t q (one.stepFixed (stepTables t rows l) slot q a r)
+    pub step-fixed-kept : (a : FixedAsk) → Holds a t → (r : Reply)
+        → FixedKept t q (one.stepFixed (stepTables t rows l) slot q a r)
     unfolding one.stepFixed one.runReply one.drainReply one.pushReply one.dispatchReply
     step-fixed-kept (fixed.Run start) holds r = by-run start (ranIn r)
     step-fixed-kept fixed.Drain holds r = by-drain (countIn r)
@@ -368,7 +368,8 @@ module _ (slot : ℕ) (slot-is : slot < 128) where
       let over = over-kept t rows q HAND good own-hand (λ e. omega arith) (λ e. omega arith) in
       pick-rule (EvalKept t q) (eqb (lenOf (overFirst t rows HAND) (mailboxOf slot)) 0) (λ e. over) (λ e. over)
 
-  tell-kept : (t rows l : Table) (q : ℕ) → Good t → (o : Outcome) → EvalKept t q (two.evalTell (stepTables t rows l) slot o)
+  tell-kept : (t rows l : Table) (q : ℕ) → Good t → (o : Outcome)
+      → EvalKept t q (two.evalTell (stepTables t rows l) slot o)
   unfolding two.evalTell
   tell-kept t rows l q good o = go (callerFirst rows (firstOf t HAND))
     where
@@ -376,7 +377,8 @@ module _ (slot : ℕ) (slot-is : slot < 128) where
       go (caller.From id) = same-kept t q good
       go caller.Nobody = over-eval-kept t rows l q good
 
-  finish-kept : (t rows l : Table) (q : ℕ) → Good t → (o : Outcome) → EvalKept t q (two.evalFinish (stepTables t rows l) slot o)
+  finish-kept : (t rows l : Table) (q : ℕ) → Good t → (o : Outcome)
+      → EvalKept t q (two.evalFinish (stepTables t rows l) slot o)
   unfolding two.evalFinish
   finish-kept t rows l q good o =
       let moved = move-kept t q (handOf slot) HAND good own-held own-hand held-not-hand in
@@ -388,7 +390,8 @@ module _ (slot : ℕ) (slot-is : slot < 128) where
       pick-rule (EvalKept t q) (leb (deadlineOf (actorAt l slot .run)) c) (λ e. finish-kept t rows l q good
       outcome.Late) (λ e. same-kept t q good)
 
-  booted-kept : (t rows l : Table) (q : ℕ) → Good t → (b : Bool) → EvalKept t q (two.evalBooted (stepTables t rows l) slot b)
+  booted-kept : (t rows l : Table) (q : ℕ) → Good t → (b : Bool)
+      → EvalKept t q (two.evalBooted (stepTables t rows l) slot b)
   unfolding two.evalBooted
   booted-kept t rows l q good true = same-kept t q good
   booted-kept t rows l q good false = tell-kept t rows l q good outcome.Unbooted
@@ -399,7 +402,8 @@ module _ (slot : ℕ) (slot-is : slot < 128) where
   started-kept t l q good limit c = move-kept t q HAND (handOf slot) good own-hand own-held
       (λ e. held-not-hand (sym e))
 
-  ran-eval-kept : (t rows l : Table) (q : ℕ) → Good t → (s : Status) → EvalKept t q (two.evalRan (stepTables t rows l) slot s)
+  ran-eval-kept : (t rows l : Table) (q : ℕ) → Good t → (s : Status)
+      → EvalKept t q (two.evalRan (stepTables t rows l) slot s)
   unfolding two.evalRan
   ran-eval-kept t rows l q good status.Done = finish-kept t rows l q good outcome.Ran
   ran-eval-kept t rows l q good status.Exit = finish-kept t rows l q good outcome.Ran
@@ -409,7 +413,8 @@ module _ (slot : ℕ) (slot-is : slot < 128) where
   ran-eval-kept t rows l q good status.Error = finish-kept t rows l q good outcome.Raised
   ran-eval-kept t rows l q good status.Broke = finish-kept t rows l q good outcome.Broke
 
-  dispatched-eval-kept : (t rows l : Table) (q n : ℕ) → Good t → EvalKept t q (two.evalDispatched (stepTables t rows l) slot n)
+  dispatched-eval-kept : (t rows l : Table) (q n : ℕ) → Good t
+      → EvalKept t q (two.evalDispatched (stepTables t rows l) slot n)
   unfolding two.evalDispatched
   dispatched-eval-kept t rows l q n good =
       pick-rule (EvalKept t q) (ltb 0 n) (λ e. same-kept t q good) (λ e. finish-kept t rows l q good

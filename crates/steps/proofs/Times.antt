@@ -1,5 +1,5 @@
 -- Deadlines: nothing wraps, and row end 8 (docs/RULES.md, Row ends). Assumes nothing.
-use mathlib.Core.Path.{_≡_, refl, _∙_}
+use mathlib.Core.Path.{_≡_, refl}
 use mathlib.Core.List.{List, [], _∷_, _++_}
 use mathlib.Core.Bool.{Bool, true, false}
 use Prim.Native.Nat.{ℕ, _+_, _*_, _/_, _≤_, _<_}
@@ -78,7 +78,8 @@ module _ (t rows l : Table) (slot : ℕ) (waits : actorAt l slot .run
   unfolding deadlineFrom capped
   until = rw waits
 
-  pub row-end-8-ends : evalClocked (stepTables t rows l) slot 900000100 ≡ evalFinish (stepTables t rows l) slot outcome.Late
+  pub row-end-8-ends : evalClocked (stepTables t rows l) slot 900000100
+      ≡ evalFinish (stepTables t rows l) slot outcome.Late
   unfolding evalClocked
   row-end-8-ends = rw until
 

@@ -6,7 +6,7 @@ use mathlib.Core.List.{List, [], _∷_, _++_}
 use Prim.Native.Nat.{ℕ}
 use lib.Dec.{eqb}
 use Rattle.log.specs.RowEnds as Log
-use Rattle.lists.specs.Links.{pick, LISTS, Table, moveFirst, startFrom}
+use Rattle.lists.specs.Links.{pick, LISTS, Table, moveFirst, startFrom, FREE, HAND}
 use Rattle.actor.specs.declared.message.Caller.the-variants as caller
 use Rattle.actor.specs.declared.message.Logged.the-variants as logged
 use Rattle.actor.specs.declared.question.Outcome.{Outcome}
@@ -20,7 +20,6 @@ use Rattle.steps.specs.declared.eval.EvalNext.the-variants as next
 use Rattle.steps.specs.declared.eval.Limit.{Limit}
 use Rattle.actor.specs.Messages.{messageCells}
 use Rattle.actor.specs.Actors.{actorCells, actorAt, newActor, deadlineOf}
-use Rattle.steps.specs.Steps.{FREE, HAND}
 use Rattle.steps.specs.StepEval.{EvalBoth, stepEval}
 use Rattle.steps.specs.Steps.{stepTables}
 
@@ -69,7 +68,14 @@ links = moveFirst (startFrom 0 LISTS) FREE HAND
 abbrev rows : Table
 rows =
     messageCells
-    (record { attempts = 0; name = 0; body = 0; caller = caller.From (record { 0 = 7 }); id = logged.Never })
+    (record {
+      attempts = 0;
+      «name_len» = 0;
+      «body_len» = 0;
+      caller = caller.From (record { 0 = 7 });
+      id =
+          logged.Never;
+    })
     ∷ []
 
 abbrev actors : Table

@@ -4,7 +4,7 @@ use Prim.Native.Nat.{ℕ, _+_, _*_, _/_}
 use lib.Dec.{eqb, ltb, leb}
 use Rattle.lists.specs.declared.Found.{Found}
 use Rattle.lists.specs.declared.Found.the-variants as found
-use Rattle.lists.specs.Links.{pick, Table, capped, lenOf, firstOf, moveFirst, mailboxOf, handOf}
+use Rattle.lists.specs.Links.{pick, Table, capped, lenOf, firstOf, moveFirst, mailboxOf, handOf, HAND}
 use Rattle.actor.specs.declared.message.Caller.{Caller}
 use Rattle.actor.specs.declared.message.Caller.the-variants.{From, Nobody}
 use Rattle.actor.specs.declared.question.Status.{Status}
@@ -36,7 +36,7 @@ use Rattle.steps.specs.declared.eval.Limit.{Limit}
 use Rattle.actor.specs.Questions.{yesIn, clockIn, countIn, ranIn, isTold, slotOf}
 use Rattle.actor.specs.Actors.{actorAt, putActor, runningTo, hasRun, deadlineOf}
 use Rattle.steps.specs.Words.{evalNextOf}
-use Rattle.steps.specs.Steps.{StepTables, stepTables, HAND, callerFirst, overFirst, idledAt, MailTaken, takeMail}
+use Rattle.steps.specs.Steps.{StepTables, stepTables, callerFirst, overFirst, idledAt, MailTaken, takeMail}
 
 -- what comes next, and the new queued
 pub record EvalStep : Type 0 where
@@ -80,14 +80,14 @@ evalStart t l slot queued =
     (evalMail (takeMail t l slot queued))
 
 -- the message in the step's hand is over; the next one starts on a later step
-abbrev pub evalNext : Table → Table → ℕ → EvalBoth
-evalNext t l slot =
+abbrev pub nextRun : Table → Table → ℕ → EvalBoth
+nextRun t l slot =
     pick (eqb (lenOf t (mailboxOf slot)) 0)
     (record { links = t; actors = idledAt l slot; next = next.Ended parked.Waiting })
     (record { links = t; actors = l; next = next.Ended parked.Yield })
 
 unfoldable pub evalOver : StepTables → ℕ → EvalBoth
-evalOver x slot = evalNext (overFirst (x .links) (x .rows) HAND) (x .actors) slot
+evalOver x slot = nextRun (overFirst (x .links) (x .rows) HAND) (x .actors) slot
 
 -- the caller, where there is one, is told
 abbrev pub evalTold : StepTables → ℕ → Outcome → Caller → EvalBoth
@@ -140,7 +140,12 @@ evalRan x slot status.Broke = evalFinish x slot outcome.Broke
 unfoldable pub evalDispatched : StepTables → ℕ → ℕ → EvalBoth
 evalDispatched x slot n =
     pick (ltb 0 n)
-    (record { links = x .links; actors = x .actors; next = next.Ended (parked.Blocked (wake.At (deadlineOf (actorAt (x .actors) slot .run)))) })
+    (record {
+      links = x .links;
+      actors = x .actors;
+      next =
+          next.Ended (parked.Blocked (wake.At (deadlineOf (actorAt (x .actors) slot .run))));
+    })
     (evalFinish x slot outcome.StuckHostCall)
 
 -- ---- from a question and its reply to the next; a reply that does not fit changes nothing

@@ -3,7 +3,7 @@ use mathlib.Core.Bool.{Bool, true, false}
 use Prim.Native.Nat.{ℕ, _+_}
 use lib.Dec.{ltb}
 use Rattle.lists.specs.declared.Found.the-variants as found
-use Rattle.lists.specs.Links.{pick, Table, capped, firstOf, moveFirst, moveFirstToFront, mailboxOf, handOf}
+use Rattle.lists.specs.Links.{pick, Table, capped, firstOf, moveFirst, moveFirstToFront, mailboxOf, handOf, HAND}
 use Rattle.actor.specs.declared.question.Status.{Status}
 use Rattle.actor.specs.declared.question.Status.the-variants as status
 use Rattle.actor.specs.declared.question.Who.{Who}
@@ -28,7 +28,7 @@ use Rattle.steps.specs.declared.fixed.FixedStep as words
 use Rattle.actor.specs.Questions.{yesIn, countIn, ranIn}
 use Rattle.actor.specs.Actors.{actorAt, putActor, startedAs, consumedAs}
 use Rattle.steps.specs.Words.{fixedNextOf}
-use Rattle.steps.specs.Steps.{StepTables, HAND, overFirst, idledAt, MailTaken, takeMail}
+use Rattle.steps.specs.Steps.{StepTables, overFirst, idledAt, MailTaken, takeMail}
 
 -- what comes next, and the new queued
 pub record FixedStep : Type 0 where

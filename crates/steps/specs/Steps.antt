@@ -1,13 +1,12 @@
 -- What both steps do: mail is taken, a message is over, an actor is idle.
-use mathlib.Core.Bool.{Bool, true, false}
-use mathlib.Core.List.{List}
+use mathlib.Core.Bool.{true, false}
 use Prim.Native.Nat.{ℕ, _-_}
 use lib.Dec.{eqb}
 use Rattle.lists.specs.declared.Found.{Found}
 use Rattle.lists.specs.declared.Found.the-variants.{Entry, Nothing}
-use Rattle.lists.specs.Links.{pick, Table, lenOf, firstOf, moveFirst, mailboxOf}
+use Rattle.lists.specs.Links.{pick, Table, lenOf, firstOf, moveFirst, mailboxOf, FREE, OVER, HAND}
 use Rattle.actor.specs.declared.message.Caller.{Caller}
-use Rattle.actor.specs.declared.message.Caller.the-variants.{From, Nobody}
+use Rattle.actor.specs.declared.message.Caller.the-variants.{Nobody}
 use Rattle.actor.specs.declared.message.Logged.{Logged}
 use Rattle.actor.specs.declared.message.Logged.the-variants.{As, Never}
 use Rattle.steps.specs.declared.step.Mail.{Mail}
@@ -22,16 +21,6 @@ pub record StepTables : Type 0 where
 
 abbrev pub stepTables : Table → Table → Table → StepTables
 stepTables t rows l = record { links = t; rows = rows; actors = l }
-
--- the lists of the places that a step knows
-abbrev pub FREE : ℕ
-FREE = 0
-
-abbrev pub OVER : ℕ
-OVER = 4
-
-abbrev pub HAND : ℕ
-HAND = 5
 
 -- a logged message that is over waits for its mark; any other is done, and its entry free
 abbrev pub placeLogged : Logged → ℕ

@@ -32,6 +32,7 @@ use crate::step;
 use crate::step::Parked;
 use crate::step::StepWords;
 use actor::message::Caller;
+use actor::message::MessageRow;
 use actor::question;
 use actor::question::Asked;
 use actor::question::ClockIn;
@@ -44,8 +45,10 @@ use actor::question::Status;
 use actor::question::Who;
 use actor::question::YesIn;
 use actor::state;
+use actor::state::ActorRow;
 use actor::state::EvalRun;
 use lists::Found;
+use lists::LinkRow;
 
 // The question that is open: what `EvalKind` and the outcome beside it mean.
 pub enum EvalAsk {
@@ -151,7 +154,7 @@ pub fn kind_of(ask: u64) -> EvalKind
 }
 
 // The number of an outcome.
-pub fn outcome_number(o: Outcome) -> u64
+fn outcome_number(o: Outcome) -> u64
     ensures { λ r. ⌜ r ≡ outcomeNumber o ⌝ }
 {
     match o {
@@ -248,7 +251,7 @@ pub struct Limit {
 
 // The clock, and the timeout in whole ticks. Nothing wraps: a timeout past a day gives no time, and the sum is held
 // at the largest number.
-pub fn deadline(clock: u64, limit: Limit) -> u64
+fn deadline(clock: u64, limit: Limit) -> u64
     ensures { λ r. ⌜ r ≡ deadlineFrom clock limit ⌝ }
 {
     let timeout = limit.timeout;
@@ -261,13 +264,13 @@ pub fn deadline(clock: u64, limit: Limit) -> u64
     }
     let ticks = timeout * 1000000000 / tick;
     let whole = ticks * tick;
-    lists::sum(clock, whole)
+    lists::saturating_add(clock, whole)
 }
 
 // A step begins: a run that waited asks the clock, else the next message is booted.
 pub fn eval_start(
-    links: &mut [[u64; 4]],
-    actors: &mut [[u64; 12]],
+    links: &mut [LinkRow],
+    actors: &mut [ActorRow],
     slot: usize,
     queued: u64,
 ) -> EvalStep
@@ -275,8 +278,7 @@ pub fn eval_start(
         ⌜ record { links = now (links .exit); actors = now (actors .exit); step = evalStepOf r }
         ≡ evalStart (now (links .entry)) (now (actors .entry)) slot queued ⌝ }
 {
-    let a = state::actor_at(actors, slot);
-    let waits = state::has_run(a);
+    let waits = state::has_run(actors, slot);
     if waits {
         let next = asks_for(EvalKind::Clock);
         return EvalStep { next, queued };
@@ -302,9 +304,9 @@ pub fn eval_start(
 
 // The message in the step's hand is over; the next one starts on a later step.
 fn eval_over(
-    links: &mut [[u64; 4]],
-    rows: &[[u64; 7]],
-    actors: &mut [[u64; 12]],
+    links: &mut [LinkRow],
+    rows: &[MessageRow],
+    actors: &mut [ActorRow],
     slot: usize,
 ) -> EvalWords
     ensures { λ r.
@@ -326,9 +328,9 @@ fn eval_over(
 
 // The caller, where there is one, is told; else the message is over.
 fn eval_tell(
-    links: &mut [[u64; 4]],
-    rows: &[[u64; 7]],
-    actors: &mut [[u64; 12]],
+    links: &mut [LinkRow],
+    rows: &[MessageRow],
+    actors: &mut [ActorRow],
     slot: usize,
     outcome: Outcome,
 ) -> EvalWords
@@ -346,9 +348,9 @@ fn eval_tell(
 
 // The run ends: its message goes to the step's hand.
 fn eval_finish(
-    links: &mut [[u64; 4]],
-    rows: &[[u64; 7]],
-    actors: &mut [[u64; 12]],
+    links: &mut [LinkRow],
+    rows: &[MessageRow],
+    actors: &mut [ActorRow],
     slot: usize,
     outcome: Outcome,
 ) -> EvalWords
@@ -364,10 +366,10 @@ fn eval_finish(
 }
 
 // The clock of a run that waited: at its deadline it ends, whatever it waited on, and before it is resumed.
-pub fn eval_clocked(
-    links: &mut [[u64; 4]],
-    rows: &[[u64; 7]],
-    actors: &mut [[u64; 12]],
+fn eval_clocked(
+    links: &mut [LinkRow],
+    rows: &[MessageRow],
+    actors: &mut [ActorRow],
     slot: usize,
     clock: u64,
 ) -> EvalWords
@@ -375,8 +377,7 @@ pub fn eval_clocked(
         ⌜ record { links = now (links .exit); actors = now (actors .exit); next = evalNextOf r }
         ≡ evalClocked (stepTables (now (links .entry)) (now (rows .entry)) (now (actors .entry))) slot clock ⌝ }
 {
-    let a = state::actor_at(actors, slot);
-    let until = state::deadline_of(a);
+    let until = state::deadline_of(actors, slot);
     if until <= clock {
         let outcome = Outcome::Late;
         eval_finish(links, rows, actors, slot, outcome)
@@ -386,10 +387,10 @@ pub fn eval_clocked(
 }
 
 // Boot was answered.
-pub fn eval_booted(
-    links: &mut [[u64; 4]],
-    rows: &[[u64; 7]],
-    actors: &mut [[u64; 12]],
+fn eval_booted(
+    links: &mut [LinkRow],
+    rows: &[MessageRow],
+    actors: &mut [ActorRow],
     slot: usize,
     booted: bool,
 ) -> EvalWords
@@ -406,9 +407,9 @@ pub fn eval_booted(
 }
 
 // The clock of a start: the run has its deadline, and its message is in the actor's hands.
-pub fn eval_started(
-    links: &mut [[u64; 4]],
-    actors: &mut [[u64; 12]],
+fn eval_started(
+    links: &mut [LinkRow],
+    actors: &mut [ActorRow],
     slot: usize,
     limit: Limit,
     clock: u64,
@@ -426,10 +427,10 @@ pub fn eval_started(
 }
 
 // Run came back.
-pub fn eval_ran(
-    links: &mut [[u64; 4]],
-    rows: &[[u64; 7]],
-    actors: &mut [[u64; 12]],
+fn eval_ran(
+    links: &mut [LinkRow],
+    rows: &[MessageRow],
+    actors: &mut [ActorRow],
     slot: usize,
     status: Status,
 ) -> EvalWords
@@ -468,10 +469,10 @@ pub fn eval_ran(
 
 // Dispatch told how many host calls are in flight: the run waits for them until its deadline, and with none it is
 // stuck.
-pub fn eval_dispatched(
-    links: &mut [[u64; 4]],
-    rows: &[[u64; 7]],
-    actors: &mut [[u64; 12]],
+fn eval_dispatched(
+    links: &mut [LinkRow],
+    rows: &[MessageRow],
+    actors: &mut [ActorRow],
     slot: usize,
     count: u64,
 ) -> EvalWords
@@ -480,8 +481,7 @@ pub fn eval_dispatched(
         ≡ evalDispatched (stepTables (now (links .entry)) (now (rows .entry)) (now (actors .entry))) slot count ⌝ }
 {
     if 0 < count {
-        let a = state::actor_at(actors, slot);
-        let ns = state::deadline_of(a);
+        let ns = state::deadline_of(actors, slot);
         let end = step::blocked_until(ns);
         return ends(end);
     }
@@ -491,9 +491,9 @@ pub fn eval_dispatched(
 
 // The reply to Clock; one that does not fit changes nothing.
 fn clock_reply(
-    links: &mut [[u64; 4]],
-    rows: &[[u64; 7]],
-    actors: &mut [[u64; 12]],
+    links: &mut [LinkRow],
+    rows: &[MessageRow],
+    actors: &mut [ActorRow],
     slot: usize,
     reply: Reply,
 ) -> EvalWords
@@ -510,9 +510,9 @@ fn clock_reply(
 
 // The reply to Boot; one that does not fit changes nothing.
 fn boot_reply(
-    links: &mut [[u64; 4]],
-    rows: &[[u64; 7]],
-    actors: &mut [[u64; 12]],
+    links: &mut [LinkRow],
+    rows: &[MessageRow],
+    actors: &mut [ActorRow],
     slot: usize,
     reply: Reply,
 ) -> EvalWords
@@ -530,8 +530,8 @@ fn boot_reply(
 
 // The reply to Clock of a start; one that does not fit changes nothing.
 fn start_reply(
-    links: &mut [[u64; 4]],
-    actors: &mut [[u64; 12]],
+    links: &mut [LinkRow],
+    actors: &mut [ActorRow],
     slot: usize,
     limit: Limit,
     reply: Reply,
@@ -549,9 +549,9 @@ fn start_reply(
 
 // The reply to Run; one that does not fit changes nothing.
 fn run_reply(
-    links: &mut [[u64; 4]],
-    rows: &[[u64; 7]],
-    actors: &mut [[u64; 12]],
+    links: &mut [LinkRow],
+    rows: &[MessageRow],
+    actors: &mut [ActorRow],
     slot: usize,
     start: bool,
     reply: Reply,
@@ -569,9 +569,9 @@ fn run_reply(
 
 // The reply to Dispatch; one that does not fit changes nothing.
 fn dispatch_reply(
-    links: &mut [[u64; 4]],
-    rows: &[[u64; 7]],
-    actors: &mut [[u64; 12]],
+    links: &mut [LinkRow],
+    rows: &[MessageRow],
+    actors: &mut [ActorRow],
     slot: usize,
     reply: Reply,
 ) -> EvalWords
@@ -588,9 +588,9 @@ fn dispatch_reply(
 
 // The reply to Tell; one that does not fit changes nothing.
 fn tell_reply(
-    links: &mut [[u64; 4]],
-    rows: &[[u64; 7]],
-    actors: &mut [[u64; 12]],
+    links: &mut [LinkRow],
+    rows: &[MessageRow],
+    actors: &mut [ActorRow],
     slot: usize,
     outcome: Outcome,
     reply: Reply,
@@ -609,9 +609,9 @@ fn tell_reply(
 
 // From the open question and its reply to the next question, or the step's end.
 pub fn step_eval(
-    links: &mut [[u64; 4]],
-    rows: &[[u64; 7]],
-    actors: &mut [[u64; 12]],
+    links: &mut [LinkRow],
+    rows: &[MessageRow],
+    actors: &mut [ActorRow],
     slot: usize,
     limit: Limit,
     ask: EvalKind,
@@ -620,7 +620,8 @@ pub fn step_eval(
 ) -> EvalWords
     ensures { λ r.
         ⌜ record { links = now (links .exit); actors = now (actors .exit); next = evalNextOf r }
-        ≡ stepEval (stepTables (now (links .entry)) (now (rows .entry)) (now (actors .entry))) slot limit (evalAskOf ask outcome) reply ⌝ }
+        ≡ stepEval (stepTables (now (links .entry)) (now (rows .entry)) (now (actors .entry))) slot limit
+        (evalAskOf ask outcome) reply ⌝ }
 {
     match ask {
         EvalKind::Clock => clock_reply(links, rows, actors, slot, reply),
@@ -634,7 +635,7 @@ pub fn step_eval(
 }
 
 // The message that Run shows: that of a start, which is the program.
-fn eval_shown(links: &[[u64; 4]], who: Who, start: bool) -> Found
+fn eval_shown(links: &[LinkRow], who: Who, start: bool) -> Found
     ensures { λ r. ⌜ r ≡ evalShown (now (links .entry)) who start ⌝ }
 {
     if start {
@@ -647,7 +648,7 @@ fn eval_shown(links: &[[u64; 4]], who: Who, start: bool) -> Found
 }
 
 // Run, with that message.
-fn ask_run(links: &[[u64; 4]], who: Who, start: bool) -> Asked
+fn ask_run(links: &[LinkRow], who: Who, start: bool) -> Asked
     ensures { λ r. ⌜ r ≡ Asked.Open (Question.Run who start (evalShown (now (links .entry)) who start)) ⌝ }
 {
     let message = eval_shown(links, who, start);
@@ -674,8 +675,8 @@ fn ask_tell(caller: Caller, outcome: Outcome) -> Asked
 
 // The question that is open, as it is shown.
 pub fn eval_asks(
-    links: &[[u64; 4]],
-    rows: &[[u64; 7]],
+    links: &[LinkRow],
+    rows: &[MessageRow],
     who: Who,
     ask: EvalKind,
     outcome: Outcome,

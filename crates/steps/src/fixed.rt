@@ -21,6 +21,7 @@ ghost use Rattle.steps.specs.Steps.{stepTables};
 use crate::step;
 use crate::step::Step;
 use crate::step::StepWords;
+use actor::message::MessageRow;
 use actor::question;
 use actor::question::Asked;
 use actor::question::CountIn;
@@ -31,7 +32,9 @@ use actor::question::Status;
 use actor::question::Who;
 use actor::question::YesIn;
 use actor::state;
+use actor::state::ActorRow;
 use lists::Found;
+use lists::LinkRow;
 
 // The question that is open: what `FixedKind` means.
 pub enum FixedAsk {
@@ -150,19 +153,18 @@ fn ends(step: StepWords) -> FixedWords
 }
 
 // A step begins: the program is started the first time, and else resumed. The number of the question.
-pub fn fixed_start(actors: &mut [[u64; 12]], slot: usize) -> u64
+pub fn fixed_start(actors: &mut [ActorRow], slot: usize) -> u64
     ensures { λ r.
         ⌜ record { actors = now (actors .exit); ask = fixedAskOf (fixedKindOf r) }
         ≡ fixedStart (now (actors .entry)) slot ⌝ }
 {
-    let a = state::actor_at(actors, slot);
-    let before = a.started;
+    let before = state::is_started(actors, slot);
     state::started_at(actors, slot);
     if before { RESUME } else { START }
 }
 
 // It raised: the message that it was at goes to the step's hand.
-fn fixed_failed(links: &mut [[u64; 4]], slot: usize) -> FixedWords
+fn fixed_failed(links: &mut [LinkRow], slot: usize) -> FixedWords
     ensures { λ r.
         ⌜ record { links = now (links .exit); next = fixedNextOf r } ≡ fixedFailed (now (links .entry)) slot ⌝ }
 {
@@ -173,12 +175,7 @@ fn fixed_failed(links: &mut [[u64; 4]], slot: usize) -> FixedWords
 }
 
 // Run came back. Back in receive() or at its end, the message that it had is over.
-pub fn fixed_ran(
-    links: &mut [[u64; 4]],
-    rows: &[[u64; 7]],
-    slot: usize,
-    status: Status,
-) -> FixedWords
+fn fixed_ran(links: &mut [LinkRow], rows: &[MessageRow], slot: usize, status: Status) -> FixedWords
     ensures { λ r.
         ⌜ record { links = now (links .exit); next = fixedNextOf r }
         ≡ fixedRan (now (links .entry)) (now (rows .entry)) slot status ⌝ }
@@ -210,9 +207,9 @@ pub fn fixed_ran(
 }
 
 // Drain told its count: an event that came mid-step goes before the mailbox.
-pub fn fixed_drained(
-    links: &mut [[u64; 4]],
-    actors: &mut [[u64; 12]],
+fn fixed_drained(
+    links: &mut [LinkRow],
+    actors: &mut [ActorRow],
     slot: usize,
     queued: u64,
     count: u64,
@@ -245,9 +242,9 @@ pub fn fixed_drained(
 }
 
 // Push was answered: the message is in the actor's hands, or back at the front of its mailbox.
-pub fn fixed_pushed(
-    links: &mut [[u64; 4]],
-    actors: &mut [[u64; 12]],
+fn fixed_pushed(
+    links: &mut [LinkRow],
+    actors: &mut [ActorRow],
     slot: usize,
     queued: u64,
     taken: bool,
@@ -266,7 +263,7 @@ pub fn fixed_pushed(
         let mailbox = lists::mailbox(slot);
         lists::move_first_to_front(links, lists::HAND, mailbox);
         step::idle_at(actors, slot);
-        let more = lists::sum(queued, 1);
+        let more = lists::saturating_add(queued, 1);
         let end = step::waiting();
         let next = ends(end);
         FixedStep { next, queued: more }
@@ -274,7 +271,7 @@ pub fn fixed_pushed(
 }
 
 // Dispatch told how many host calls are in flight: it waits for them, and with none it is stuck.
-pub fn fixed_dispatched(links: &mut [[u64; 4]], slot: usize, count: u64) -> FixedWords
+fn fixed_dispatched(links: &mut [LinkRow], slot: usize, count: u64) -> FixedWords
     ensures { λ r.
         ⌜ record { links = now (links .exit); next = fixedNextOf r }
         ≡ fixedDispatched (now (links .entry)) slot count ⌝ }
@@ -288,8 +285,8 @@ pub fn fixed_dispatched(links: &mut [[u64; 4]], slot: usize, count: u64) -> Fixe
 
 // The reply to Run; one that does not fit changes nothing.
 fn run_reply(
-    links: &mut [[u64; 4]],
-    rows: &[[u64; 7]],
+    links: &mut [LinkRow],
+    rows: &[MessageRow],
     slot: usize,
     start: bool,
     reply: Reply,
@@ -307,8 +304,8 @@ fn run_reply(
 
 // The reply to Drain; one that does not fit changes nothing.
 fn drain_reply(
-    links: &mut [[u64; 4]],
-    actors: &mut [[u64; 12]],
+    links: &mut [LinkRow],
+    actors: &mut [ActorRow],
     slot: usize,
     queued: u64,
     reply: Reply,
@@ -329,8 +326,8 @@ fn drain_reply(
 
 // The reply to Push; one that does not fit changes nothing.
 fn push_reply(
-    links: &mut [[u64; 4]],
-    actors: &mut [[u64; 12]],
+    links: &mut [LinkRow],
+    actors: &mut [ActorRow],
     slot: usize,
     queued: u64,
     reply: Reply,
@@ -351,7 +348,7 @@ fn push_reply(
 }
 
 // The reply to Dispatch; one that does not fit changes nothing.
-fn dispatch_reply(links: &mut [[u64; 4]], slot: usize, reply: Reply) -> FixedWords
+fn dispatch_reply(links: &mut [LinkRow], slot: usize, reply: Reply) -> FixedWords
     ensures { λ r.
         ⌜ record { links = now (links .exit); next = fixedNextOf r }
         ≡ dispatchReply (now (links .entry)) slot reply ⌝ }
@@ -365,9 +362,9 @@ fn dispatch_reply(links: &mut [[u64; 4]], slot: usize, reply: Reply) -> FixedWor
 
 // From the open question and its reply to the next question, or the step's end.
 pub fn step_fixed(
-    links: &mut [[u64; 4]],
-    rows: &[[u64; 7]],
-    actors: &mut [[u64; 12]],
+    links: &mut [LinkRow],
+    rows: &[MessageRow],
+    actors: &mut [ActorRow],
     slot: usize,
     queued: u64,
     ask: FixedKind,
@@ -375,7 +372,8 @@ pub fn step_fixed(
 ) -> FixedStep
     ensures { λ r.
         ⌜ record { links = now (links .exit); actors = now (actors .exit); step = fixedStepOf r }
-        ≡ stepFixed (stepTables (now (links .entry)) (now (rows .entry)) (now (actors .entry))) slot queued (fixedAskOf ask) reply ⌝ }
+        ≡ stepFixed (stepTables (now (links .entry)) (now (rows .entry)) (now (actors .entry))) slot queued
+        (fixedAskOf ask) reply ⌝ }
 {
     match ask {
         FixedKind::Start => {
@@ -409,7 +407,7 @@ fn ask_run(who: Who, start: bool) -> Asked
 }
 
 // The question that is open, as it is shown.
-pub fn fixed_asks(links: &[[u64; 4]], who: Who, ask: FixedKind) -> Asked
+pub fn fixed_asks(links: &[LinkRow], who: Who, ask: FixedKind) -> Asked
     ensures { λ r. ⌜ r ≡ fixedAsks (now (links .entry)) who (fixedAskOf ask) ⌝ }
 {
     match ask {

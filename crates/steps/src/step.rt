@@ -5,9 +5,12 @@ ghost use Rattle.steps.specs.Steps.{placeLogged, placeOver, callerFirst,
 use actor::message;
 use actor::message::Caller;
 use actor::message::Logged;
+use actor::message::MessageRow;
 use actor::state;
+use actor::state::ActorRow;
 use actor::state::Wake;
 use lists::Found;
+use lists::LinkRow;
 
 // How a step ended is handed on as words (`StepWords`), without payloads. `Parked`, `Step` and `End` are what they
 // mean.
@@ -193,13 +196,12 @@ fn place_logged(id: Logged) -> usize
     }
 }
 
-fn place_over(rows: &[[u64; 7]], found: Found) -> usize
+fn place_over(rows: &[MessageRow], found: Found) -> usize
     ensures { λ r. ⌜ r ≡ placeOver (now (rows .entry)) found ⌝ }
 {
     match found {
         Found::Entry(e) => {
-            let m = message::message_at(rows, e);
-            let id = m.id;
+            let id = message::id_at(rows, e);
             place_logged(id)
         }
         Found::Nothing => lists::FREE,
@@ -207,20 +209,17 @@ fn place_over(rows: &[[u64; 7]], found: Found) -> usize
 }
 
 // Who waits for the outcome of a message.
-pub fn caller_first(rows: &[[u64; 7]], found: Found) -> Caller
+pub fn caller_first(rows: &[MessageRow], found: Found) -> Caller
     ensures { λ r. ⌜ r ≡ callerFirst (now (rows .entry)) found ⌝ }
 {
     match found {
-        Found::Entry(e) => {
-            let m = message::message_at(rows, e);
-            m.caller
-        }
+        Found::Entry(e) => { message::caller_at(rows, e) }
         Found::Nothing => Caller::Nobody,
     }
 }
 
 // The first message of a list is over.
-pub fn over_first(links: &mut [[u64; 4]], rows: &[[u64; 7]], from: usize)
+pub fn over_first(links: &mut [LinkRow], rows: &[MessageRow], from: usize)
     ensures { λ r. ⌜ now (links .exit) ≡ overFirst (now (links .entry)) (now (rows .entry)) from ⌝ }
 {
     let found = lists::first(links, from);
@@ -229,14 +228,14 @@ pub fn over_first(links: &mut [[u64; 4]], rows: &[[u64; 7]], from: usize)
 }
 
 // The actor of a slot is idle.
-pub fn idle_at(actors: &mut [[u64; 12]], slot: usize)
+pub fn idle_at(actors: &mut [ActorRow], slot: usize)
     ensures { λ r. ⌜ now (actors .exit) ≡ idledAt (now (actors .entry)) slot ⌝ }
 {
     state::idled_at(actors, slot);
 }
 
 // The first message of the mailbox goes to the step's hand; where there is none the actor is idle.
-pub fn take_mail(links: &mut [[u64; 4]], actors: &mut [[u64; 12]], slot: usize, queued: u64) -> Mail
+pub fn take_mail(links: &mut [LinkRow], actors: &mut [ActorRow], slot: usize, queued: u64) -> Mail
     ensures { λ r.
         ⌜ record { links = now (links .exit); actors = now (actors .exit); mail = r }
         ≡ takeMail (now (links .entry)) (now (actors .entry)) slot queued ⌝ }
@@ -251,7 +250,7 @@ pub fn take_mail(links: &mut [[u64; 4]], actors: &mut [[u64; 12]], slot: usize, 
         }
     } else {
         lists::move_first(links, mailbox, lists::HAND);
-        let fewer = lists::less(queued, 1);
+        let fewer = lists::saturating_sub(queued, 1);
         Mail {
             taken: true,
             queued: fewer,

@@ -1,12 +1,9 @@
 -- Laws of escaped text as the code meets it.
-use mathlib.Core.Path.{_≡_, refl, ap, _∙_}
-use mathlib.Core.Bool.{Bool, true, false}
+use mathlib.Core.Path.{_≡_, ap, _∙_}
 use mathlib.Core.List.{List, [], _∷_, _++_}
-use Prim.Native.Nat.{ℕ, _+_, _-_, _≤_, _<_}
+use Prim.Native.Nat.{ℕ, _+_, _≤_, _<_}
 use native.Mathlib.Numerals.{add-one}
-use native.Mathlib.Omega.{arith}
 use borrow.Author.Tests.{eq-eqb, ne-eqb}
-use lib.Dec.{eqb}
 use lib.ListN.{length, drop, getD, length-append, drop-of-length-le}
 use lib.Seq.{drop-cons}
 use Rattle.text.specs.Format.{TAB, LF, BACKSLASH, LETTER-t, LETTER-n, escapeByte, escape, escaped, unescape}
@@ -28,17 +25,6 @@ byte-lf b n o e = cc (ne-eqb b BACKSLASH n, ne-eqb b TAB o, eq-eqb b LF e)
 pub byte-plain : (b : ℕ) → (b ≡ 92 → ⊥) → (b ≡ 9 → ⊥) → (b ≡ 10 → ⊥) → escapeByte b ≡ b ∷ []
 unfolding escapeByte
 byte-plain b n o e = cc (ne-eqb b BACKSLASH n, ne-eqb b TAB o, ne-eqb b LF e)
-
-pub byte-width : (b : ℕ) → length (escapeByte b) ≤ 2
-unfolding escapeByte
-byte-width b = at (eqb b BACKSLASH) refl (eqb b TAB) refl (eqb b LF) refl
-  where
-    at : (p : Bool) → eqb b BACKSLASH ≡ p → (q : Bool) → eqb b TAB ≡ q → (r : Bool) → eqb b LF ≡ r
-        → length (escapeByte b) ≤ 2
-    at true e q f r g = rw (e, escapeByte) (omega arith)
-    at false e true f r g = rw (e, escapeByte) (rw f (omega arith))
-    at false e false f true g = rw (e, escapeByte) (rw f (rw g (omega arith)))
-    at false e false f false g = rw (e, escapeByte) (rw f (rw g (omega arith)))
 
 module _ (s : List ℕ) (i : ℕ) where
   pub escape-end : length s ≤ i → escape (drop i s) ≡ []

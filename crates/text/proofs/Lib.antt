@@ -8,3 +8,5 @@ pub mod EscapeLaws
 pub mod RecordLaws
 pub mod LineLaws
 pub mod AnswerLaws
+pub mod NextLaws
+pub mod Local

@@ -111,7 +111,8 @@ module _ (text : List ℕ) (a b : ℕ) (f : First text TAB a) (h : a < length te
           ap kindIn (fields-two ∙ ap (λ r. take a text ∷ part text (a + 1) b ∷ r) (piece-from text (b + 1) TAB c k j))
           ∙ four (split TAB (drop (c + 1) text)) (split-some TAB (drop (c + 1) text))
         where
-          four : (ps : List (List ℕ)) → 0 < length ps → kindIn (take a text ∷ part text (a + 1) b ∷ part text (b + 1) c ∷
+          four : (ps : List (List ℕ)) → 0 < length ps
+              → kindIn (take a text ∷ part text (a + 1) b ∷ part text (b + 1) c ∷
               ps) ≡ Other
           four [] n = absurd (omega arith)
           four (p ∷ ps) n = refl

@@ -1,13 +1,12 @@
 -- Laws of a record's parts, in the order in which they are written.
 use mathlib.Core.Path.{_≡_, refl}
 use mathlib.Core.List.{List, [], _∷_, _++_, append-assoc}
-use Prim.Native.Nat.{ℕ, _+_, _-_, _*_, _≤_}
+use Prim.Native.Nat.{ℕ, _+_, _≤_}
 use native.Mathlib.Omega.{arith}
 use lib.ListN.{length, length-append}
 use Rattle.text.specs.Format.{printId, escape, Message, recordText, recordLine, doneLine, line}
 use Rattle.text.specs.Bytes.{Wrote}
 use Rattle.text.proofs.WriteLaws.{Writing, begin, further}
-use Rattle.text.proofs.EscapeLaws.{byte-width}
 
 abbrev pub afterBody : List ℕ
 afterBody = 10 ∷ []
@@ -32,11 +31,6 @@ record-length m = rw (record-parts m) (simp length-append (omega arith))
 
 pub done-length : (id : ℕ) → length (doneLine id) ≡ length (printId id) + 1
 done-length id = rw (done-parts id) (simp length-append)
-
-pub escape-long : (s : List ℕ) → length (escape s) ≤ 2 * length s
-unfolding escape
-escape-long [] = omega arith
-escape-long (b ∷ s) = simp length-append (omega (arith, escape-long s, byte-width b))
 
 pub wrote-id : (m : Message) {out d : List ℕ} {a : ℕ} → length (recordLine m) ≤ length out
     → Wrote out 0 (printId (m .id)) d a → Writing out 0 (recordLine m) d a (afterId m)

@@ -71,7 +71,7 @@ unfoldable pub lineKind : List ℕ → LineKind
 lineKind text = kindIn (fields text)
 
 -- the next whole line from `at` on ends at `end`; there is none where that is the file's length
-pub record NextLine (file : List ℕ) (at end : ℕ) : Type 0 where
+pub record LineEnd (file : List ℕ) (at end : ℕ) : Type 0 where
   pub within : end ≤ length file
   pub low : end < length file → at ≤ end
   pub whole : end < length file → lines (drop at file) ≡ part file at end ∷ lines (drop (end + 1) file)

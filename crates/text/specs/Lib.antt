@@ -3,3 +3,4 @@ pub mod Format
 pub mod Line
 pub mod Bytes
 pub mod Answers
+pub mod Lines

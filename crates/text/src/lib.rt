@@ -8,3 +8,4 @@ pub mod ids; // ids.rt: decimal ids, read and printed
 pub mod escape; // escape.rt: escaped and unescaped fields
 pub mod record; // record.rt: records and done lines, measured and written
 pub mod line; // line.rt: the next whole line, and what a line says
+pub mod lines; // lines.rt: the line reader, which remembers the log and how far it has read

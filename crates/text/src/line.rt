@@ -3,7 +3,7 @@ ghost use mathlib.Core.Path.{_≡_};
 ghost use Prim.Native.Nat.{_≤_};
 ghost use lib.ListN.{length};
 ghost use Rattle.text.specs.Line.{nameField, bodyField};
-ghost use Rattle.text.specs.Answers.{First, FirstFrom, doneKind, putKind, lineKind, NextLine};
+ghost use Rattle.text.specs.Answers.{First, FirstFrom, doneKind, putKind, lineKind, LineEnd};
 use crate::ids::IdRead;
 use crate::ids::read_id;
 
@@ -88,7 +88,7 @@ pub fn line_kind(line: &[u8]) -> LineKind
 
 // The end of the next whole line from a place on, or the file's length where there is none.
 pub fn line_end(file: &[u8], at: usize) -> usize
-    ensures { λ r. ⌜ NextLine (now (file .entry)) at r ⌝ }
+    ensures { λ r. ⌜ LineEnd (now (file .entry)) at r ⌝ }
 {
     if file.len() <= at {
         return file.len();

@@ -2,7 +2,7 @@
 ghost use mathlib.Core.Path.{_≡_};
 ghost use Prim.Native.Nat.{_≤_};
 ghost use lib.ListN.{length};
-ghost use Rattle.text.specs.Format.{Message, recordLine, doneLine};
+ghost use Rattle.text.specs.Format.{recordLine, doneLine};
 ghost use Rattle.text.specs.Bytes.{Wrote};
 ghost use Rattle.text.specs.Answers.{within, filled};
 use crate::escape::Measure;

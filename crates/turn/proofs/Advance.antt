@@ -1,6 +1,6 @@
 -- Each step lowers the weight, so the steps end, and more fuel than the weight changes nothing. Assumes nothing.
 use mathlib.Core.Path.{_≡_, refl, sym, _∙_, ap}
-use mathlib.Core.Bool.{Bool, true, false, false≢true}
+use mathlib.Core.Bool.{Bool, true, false, false≢true, _&&_}
 use mathlib.Core.List.{List}
 use Prim.Native.Nat.{ℕ, zero, suc, _+_, _-_, _<_, _≤_}
 use native.Mathlib.Omega.{arith}
@@ -11,7 +11,7 @@ use Rattle.lists.specs.declared.Found.{Found}
 use Rattle.lists.specs.declared.Found.the-variants as found
 use Rattle.lists.specs.declared.keys.Key.{Key}
 use Rattle.lists.specs.declared.keys.Key.the-variants as key
-use Rattle.lists.specs.Links.{pick, Table, lenOf, capped, mailboxOf, firstOf}
+use Rattle.lists.specs.Links.{pick, Table, lenOf, capped, mailboxOf, firstOf, INBOX, PENDING, BATCH}
 use Rattle.lists.specs.KeyLists.{keysAt, countOf, frontOf, popFront}
 use Rattle.actor.specs.declared.state.Mode.{Mode}
 use Rattle.actor.specs.declared.state.Mode.the-variants as mode
@@ -24,28 +24,28 @@ use Rattle.steps.specs.declared.step.End.the-variants as end
 use Rattle.steps.specs.declared.eval.EvalNext.{EvalNext}
 use Rattle.steps.specs.declared.eval.EvalNext.the-variants as eval
 use Rattle.steps.specs.StepEval.{evalStart}
-use Rattle.group.specs.declared.at.At.{At}
-use Rattle.group.specs.declared.at.At.the-variants as at
-use Rattle.group.specs.declared.at.Ask.the-variants as asks
-use Rattle.group.specs.declared.at.Point.{Point}
-use Rattle.group.specs.declared.at.Point.the-variants as point
-use Rattle.group.specs.declared.at.Cursor.{Cursor}
+use Rattle.points.specs.declared.at.At.{At}
+use Rattle.points.specs.declared.at.At.the-variants as at
+use Rattle.points.specs.declared.at.Ask.the-variants as asks
+use Rattle.points.specs.declared.at.Point.{Point}
+use Rattle.points.specs.declared.at.Point.the-variants as point
+use Rattle.points.specs.declared.at.Cursor.{Cursor}
 use Rattle.group.specs.declared.settings.Named.{Named}
 use Rattle.group.specs.declared.settings.Named.the-variants as named
-use Rattle.group.specs.At.{nextGroup, evalAfter}
-use Rattle.group.specs.Settings.{groupAt, groupFor}
-use Rattle.group.specs.Roster.{REST, DOOMED, readyRow, waitingRow, slotAt, liveLen, liveOf, spawnOf, popIdleOf}
+use Rattle.points.specs.At.{nextGroup, evalAfter}
+use Rattle.group.specs.Settings.{groupAt, byName}
+use Rattle.group.specs.Roster.{REST, TRAPPED, readyRow, waitingRow, slotAt, liveLen, liveOf, spawnOf, popIdleOf}
 use Rattle.group.specs.Roster.{leastOf}
-use Rattle.routing.specs.Seed.{Seeded, seedOf}
-use Rattle.routing.specs.Intake.{INBOX, PENDING, BATCH, Linked, batchSize, batchOf, intakeOf}
-use Rattle.routing.specs.Route.{Sent, undeliverable, deliver, deliverKey, routeLeast, spawnedSent, routeSpawned}
-use Rattle.routing.specs.Route.{routeNew, idleElse, routeTo, routeNamed, routeOne, routeFirst, routeOf}
-use Rattle.ticking.specs.declared.crash.Losses.{Losses}
-use Rattle.ticking.specs.Waking.{Listed, Waked, atMost64, wakeOf, lateAt, pollsOf, wakeOne, wakeFirst, wakeNext}
-use Rattle.ticking.specs.Ready.{Stepping, Readied, restsOf, beginFixed, beginEval, beginBy, beginStep, unscheduled}
-use Rattle.ticking.specs.Ready.{readyKey, cursorAt, popReady, readyFront, readyOf}
-use Rattle.ticking.specs.Settle.{stepEnd, settleOf}
-use Rattle.ticking.specs.Crash.{Crashing, doomedKey, doomedFront, doomedOf}
+use Rattle.route.specs.Seed.{Seeded, seedOf}
+use Rattle.route.specs.Intake.{Linked, batchSize, batchOf, intakeOf}
+use Rattle.route.specs.Batch.{Sent, undeliverable, deliver, deliverKey, routeLeast, spawnedSent, routeSpawned}
+use Rattle.route.specs.Batch.{routeNew, idleElse, pickOf, routeNamed, routeOne, routeFirst, routeOf}
+use Rattle.tick.specs.declared.crash.Losses.{Losses}
+use Rattle.tick.specs.Waking.{Listed, Waked, atMost64, wakeOf, lateAt, pollsOf, wakeOne, wakeFirst, wakeNext}
+use Rattle.tick.specs.Ready.{Stepping, Readied, restsOf, beginFixed, beginEval, beginBy, beginStep, unscheduled}
+use Rattle.tick.specs.Ready.{readyKey, cursorAt, popReady, readyFront, readyOf}
+use Rattle.tick.specs.Settle.{stepEnd, settleOf}
+use Rattle.tick.specs.Crash.{Crashing, crashTrappedKey, crashTrappedFront, crashTrapped}
 use Rattle.turn.specs.declared.state.Disk.{Disk}
 use Rattle.turn.specs.declared.state.Disk.the-variants as disk
 use Rattle.turn.specs.State.{State, isFree, runsAt, runningOf}
@@ -53,10 +53,10 @@ use Rattle.turn.specs.Go.{goOf}
 use Rattle.turn.specs.Weight.{popsLeft, weightAt, weightIn, weightBy, weightOf}
 use Rattle.turn.specs.Step.{markAt, goFree, stepAt, stepOf, advanceOf, advanced}
 use Rattle.turn.specs.Advance.{GoesOn, here, step, Stops, Advances, AdvancesOnly}
-use Rattle.group.specs.Roster.{tables, keyed, mailed}
-use Rattle.routing.specs.Route.{programs}
-use Rattle.ticking.specs.Ready.{readying}
-use Rattle.ticking.specs.Crash.{retiring}
+use Rattle.group.specs.Roster.{turnTables, keyed, mailed}
+use Rattle.route.specs.Batch.{programs}
+use Rattle.tick.specs.Ready.{readying}
+use Rattle.tick.specs.Crash.{retiring}
 
 pick-rule : {A : Type 0} (P : A → Type 0) (b : Bool) {x y : A} → (b ≡ true → P x) → (b ≡ false → P y) → P (pick b x y)
 pick-rule P true f g = f refl
@@ -107,33 +107,34 @@ module _ (left : ℕ) (some : 0 < left) where
   unfolding undeliverable weightIn weightAt
   lost-less t rows = omega arith
 
-  deliver-less : (t keys actors : Table) (g k queued : ℕ) → Less (deliver (tables t keys actors queued) g k left)
+  deliver-less : (t keys actors : Table) (g k queued : ℕ) → Less (deliver (turnTables t keys actors queued) g k left)
   unfolding deliver weightIn weightAt
   deliver-less t keys actors g k queued = omega arith
 
   key-less : (t rows keys actors : Table) (g : ℕ) (k : Key) (queued : ℕ)
-      → Less (deliverKey rows (tables t keys actors queued) g k left)
+      → Less (deliverKey rows (turnTables t keys actors queued) g k left)
   unfolding deliverKey
   key-less t rows keys actors g (key.At k) queued = deliver-less t keys actors g k queued
   key-less t rows keys actors g key.Nothing queued = lost-less t rows
 
-  least-less : (t rows keys actors : Table) (g queued : ℕ) → Less (routeLeast rows (tables t keys actors queued) g left)
+  least-less : (t rows keys actors : Table) (g queued : ℕ)
+      → Less (routeLeast rows (turnTables t keys actors queued) g left)
   unfolding routeLeast
   least-less t rows keys actors g queued = key-less t rows keys actors g (leastOf keys t g) queued
 
   spawned-less : (t rows : Table) (g queued : ℕ) (keys actors : Table) (k : Key)
-      → Less (spawnedSent rows (tables t keys actors queued) g left k)
+      → Less (spawnedSent rows (turnTables t keys actors queued) g left k)
   spawned-less t rows g queued keys actors (key.At k) = deliver-less t keys actors g k queued
   spawned-less t rows g queued keys actors key.Nothing = least-less t rows keys actors g queued
 
   spawn-less : (t rows keys actors : Table) (g : ℕ) (eval : Bool) (queued : ℕ)
-      → Less (routeSpawned rows (tables t keys actors queued) g eval left)
+      → Less (routeSpawned rows (turnTables t keys actors queued) g eval left)
   unfolding routeSpawned
   spawn-less t rows keys actors g eval queued =
       let s = spawnOf keys actors g eval in spawned-less t rows g queued (s .keys) (s .actors) (s .key)
 
   new-less : (groups t rows keys actors : Table) (g queued : ℕ)
-      → Less (routeNew groups rows (tables t keys actors queued) g left)
+      → Less (routeNew groups rows (turnTables t keys actors queued) g left)
   unfolding routeNew weightIn weightAt
   new-less groups t rows keys actors g queued =
       pick-rule Less (ltb (liveLen keys g) (groupAt groups g .ceiling))
@@ -142,29 +143,31 @@ module _ (left : ℕ) (some : 0 < left) where
       (λ e. least-less t rows keys actors g queued)
 
   idle-less : (groups t rows actors : Table) (g queued : ℕ) (keys : Table) (k : Key)
-      → Less (idleElse (tables t keys actors queued) g left k (routeNew groups rows (tables t keys actors queued) g left))
+      → Less (idleElse (turnTables t keys actors queued) g left k
+      (routeNew groups rows (turnTables t keys actors queued) g left))
   idle-less groups t rows actors g queued keys (key.At k) = deliver-less t keys actors g k queued
   idle-less groups t rows actors g queued keys key.Nothing = new-less groups t rows keys actors g queued
 
-  to-less : (groups t rows keys actors : Table) (g queued : ℕ) → Less (routeTo groups rows (tables t keys actors queued) g left)
-  unfolding routeTo
+  to-less : (groups t rows keys actors : Table) (g queued : ℕ)
+      → Less (pickOf groups rows (turnTables t keys actors queued) g left)
+  unfolding pickOf
   to-less groups t rows keys actors g queued = let p = popIdleOf keys actors g in idle-less groups t rows actors g
       queued (p .keys) (p .key)
 
   named-less : (groups t rows keys actors : Table) (queued : ℕ) (n : Named)
-      → Less (routeNamed groups rows (tables t keys actors queued) left n)
+      → Less (routeNamed groups rows (turnTables t keys actors queued) left n)
   named-less groups t rows keys actors queued (named.Group g) = to-less groups t rows keys actors g queued
   named-less groups t rows keys actors queued named.Nothing = lost-less t rows
 
   first-less : (groups : Table) (count : ℕ) (store : List ℕ) (t rows keys actors : Table) (queued : ℕ) (f : Found)
-      → Less (routeFirst (programs groups count store) rows (tables t keys actors queued) left f)
+      → Less (routeFirst (programs groups count store) rows (turnTables t keys actors queued) left f)
   unfolding routeOne weightIn weightAt
   first-less groups count store t rows keys actors queued (found.Entry e) =
-      named-less groups t rows keys actors queued (groupFor groups store e (messageAt rows e .name) count)
+      named-less groups t rows keys actors queued (byName groups store e (messageAt rows e .«name_len») count)
   first-less groups count store t rows keys actors queued found.Nothing = omega arith
 
 route-falls : (groups : Table) (count : ℕ) (store : List ℕ) (t rows keys actors : Table) (queued left : ℕ)
-    → weightIn (routeOf (programs groups count store) rows (tables t keys actors queued) left .routed .at)
+    → weightIn (routeOf (programs groups count store) rows (turnTables t keys actors queued) left .routed .at)
     < weightIn (at.Runs (point.Route left))
 unfolding routeOf weightIn weightAt
 route-falls groups count store t rows keys actors queued left =
@@ -187,7 +190,8 @@ wake-falls keys n g clock =
     (λ e. pick-rule P (leb 8 g) (λ f. omega arith)
     (λ f. omega (arith, leb-false 8 g f, at-most (countOf (keysAt keys (waitingRow g))))))
 
-one-falls : (keys actors : Table) (g k clock left : ℕ) → weightIn (wakeOne (keyed keys actors) g k clock left .at) ≤ weightIn
+one-falls : (keys actors : Table) (g k clock left : ℕ)
+    → weightIn (wakeOne (keyed keys actors) g k clock left .at) ≤ weightIn
     (at.Runs (point.WakeNext g clock left))
 unfolding wakeOne weightIn weightAt
 one-falls keys actors g k clock left =
@@ -210,7 +214,8 @@ front-falls keys actors g clock left (key.At k) some =
     omega (arith, one-falls (set keys REST (popFront (keysAt keys REST))) actors g k clock (left - 1))
 front-falls keys actors g clock left key.Nothing some = ready-now keys g clock left
 
-next-falls : (keys actors : Table) (g clock left : ℕ) → weightIn (wakeNext (keyed keys actors) g clock left .at) < weightIn
+next-falls : (keys actors : Table) (g clock left : ℕ)
+    → weightIn (wakeNext (keyed keys actors) g clock left .at) < weightIn
     (at.Runs (point.WakeNext g clock left))
 unfolding wakeNext
 next-falls keys actors g clock left =
@@ -277,7 +282,8 @@ end-falls c (end.Fixed s) = omega arith
 end-falls c (end.Eval p) = omega arith
 
 settle-falls : (t rows keys actors : Table) (c : Cursor) (s : Step) (queued : ℕ)
-    → weightIn (settleOf rows (tables t keys actors queued) c s .settled .at) < weightIn (at.Runs (point.Settle c s))
+    → weightIn (settleOf rows (turnTables t keys actors queued) c s .settled .at) < weightIn
+    (at.Runs (point.Settle c s))
 unfolding settleOf weightIn weightAt
 settle-falls t rows keys actors c ended.Done queued = omega arith
 settle-falls t rows keys actors c (ended.Parked p) queued = omega arith
@@ -291,20 +297,22 @@ trap-falls : (c : Cursor) → weightIn (at.Asks (asks.Trap c)) < weightIn (at.Ru
 unfolding weightIn weightAt
 trap-falls c = omega arith
 
-doomed-front : (groups t rows keys : Table) (c : Cursor) (left queued : ℕ) (l : Losses) (k : Key) → 0 < left
-    → weightIn (doomedFront groups (retiring t rows keys queued l) c left k .crashed .at)
-    < weightIn (at.Runs (point.Doomed c left))
-unfolding doomedKey weightIn weightAt
-doomed-front groups t rows keys c left queued l (key.At k) some = omega arith
-doomed-front groups t rows keys c left queued l key.Nothing some = omega arith
+crash-trapped-front : (groups t rows keys : Table) (c : Cursor) (left queued : ℕ) (l : Losses) (k : Key) → 0 < left
+    → weightIn (crashTrappedFront groups (retiring t rows keys queued l) c left k .crashed .at)
+    < weightIn (at.Runs (point.CrashTrapped c left))
+unfolding crashTrappedKey weightIn weightAt
+crash-trapped-front groups t rows keys c left queued l (key.At k) some = omega arith
+crash-trapped-front groups t rows keys c left queued l key.Nothing some = omega arith
 
-doomed-falls : (groups t rows keys : Table) (c : Cursor) (left queued : ℕ) (l : Losses)
-    → weightIn (doomedOf groups (retiring t rows keys queued l) c left .crashed .at) < weightIn (at.Runs (point.Doomed c left))
-unfolding doomedOf weightIn weightAt
-doomed-falls groups t rows keys c left queued l =
-    pick-rule (λ (s : Crashing). weightIn (s .crashed .at) < weightIn (at.Runs (point.Doomed c left))) (eqb left 0)
+crash-trapped-falls : (groups t rows keys : Table) (c : Cursor) (left queued : ℕ) (l : Losses)
+    → weightIn (crashTrapped groups (retiring t rows keys queued l) c left .crashed .at) < weightIn
+    (at.Runs (point.CrashTrapped c left))
+unfolding crashTrapped weightIn weightAt
+crash-trapped-falls groups t rows keys c left queued l =
+    pick-rule (λ (s : Crashing). weightIn (s .crashed .at) < weightIn (at.Runs (point.CrashTrapped c left)))
+    (eqb left 0)
     (λ e. omega arith)
-    (λ e. doomed-front groups t rows keys c left queued l (frontOf (keysAt keys DOOMED))
+    (λ e. crash-trapped-front groups t rows keys c left queued l (frontOf (keysAt keys TRAPPED))
     (omega (arith, eqb-false left 0 e)))
 
 -- ---- every point that runs
@@ -327,8 +335,8 @@ go-falls s (point.Settle c e) =
     settle-falls (s .links) (s .rows) (s .keys) (s .actors) c e (s .pool .turn .counts .queued)
 go-falls s (point.Crash c) = crash-falls c
 go-falls s (point.AskTrap c) = trap-falls c
-go-falls s (point.Doomed c left) =
-    doomed-falls (s .groups) (s .links) (s .rows) (s .keys) c left (s .pool .turn .counts .queued)
+go-falls s (point.CrashTrapped c left) =
+    crash-trapped-falls (s .groups) (s .links) (s .rows) (s .keys) c left (s .pool .turn .counts .queued)
     (s .pool .turn .counts .losses)
 
 -- ---- a step
@@ -344,7 +352,7 @@ weight-stopped (disk.Waits o w) a m = refl
 weight-stopped disk.Failed a m = refl
 
 -- a state that runs is at a point, with no order waiting
-runs-rule : (P : At → Type 0) (d : Disk) (a : At) → pick (isFree d) (runsAt a) false ≡ true
+runs-rule : (P : At → Type 0) (d : Disk) (a : At) → (isFree d && runsAt a) ≡ true
     → ((p : Point) → P (at.Runs p)) → P a
 runs-rule P disk.Free at.Rest m f = absurd (false≢true m)
 runs-rule P disk.Free (at.Asks a) m f = absurd (false≢true m)
@@ -352,7 +360,7 @@ runs-rule P disk.Free (at.Runs p) m f = f p
 runs-rule P (disk.Waits o w) a m f = absurd (false≢true m)
 runs-rule P disk.Failed a m f = absurd (false≢true m)
 
-weight-free : (d : Disk) (a : At) → pick (isFree d) (runsAt a) false ≡ true → weightBy d a ≡ 1 + weightIn a
+weight-free : (d : Disk) (a : At) → (isFree d && runsAt a) ≡ true → weightBy d a ≡ 1 + weightIn a
 weight-free disk.Free a m = refl
 weight-free (disk.Waits o w) a m = absurd (false≢true m)
 weight-free disk.Failed a m = absurd (false≢true m)

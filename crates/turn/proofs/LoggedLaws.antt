@@ -6,9 +6,9 @@ use Rattle.lists.specs.Links.{Table}
 use Rattle.log.specs.declared.LogId.{LogId}
 use Rattle.log.specs.declared.Counters.{Counters}
 use Rattle.log.specs.declared.Due.{Due}
-use Rattle.log.specs.declared.SteppedDue.{SteppedDue}
+use Rattle.log.specs.declared.AnsweredDue.{AnsweredDue}
 use Rattle.log.specs.declared.Answer.{Answer}
-use Rattle.log.specs.declared.Stepped.{Stepped}
+use Rattle.log.specs.declared.Answered.{Answered}
 use Rattle.log.specs.Log.{state, DidAppend, DidMark, appendOf, markOf, syncOf}
 use Rattle.turn.specs.declared.logged.LogStep.{LogStep}
 use Rattle.turn.specs.declared.logged.LogAppend.{LogAppend}
@@ -24,7 +24,7 @@ pub appended-log : (bytes bytes' : List ℕ) (records records' : Table) (before 
     (record { wal = state bytes' records' (r .counters); answer = answerBy (dueOf (r .due)) (r .refusal) })
     (appendOf (state bytes records before) name body)
 appended-log bytes bytes' records records' before name body n a r did said =
-    ap (λ (x : Stepped). record { wal = state bytes' records' (x .counters); answer = x .answer }) said ∙ did
+    ap (λ (x : Answered). record { wal = state bytes' records' (x .counters); answer = x .answer }) said ∙ did
 
 pub marked-log : (bytes bytes' : List ℕ) (records records' : Table) (before : Counters) (limit : ℕ) (id : LogId)
     (n : Counters) (d : Due) (r : LogStep)
@@ -34,10 +34,10 @@ pub marked-log : (bytes bytes' : List ℕ) (records records' : Table) (before : 
     → _≡_ {A = DidMark} (record { wal = state bytes' records' (r .counters); due = dueOf (r .due) })
     (markOf limit (state bytes records before) (id .0))
 marked-log bytes bytes' records records' before limit id n d r did said =
-    ap (λ (x : SteppedDue). record { wal = state bytes' records' (x .counters); due = x .due }) said ∙ did
+    ap (λ (x : AnsweredDue). record { wal = state bytes' records' (x .counters); due = x .due }) said ∙ did
 
 pub synced-log : (before n : Counters) (d : Due) (r : LogStep)
-    → _≡_ {A = SteppedDue} (record { counters = n; due = d }) (syncOf before)
+    → _≡_ {A = AnsweredDue} (record { counters = n; due = d }) (syncOf before)
     → steppedOf r ≡ steppedAs n d
-    → _≡_ {A = SteppedDue} (record { counters = r .counters; due = dueOf (r .due) }) (syncOf before)
+    → _≡_ {A = AnsweredDue} (record { counters = r .counters; due = dueOf (r .due) }) (syncOf before)
 synced-log before n d r did said = said ∙ did

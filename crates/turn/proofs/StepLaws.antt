@@ -1,9 +1,9 @@
 -- A step by where the turn stands, and by what its marks gave: the point runs, or the order of a mark waits.
 use mathlib.Core.Path.{_≡_, sym, _∙_, ap}
 use mathlib.Core.Bool.{true, false}
-use Rattle.group.specs.declared.at.At.the-variants as at
-use Rattle.group.specs.declared.at.Ask.{Ask}
-use Rattle.group.specs.declared.at.Point.{Point}
+use Rattle.points.specs.declared.at.At.the-variants as at
+use Rattle.points.specs.declared.at.Ask.{Ask}
+use Rattle.points.specs.declared.at.Point.{Point}
 use Rattle.turn.specs.State.{State, isFree}
 use Rattle.turn.specs.Go.{goOf}
 use Rattle.turn.specs.Step.{markAt, goFree, stepAt, stepOf}

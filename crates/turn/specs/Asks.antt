@@ -7,11 +7,11 @@ use Rattle.actor.specs.declared.question.Asked.the-variants as asked
 use Rattle.actor.specs.Questions.{kindWanted}
 use Rattle.steps.specs.StepFixed.{fixedAsks}
 use Rattle.steps.specs.StepEval.{evalAsks}
-use Rattle.group.specs.declared.at.At.{At}
-use Rattle.group.specs.declared.at.At.the-variants as at
-use Rattle.group.specs.declared.at.Ask.{Ask}
-use Rattle.group.specs.declared.at.Ask.the-variants as asks
-use Rattle.group.specs.At.{whoOf}
+use Rattle.points.specs.declared.at.At.{At}
+use Rattle.points.specs.declared.at.At.the-variants as at
+use Rattle.points.specs.declared.at.Ask.{Ask}
+use Rattle.points.specs.declared.at.Ask.the-variants as asks
+use Rattle.points.specs.At.{whoOf}
 use Rattle.turn.specs.declared.state.Disk.{Disk}
 use Rattle.turn.specs.declared.state.Disk.the-variants as disk
 use Rattle.turn.specs.State.{State}

@@ -1,17 +1,17 @@
--- One point of a turn that runs: what each leaves, by the definitions of routing and ticking.
-use Rattle.group.specs.declared.at.At.the-variants as at
-use Rattle.group.specs.declared.at.Ask.the-variants as asks
-use Rattle.group.specs.declared.at.Point.{Point}
-use Rattle.group.specs.declared.at.Point.the-variants as point
-use Rattle.group.specs.declared.at.Cursor.{Cursor}
-use Rattle.group.specs.Roster.{Tables, keyed, tables}
-use Rattle.routing.specs.Seed.{Seeded, seedOf}
-use Rattle.routing.specs.Intake.{Linked, intakeOf}
-use Rattle.routing.specs.Route.{Sent, programs, routeOf}
-use Rattle.ticking.specs.Waking.{Listed, Waked, wakeOf, wakeNext}
-use Rattle.ticking.specs.Ready.{Readied, readying, readyOf}
-use Rattle.ticking.specs.Settle.{Settling, stepEnd, settleOf}
-use Rattle.ticking.specs.Crash.{Losing, Crashing, retiring, crashOf, doomedOf}
+-- One point of a turn that runs: what each leaves, by the definitions of route and tick.
+use Rattle.points.specs.declared.at.At.the-variants as at
+use Rattle.points.specs.declared.at.Ask.the-variants as asks
+use Rattle.points.specs.declared.at.Point.{Point}
+use Rattle.points.specs.declared.at.Point.the-variants as point
+use Rattle.points.specs.declared.at.Cursor.{Cursor}
+use Rattle.group.specs.Roster.{TurnTables, keyed, turnTables}
+use Rattle.route.specs.Seed.{Seeded, seedOf}
+use Rattle.route.specs.Intake.{Linked, intakeOf}
+use Rattle.route.specs.Batch.{Sent, programs, routeOf}
+use Rattle.tick.specs.Waking.{Listed, Waked, wakeOf, wakeNext}
+use Rattle.tick.specs.Ready.{Readied, readying, readyOf}
+use Rattle.tick.specs.Settle.{Settling, stepEnd, settleOf}
+use Rattle.tick.specs.Crash.{Losing, Crashing, retiring, crashOf, crashTrapped}
 use Rattle.turn.specs.State.{State, withPool, withLinks, withRows, withKeys, withActors}
 use Rattle.turn.specs.State.{stoodAt, queuedAt, steppedAt, lostAt}
 
@@ -71,8 +71,8 @@ retired s d =
     (d .keys)
 
 -- the tables that routing and settling work on
-abbrev pub tablesOf : State → Tables
-tablesOf s = tables (s .links) (s .keys) (s .actors) (s .pool .turn .counts .queued)
+abbrev pub tablesOf : State → TurnTables
+tablesOf s = turnTables (s .links) (s .keys) (s .actors) (s .pool .turn .counts .queued)
 
 -- ---- the points
 
@@ -94,7 +94,7 @@ goOf s (point.StepEnd c e) = withPool s (stoodAt (s .pool) (stepEnd c e))
 goOf s (point.Settle c step) = settled s (settleOf (s .rows) (tablesOf s) c step)
 goOf s (point.Crash c) = crashed s c (crashOf (s .groups) (s .links) (s .rows) c (s .pool .turn .counts .losses))
 goOf s (point.AskTrap c) = withPool s (stoodAt (s .pool) (at.Asks (asks.Trap c)))
-goOf s (point.Doomed c left) =
+goOf s (point.CrashTrapped c left) =
     retired s
-    (doomedOf (s .groups)
+    (crashTrapped (s .groups)
     (retiring (s .links) (s .rows) (s .keys) (s .pool .turn .counts .queued) (s .pool .turn .counts .losses)) c left)

@@ -2,11 +2,11 @@
 use Rattle.log.specs.declared.Counters.{Counters}
 use Rattle.log.specs.declared.Due.{Due}
 use Rattle.log.specs.declared.Due.the-variants as due
-use Rattle.log.specs.declared.SteppedDue.{SteppedDue}
+use Rattle.log.specs.declared.AnsweredDue.{AnsweredDue}
 use Rattle.log.specs.declared.Refusal.{Refusal}
 use Rattle.log.specs.declared.Answer.{Answer}
 use Rattle.log.specs.declared.Answer.the-variants as answer
-use Rattle.log.specs.declared.Stepped.{Stepped}
+use Rattle.log.specs.declared.Answered.{Answered}
 use Rattle.turn.specs.declared.logged.LogStep.{LogStep}
 use Rattle.turn.specs.declared.logged.LogAppend.{LogAppend}
 use Rattle.turn.specs.Words.{dueOf}
@@ -17,15 +17,15 @@ answerBy (due.Ordered o) r = answer.Ordered o
 answerBy due.Nothing r = answer.Refused r
 
 -- after a mark or a sync
-abbrev pub steppedOf : LogStep → SteppedDue
+abbrev pub steppedOf : LogStep → AnsweredDue
 steppedOf w = record { counters = w .counters; due = dueOf (w .due) }
 
-abbrev pub steppedAs : Counters → Due → SteppedDue
+abbrev pub steppedAs : Counters → Due → AnsweredDue
 steppedAs n d = record { counters = n; due = d }
 
 -- after an append
-abbrev pub appendedOf : LogAppend → Stepped
+abbrev pub appendedOf : LogAppend → Answered
 appendedOf w = record { counters = w .counters; answer = answerBy (dueOf (w .due)) (w .refusal) }
 
-abbrev pub appendedAs : Counters → Answer → Stepped
+abbrev pub appendedAs : Counters → Answer → Answered
 appendedAs n a = record { counters = n; answer = a }

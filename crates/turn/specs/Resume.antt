@@ -9,19 +9,19 @@ use Rattle.steps.specs.declared.eval.Limit.{Limit}
 use Rattle.steps.specs.Steps.{stepTables}
 use Rattle.steps.specs.StepFixed.{FixedBoth, stepFixed}
 use Rattle.steps.specs.StepEval.{EvalBoth, stepEval}
-use Rattle.group.specs.declared.at.At.{At}
-use Rattle.group.specs.declared.at.At.the-variants as at
-use Rattle.group.specs.declared.at.Ask.{Ask}
-use Rattle.group.specs.declared.at.Ask.the-variants as asks
-use Rattle.group.specs.declared.at.Point.the-variants as point
-use Rattle.group.specs.declared.at.Cursor.{Cursor}
-use Rattle.group.specs.At.{whoOf, fixedAfter, evalAfter}
+use Rattle.points.specs.declared.at.At.{At}
+use Rattle.points.specs.declared.at.At.the-variants as at
+use Rattle.points.specs.declared.at.Ask.{Ask}
+use Rattle.points.specs.declared.at.Ask.the-variants as asks
+use Rattle.points.specs.declared.at.Point.the-variants as point
+use Rattle.points.specs.declared.at.Cursor.{Cursor}
+use Rattle.points.specs.At.{whoOf, fixedAfter, evalAfter}
 use Rattle.group.specs.Settings.{groupAt}
 use Rattle.group.specs.Roster.{keyed, slotOn}
-use Rattle.routing.specs.Seed.{seedReply}
-use Rattle.routing.specs.Route.{routeReply}
-use Rattle.ticking.specs.Waking.{pollReply}
-use Rattle.ticking.specs.Crash.{trapReply, trappedReply}
+use Rattle.route.specs.Seed.{seedReply}
+use Rattle.route.specs.Batch.{routeReply}
+use Rattle.tick.specs.Waking.{pollReply}
+use Rattle.tick.specs.Crash.{trapReply, trappedReply}
 use Rattle.turn.specs.State.{State, withPool, withLinks, withActors, stoodAt, queuedAt}
 use Rattle.turn.specs.Go.{seeded, routed, listed, waked, tablesOf}
 

@@ -1,18 +1,18 @@
 -- The state of a pool, as every definition of the pool has it: the pool's own state and the lent tables.
-use mathlib.Core.Bool.{Bool, true, false}
+use mathlib.Core.Bool.{Bool, true, false, _&&_}
 use mathlib.Core.List.{List}
 use Prim.Native.Nat.{ℕ}
-use Rattle.lists.specs.Links.{pick, Table}
+use Rattle.lists.specs.Links.{Table}
 use Rattle.log.specs.declared.Counters.{Counters}
 use Rattle.log.specs.Log.{Wal}
-use Rattle.group.specs.declared.at.At.{At}
-use Rattle.group.specs.declared.at.At.the-variants as at
-use Rattle.group.specs.declared.at.Point.{Point}
-use Rattle.group.specs.declared.at.Point.the-variants as point
-use Rattle.ticking.specs.declared.crash.Losses.{Losses}
+use Rattle.points.specs.declared.at.At.{At}
+use Rattle.points.specs.declared.at.At.the-variants as at
+use Rattle.points.specs.declared.at.Point.{Point}
+use Rattle.points.specs.declared.at.Point.the-variants as point
+use Rattle.tick.specs.declared.crash.Losses.{Losses}
 use Rattle.log.specs.declared.Due.{Due}
 use Rattle.log.specs.declared.Due.the-variants as due
-use Rattle.turn.specs.declared.state.What.{What}
+use Rattle.turn.specs.declared.state.OrderFor.{OrderFor}
 use Rattle.turn.specs.declared.state.Disk.{Disk}
 use Rattle.turn.specs.declared.state.Disk.the-variants as disk
 use Rattle.turn.specs.declared.state.Limits.{Limits}
@@ -28,7 +28,7 @@ pub record Turn : Type 0 where
   pub at : At
   pub disk : Disk
   pub counts : Counts
-  pub log : Counters
+  pub counters : Counters
 
 -- the pool's own state; code has it in cells (specs/Words)
 pub record Pool : Type 0 where
@@ -52,7 +52,7 @@ pub record State : Type 0 where
 
 -- the log as the state has it
 abbrev pub walOf : State → Wal
-walOf s = record { bytes = s .bytes; table = s .records; counters = s .pool .turn .log }
+walOf s = record { bytes = s .bytes; table = s .records; counters = s .pool .turn .counters }
 
 -- ---- one part is this, all else is as it was
 
@@ -154,16 +154,16 @@ abbrev pub withTurn : Pool → Turn → Pool
 withTurn p t = record { turn = t; limits = p .limits; closed = p .closed; seeded = p .seeded }
 
 abbrev pub withDisk : Pool → Counters → Disk → Pool
-withDisk p n d = withTurn p (record { at = p .turn .at; disk = d; counts = p .turn .counts; log = n })
+withDisk p n d = withTurn p (record { at = p .turn .at; disk = d; counts = p .turn .counts; counters = n })
 
 -- what the log had due waits, for this
-abbrev pub diskFor : Due → What → Disk
+abbrev pub diskFor : Due → OrderFor → Disk
 diskFor (due.Ordered o) w = disk.Waits o w
 diskFor due.Nothing w = disk.Free
 
 -- the turn stands there, with these counts
 abbrev pub countedAt : Pool → At → Counts → Pool
-countedAt p a n = withTurn p (record { at = a; disk = p .turn .disk; counts = n; log = p .turn .log })
+countedAt p a n = withTurn p (record { at = a; disk = p .turn .disk; counts = n; counters = p .turn .counters })
 
 abbrev pub stoodAt : Pool → At → Pool
 stoodAt p a = countedAt p a (p .turn .counts)
@@ -189,7 +189,7 @@ begunAt p a =
         at = a;
         disk = p .turn .disk;
         counts = record { queued = p .turn .counts .queued; losses = p .turn .counts .losses; stepped = false };
-        log = p .turn .log;
+        counters = p .turn .counters;
       };
       limits = p .limits;
       closed = p .closed;
@@ -212,7 +212,7 @@ newPool limits n d =
           losses = record { dead = 0; crashes = 0 };
           stepped = false;
         };
-        log = n;
+        counters = n;
       };
       limits = limits;
       closed = false;
@@ -233,7 +233,7 @@ runsAt (at.Runs p) = true
 
 -- no order waits, and the turn is between questions
 unfoldable pub runningOf : Pool → Bool
-runningOf p = pick (isFree (p .turn .disk)) (runsAt (p .turn .at)) false
+runningOf p = isFree (p .turn .disk) && runsAt (p .turn .at)
 
 -- Before these points run, what is over gets its mark, one order at a time. So what a step finished is marked, in its
 -- order, before Sends is asked, or before an eval actor is settled; and what routing, a crash or a retired neighbour
@@ -249,4 +249,4 @@ marksAt (point.StepEnd c e) = true
 marksAt (point.Settle c s) = false
 marksAt (point.Crash c) = true
 marksAt (point.AskTrap c) = true
-marksAt (point.Doomed c left) = true
+marksAt (point.CrashTrapped c left) = true

@@ -2,17 +2,16 @@
 use Prim.Native.Nat.{ℕ, zero, suc}
 use Rattle.lists.specs.declared.Found.{Found}
 use Rattle.lists.specs.declared.Found.the-variants as found
-use Rattle.lists.specs.Links.{pick, FREE, firstOf, moveFirst}
+use Rattle.lists.specs.Links.{pick, FREE, firstOf, moveFirst, OVER}
 use Rattle.log.specs.declared.LogId.{LogId}
 use Rattle.log.specs.Log.{DidMark, markOf}
 use Rattle.actor.specs.declared.message.Logged.{Logged}
 use Rattle.actor.specs.declared.message.Logged.the-variants as logged
 use Rattle.actor.specs.Messages.{messageAt}
-use Rattle.steps.specs.Steps.{OVER}
-use Rattle.group.specs.declared.at.At.{At}
-use Rattle.group.specs.declared.at.At.the-variants as at
-use Rattle.group.specs.declared.at.Point.{Point}
-use Rattle.turn.specs.declared.state.What.the-variants as what
+use Rattle.points.specs.declared.at.At.{At}
+use Rattle.points.specs.declared.at.At.the-variants as at
+use Rattle.points.specs.declared.at.Point.{Point}
+use Rattle.turn.specs.declared.state.OrderFor.the-variants as orderFor
 use Rattle.turn.specs.State.{State, walOf, withPool, withLinks, withLog, withDisk, diskFor, isFree, marksAt}
 use Rattle.turn.specs.State.{runningOf}
 use Rattle.turn.specs.Go.{goOf}
@@ -23,7 +22,7 @@ use Rattle.turn.specs.Weight.{weightOf}
 -- a mark in the log: its order waits, if one was due
 abbrev pub marked : State → LogId → DidMark → State
 marked s id d =
-    withLog (withPool s (withDisk (s .pool) (d .wal .counters) (diskFor (d .due) (what.Mark id)))) (d .wal .bytes)
+    withLog (withPool s (withDisk (s .pool) (d .wal .counters) (diskFor (d .due) (orderFor.Mark id)))) (d .wal .bytes)
     (d .wal .table)
 
 -- a message that was logged gets its mark

@@ -1,23 +1,24 @@
 -- A number that every step of a turn lowers: as much as `advanced` needs to be a definition by recursion. What it
 -- amounts to is said without it (specs/Advance).
 use Prim.Native.Nat.{ℕ, _+_, _-_, _*_}
-use Rattle.group.specs.declared.at.At.{At}
-use Rattle.group.specs.declared.at.At.the-variants as at
-use Rattle.group.specs.declared.at.Point.{Point}
-use Rattle.group.specs.declared.at.Point.the-variants as point
+use Rattle.lists.specs.Links.{GROUPS}
+use Rattle.points.specs.declared.at.At.{At}
+use Rattle.points.specs.declared.at.At.the-variants as at
+use Rattle.points.specs.declared.at.Point.{Point}
+use Rattle.points.specs.declared.at.Point.the-variants as point
 use Rattle.turn.specs.declared.state.Disk.{Disk}
 use Rattle.turn.specs.declared.state.Disk.the-variants as disk
 use Rattle.turn.specs.State.{Turn}
 
 -- what is left of a tick after a group, and after the pops of its ready list
 abbrev pub tickLeft : ℕ → ℕ
-tickLeft g = (8 - g) * 30000
+tickLeft g = (GROUPS - g) * 30000
 
 abbrev pub popsLeft : ℕ → ℕ → ℕ
 popsLeft g pops = tickLeft (g + 1) + 2 + 100 * pops
 
 unfoldable pub weightAt : Point → ℕ
-weightAt (point.Seed g) = 1000 + (8 - g)
+weightAt (point.Seed g) = 1000 + (GROUPS - g)
 weightAt (point.Intake left) = 300 + left
 weightAt (point.Route left) = 1 + left
 weightAt (point.Wake g clock) = tickLeft g + 1
@@ -27,7 +28,7 @@ weightAt (point.StepEnd c s) = popsLeft (c .group) (c .pops) + 60
 weightAt (point.Settle c s) = popsLeft (c .group) (c .pops) + 50
 weightAt (point.Crash c) = popsLeft (c .group) (c .pops) + 40
 weightAt (point.AskTrap c) = popsLeft (c .group) (c .pops) + 30
-weightAt (point.Doomed c left) = popsLeft (c .group) (c .pops) + 1 + left
+weightAt (point.CrashTrapped c left) = popsLeft (c .group) (c .pops) + 1 + left
 
 -- nothing is left where nothing runs
 unfoldable pub weightIn : At → ℕ

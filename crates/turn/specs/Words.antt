@@ -1,4 +1,4 @@
--- What the cells of a pool mean: where its turn stands (group, specs/Words), the disk, the counts, the log's counters
+-- What the cells of a pool mean: where its turn stands (points, specs/Words), the disk, the counts, the log's counters
 -- and the limits. Any cells mean some pool. The cells are numbered in src/state.
 use mathlib.Core.Bool.{Bool, true, false}
 use mathlib.Core.List.{List}
@@ -9,13 +9,13 @@ use Rattle.lists.specs.Links.{pick}
 use Rattle.log.specs.declared.Counters.{Counters}
 use Rattle.log.specs.declared.Order.{Order}
 use Rattle.log.specs.declared.Order.the-variants.{Append, Replace, Flush}
-use Rattle.group.specs.declared.words.Where.{Where}
-use Rattle.group.specs.Words.{atOf}
+use Rattle.points.specs.declared.words.Where.{Where}
+use Rattle.points.specs.Words.{atOf}
 use Rattle.log.specs.declared.Due.{Due}
 use Rattle.log.specs.declared.Due.the-variants as due
 use Rattle.turn.specs.declared.state.OrderWords.{OrderWords}
-use Rattle.turn.specs.declared.state.What.{What}
-use Rattle.turn.specs.declared.state.What.the-variants as what
+use Rattle.turn.specs.declared.state.OrderFor.{OrderFor}
+use Rattle.turn.specs.declared.state.OrderFor.the-variants as orderFor
 use Rattle.turn.specs.declared.state.Disk.{Disk}
 use Rattle.turn.specs.declared.state.Disk.the-variants as disk
 use Rattle.turn.specs.declared.state.DiskKind.{DiskKind}
@@ -26,8 +26,8 @@ use Rattle.turn.specs.State.{Counts, Turn, Pool}
 
 -- ---- yes and no: 0 is no
 
-unfoldable pub flagOf : ℕ → Bool
-flagOf n = pick (eqb n 0) false true
+unfoldable pub boolOf : ℕ → Bool
+boolOf n = pick (eqb n 0) false true
 
 -- ---- an order: 1 an append, 2 a replace, any other number a flush; 0 where none is due
 
@@ -51,12 +51,12 @@ abbrev pub orderIn : DiskWords → Order
 orderIn w = orderOf (record { order = w .disk; from = w .from; to = w .to })
 
 -- what it is for: 0 a record, 1 the mark of a message, any other number neither
-unfoldable pub whatOf : ℕ → ℕ → What
-whatOf n id = pick (eqb n 0) what.Record (pick (eqb n 1) (what.Mark (record { 0 = id })) what.Nothing)
+unfoldable pub orderForOf : ℕ → ℕ → OrderFor
+orderForOf n id = pick (eqb n 0) orderFor.Record (pick (eqb n 1) (orderFor.Mark (record { 0 = id })) orderFor.Nothing)
 
 abbrev pub diskBy : DiskKind → DiskWords → Disk
 diskBy diskKind.Free w = disk.Free
-diskBy diskKind.Waits w = disk.Waits (orderIn w) (whatOf (w .what) (w .id))
+diskBy diskKind.Waits w = disk.Waits (orderIn w) (orderForOf (w .what) (w .id))
 diskBy diskKind.Failed w = disk.Failed
 
 unfoldable pub diskOf : DiskWords → Disk
@@ -83,7 +83,7 @@ abbrev pub countsIn : List ℕ → Counts
 countsIn c = record {
   queued = getD c 12 0;
   losses = record { dead = getD c 13 0; crashes = getD c 14 0 };
-  stepped = flagOf (getD c 15 0);
+  stepped = boolOf (getD c 15 0);
 }
 
 abbrev pub countersIn : List ℕ → Counters
@@ -91,7 +91,7 @@ countersIn c = record {
   next = getD c 16 0;
   live = getD c 17 0;
   size = getD c 18 0;
-  dirty = flagOf (getD c 19 0);
+  dirty = boolOf (getD c 19 0);
   count = getD c 20 0;
 }
 
@@ -109,13 +109,13 @@ turnIn c = record {
   at = atOf (whereIn c);
   disk = diskOf (diskIn c);
   counts = countsIn c;
-  log = countersIn c;
+  counters = countersIn c;
 }
 
 unfoldable pub poolOf : List ℕ → Pool
 poolOf c = record {
   turn = turnIn c;
   limits = limitsIn c;
-  closed = flagOf (getD c 26 0);
-  seeded = flagOf (getD c 27 0);
+  closed = boolOf (getD c 26 0);
+  seeded = boolOf (getD c 27 0);
 }

@@ -5,22 +5,24 @@ ghost use Rattle.lists.specs.Links.{Table};
 ghost use Rattle.steps.specs.StepFixed.{fixedAsks};
 ghost use Rattle.steps.specs.StepEval.{askTell, evalAsks};
 ghost use Rattle.steps.specs.Words.{fixedAskOf, evalAskOf};
-ghost use Rattle.group.specs.Words.{askOf, atOf};
+ghost use Rattle.points.specs.Words.{askOf, atOf};
 ghost use Rattle.turn.specs.Words.{diskOf};
 ghost use Rattle.turn.specs.Asks.{askedBy, askedIn, wantedBy};
 use crate::state;
 use crate::state::DiskKind;
 use crate::state::DiskWords;
 use actor::message::Caller;
+use actor::message::MessageRow;
 use actor::question::Asked;
 use actor::question::Outcome;
 use actor::question::Question;
 use actor::question::Who;
-use group::at;
-use group::words;
-use group::words::AskKind;
-use group::words::AtKind;
-use group::words::Where;
+use lists::LinkRow;
+use points::at;
+use points::words;
+use points::words::AskKind;
+use points::words::AtKind;
+use points::words::Where;
 use steps::eval;
 use steps::eval::EvalKind;
 use steps::fixed;
@@ -28,7 +30,7 @@ use steps::fixed::FixedKind;
 use steps::step;
 
 // The turn's question.
-fn asked_by(w: Where, links: &[[u64; 4]], rows: &[[u64; 7]]) -> Asked
+fn asked_by(w: Where, links: &[LinkRow], rows: &[MessageRow]) -> Asked
     ensures { λ r. ⌜ r ≡ askedBy (askOf w) (now (links .entry)) (now (rows .entry)) ⌝ }
 {
     let ask = words::ask_kind(w.place);
@@ -59,7 +61,7 @@ fn asked_by(w: Where, links: &[[u64; 4]], rows: &[[u64; 7]]) -> Asked
 }
 
 // The order that waits, else the turn's question; after a failed order nothing.
-pub fn asked_in(disk: DiskWords, at: Where, links: &[[u64; 4]], rows: &[[u64; 7]]) -> Asked
+pub fn asked_in(disk: DiskWords, at: Where, links: &[LinkRow], rows: &[MessageRow]) -> Asked
     ensures { λ r. ⌜ r ≡ askedIn (diskOf disk) (atOf at) (now (links .entry)) (now (rows .entry)) ⌝ }
 {
     let state_kind = state::disk_kind(disk.disk);
@@ -122,7 +124,7 @@ fn tell_wants(caller: Caller) -> u64
 }
 
 // The same of an eval actor's step.
-fn eval_wants(ask: EvalKind, links: &[[u64; 4]], rows: &[[u64; 7]]) -> u64
+fn eval_wants(ask: EvalKind, links: &[LinkRow], rows: &[MessageRow]) -> u64
     ensures { λ r. ⌜
         ((who : Who) (o : Outcome) →
         r ≡ wantedBy (evalAsks (now (links .entry)) (now (rows .entry)) who (evalAskOf ask o)))
@@ -144,7 +146,7 @@ fn eval_wants(ask: EvalKind, links: &[[u64; 4]], rows: &[[u64; 7]]) -> u64
 }
 
 // The kind of reply that the turn's question wants.
-fn wanted_by(w: Where, links: &[[u64; 4]], rows: &[[u64; 7]]) -> u64
+fn wanted_by(w: Where, links: &[LinkRow], rows: &[MessageRow]) -> u64
     ensures { λ r. ⌜ r ≡ wantedBy (askedBy (askOf w) (now (links .entry)) (now (rows .entry))) ⌝ }
 {
     let ask = words::ask_kind(w.place);
@@ -168,7 +170,7 @@ fn wanted_by(w: Where, links: &[[u64; 4]], rows: &[[u64; 7]]) -> u64
 }
 
 // The kind of reply that is wanted: the order's, else the turn's.
-pub fn wanted_in(disk: DiskWords, at: Where, links: &[[u64; 4]], rows: &[[u64; 7]]) -> u64
+pub fn wanted_in(disk: DiskWords, at: Where, links: &[LinkRow], rows: &[MessageRow]) -> u64
     ensures { λ r. ⌜ r ≡ wantedBy (askedIn (diskOf disk) (atOf at) (now (links .entry)) (now (rows .entry))) ⌝ }
 {
     let state_kind = state::disk_kind(disk.disk);

@@ -1,32 +1,38 @@
-// One running point of a turn: each is a function of routing or ticking.
+// One running point of a turn: each is a function of route or tick.
 ghost use mathlib.Core.Path.{_≡_};
 ghost use mathlib.Core.List.{List};
 ghost use Prim.Native.Nat.{ℕ};
 ghost use Rattle.lists.specs.Links.{Table};
-ghost use Rattle.group.specs.Words.{pointOf};
+ghost use Rattle.points.specs.Words.{pointOf};
 ghost use Rattle.turn.specs.Words.{poolOf};
 ghost use Rattle.turn.specs.Go.{goOf};
 use crate::state;
-use group::words;
-use group::words::PointKind;
-use group::words::Where;
-use routing::intake;
-use routing::route;
-use routing::seed;
-use ticking::crash;
-use ticking::ready;
-use ticking::settle;
-use ticking::waking;
+use crate::state::PoolCells;
+use actor::message::MessageRow;
+use actor::state::ActorRow;
+use group::settings::GroupRow;
+use lists::LinkRow;
+use lists::keys::KeyRow;
+use points::words;
+use points::words::PointKind;
+use points::words::Where;
+use route::batch;
+use route::intake;
+use route::seed;
+use tick::crash;
+use tick::ready;
+use tick::settle;
+use tick::waking;
 
 // A point of a turn that runs, whatever the log is.
 pub(crate) fn go(
-    pool: &mut [u64; 28],
+    pool: &mut PoolCells,
     store: &[u8],
-    groups: &[[u64; 37]],
-    links: &mut [[u64; 4]],
-    rows: &mut [[u64; 7]],
-    lists: &mut [[u8; 65]],
-    actors: &mut [[u64; 12]],
+    groups: &[GroupRow],
+    links: &mut [LinkRow],
+    rows: &mut [MessageRow],
+    keys: &mut [KeyRow],
+    actors: &mut [ActorRow],
     w: Where,
 )
     ensures { λ r. ⌜
@@ -39,7 +45,7 @@ pub(crate) fn go(
           groups = now (groups .entry);
           links = now (links .exit);
           rows = now (rows .exit);
-          keys = now (lists .exit);
+          keys = now (keys .exit);
           actors = now (actors .exit);
         }
         ≡ goOf
@@ -51,7 +57,7 @@ pub(crate) fn go(
           groups = now (groups .entry);
           links = now (links .entry);
           rows = now (rows .entry);
-          keys = now (lists .entry);
+          keys = now (keys .entry);
           actors = now (actors .entry);
         })
         (pointOf w))
@@ -63,7 +69,7 @@ pub(crate) fn go(
     let c = words::cursor_of(w);
     match point {
         PointKind::Seed => {
-            let next = seed::seed(groups, count, lists, actors, c.group);
+            let next = seed::seed(groups, count, keys, actors, c.group);
             state::stand_at(pool, next);
         }
         PointKind::Intake => {
@@ -72,13 +78,13 @@ pub(crate) fn go(
             state::stand_at(pool, next);
         }
         PointKind::Route => {
-            let s = route::route(
+            let s = batch::route(
                 groups,
                 count,
                 store,
                 links,
                 rows,
-                lists,
+                keys,
                 actors,
                 queued,
                 w.left,
@@ -87,25 +93,16 @@ pub(crate) fn go(
             state::queue_at(pool, next, s.queued);
         }
         PointKind::Wake => {
-            let next = waking::wake(lists, count, c.group, c.now);
+            let next = waking::wake(keys, count, c.group, c.now);
             state::stand_at(pool, next);
         }
         PointKind::WakeNext => {
-            let next = waking::wake_next(lists, actors, c.group, c.now, w.left);
+            let next = waking::wake_next(keys, actors, c.group, c.now, w.left);
             state::stand_at(pool, next);
         }
         PointKind::Ready => {
             let stepped = state::stepped(pool);
-            let s = ready::ready(
-                links,
-                lists,
-                actors,
-                queued,
-                stepped,
-                c.group,
-                c.now,
-                w.left,
-            );
+            let s = ready::ready(links, keys, actors, queued, stepped, c.group, c.now, w.left);
             let next = s.at;
             state::step_at(pool, next, s.queued, s.stepped);
         }
@@ -121,7 +118,7 @@ pub(crate) fn go(
         }
         PointKind::Settle => {
             let step = words::end_of(w);
-            let s = settle::settle(links, rows, lists, actors, c, step, queued);
+            let s = settle::settle(links, rows, keys, actors, c, step, queued);
             let next = s.at;
             state::queue_at(pool, next, s.queued);
         }
@@ -135,9 +132,9 @@ pub(crate) fn go(
             let next = words::trap(c);
             state::stand_at(pool, next);
         }
-        PointKind::Doomed => {
+        PointKind::CrashTrapped => {
             let losses = state::losses(pool);
-            let s = crash::doomed(groups, links, rows, lists, c, w.more, queued, losses);
+            let s = crash::crash_trapped(groups, links, rows, keys, c, w.more, queued, losses);
             let next = s.at;
             let more = s.losses;
             state::lose_at(pool, next, s.queued, more);

@@ -10,6 +10,7 @@ use log::Answer;
 use log::Counters;
 use log::Due;
 use log::LogId;
+use log::RecordRow;
 use log::Refusal;
 use log::wal;
 
@@ -73,7 +74,7 @@ fn appended(counters: Counters, answer: Answer) -> LogAppend
 // A record of a message is appended.
 pub fn append(
     log: &mut [u8],
-    records: &mut [[u64; 3]],
+    records: &mut [RecordRow],
     before: Counters,
     name: &[u8],
     body: &[u8],
@@ -94,7 +95,7 @@ pub fn append(
 // The message that was logged as `id` gets its mark.
 pub fn mark(
     log: &mut [u8],
-    records: &mut [[u64; 3]],
+    records: &mut [RecordRow],
     before: Counters,
     limit: usize,
     id: LogId,

@@ -5,28 +5,34 @@ ghost use mathlib.Core.List.{List};
 ghost use Prim.Native.Nat.{ℕ};
 ghost use Rattle.lists.specs.Links.{Table};
 ghost use Rattle.steps.specs.Words.{stepOf};
-ghost use Rattle.group.specs.Words.{askOf, atOf};
+ghost use Rattle.points.specs.Words.{askOf, atOf};
 ghost use Rattle.turn.specs.Words.{poolOf};
 ghost use Rattle.turn.specs.Resume.{clockReply, sendsReply, resumeOf};
 use crate::state;
+use crate::state::PoolCells;
+use actor::message::MessageRow;
 use actor::question;
 use actor::question::ClockIn;
 use actor::question::Reply;
-use group::at;
-use group::at::Cursor;
+use actor::state::ActorRow;
 use group::roster;
 use group::settings;
-use group::words;
-use group::words::AskKind;
-use group::words::Where;
-use routing::route;
-use routing::seed;
+use group::settings::GroupRow;
+use lists::LinkRow;
+use lists::keys::KeyRow;
+use points::at;
+use points::at::Cursor;
+use points::words;
+use points::words::AskKind;
+use points::words::Where;
+use route::batch;
+use route::seed;
 use steps::eval;
 use steps::eval::Limit;
 use steps::fixed;
 use steps::step::StepWords;
-use ticking::crash;
-use ticking::waking;
+use tick::crash;
+use tick::waking;
 
 // The tick's clock; a reply that does not fit changes nothing.
 fn clock_reply(reply: Reply) -> Where
@@ -59,12 +65,12 @@ fn sends_reply(c: Cursor, step: StepWords, reply: Reply) -> Where
 
 // The turn's question is answered, whatever the log and the body store are.
 pub fn resume(
-    pool: &mut [u64; 28],
-    groups: &[[u64; 37]],
-    links: &mut [[u64; 4]],
-    rows: &[[u64; 7]],
-    lists: &mut [[u8; 65]],
-    actors: &mut [[u64; 12]],
+    pool: &mut PoolCells,
+    groups: &[GroupRow],
+    links: &mut [LinkRow],
+    rows: &[MessageRow],
+    keys: &mut [KeyRow],
+    actors: &mut [ActorRow],
     w: Where,
     reply: Reply,
 )
@@ -78,7 +84,7 @@ pub fn resume(
           groups = now (groups .entry);
           links = now (links .exit);
           rows = now (rows .entry);
-          keys = now (lists .exit);
+          keys = now (keys .exit);
           actors = now (actors .exit);
         }
         ≡ resumeOf
@@ -90,7 +96,7 @@ pub fn resume(
           groups = now (groups .entry);
           links = now (links .entry);
           rows = now (rows .entry);
-          keys = now (lists .entry);
+          keys = now (keys .entry);
           actors = now (actors .entry);
         })
         (askOf w) reply)
@@ -101,11 +107,11 @@ pub fn resume(
     let c = words::cursor_of(w);
     match ask {
         AskKind::SeedBoot => {
-            let next = seed::seed_reply(lists, actors, c.group, reply);
+            let next = seed::seed_reply(keys, actors, c.group, reply);
             state::stand_at(pool, next);
         }
         AskKind::RouteBoot => {
-            let s = route::route_reply(links, rows, lists, actors, c.group, queued, w.left, reply);
+            let s = batch::route_reply(links, rows, keys, actors, c.group, queued, w.left, reply);
             let next = s.at;
             state::queue_at(pool, next, s.queued);
         }
@@ -114,7 +120,7 @@ pub fn resume(
             state::stand_at(pool, next);
         }
         AskKind::WakePoll => {
-            let next = waking::poll_reply(lists, actors, c.group, c.key, c.now, w.left, reply);
+            let next = waking::poll_reply(keys, actors, c.group, c.key, c.now, w.left, reply);
             state::stand_at(pool, next);
         }
         AskKind::Fixed => {
@@ -145,12 +151,12 @@ pub fn resume(
             state::stand_at(pool, next);
         }
         AskKind::Trap => {
-            let next = crash::trap_reply(lists, c, reply);
+            let next = crash::trap_reply(keys, c, reply);
             state::stand_at(pool, next);
         }
         AskKind::Trapped => {
             let other = words::key_of(w.more);
-            let next = crash::trapped_reply(lists, c, other, reply);
+            let next = crash::trapped_reply(keys, c, other, reply);
             state::stand_at(pool, next);
         }
     }

@@ -3,24 +3,24 @@
 // (specs/Words); any cells mean some pool. Beside them are the lent tables; all together are the `State` of
 // specs/State.
 ghost use mathlib.Core.Path.{_≡_};
-ghost use Rattle.group.specs.Words.{atOf, pointOf};
-ghost use Rattle.turn.specs.Words.{flagOf, orderOf, dueOf, isDue, diskKindOf};
-ghost use Rattle.turn.specs.Words.{orderIn, whatOf, diskOf, poolOf};
+ghost use Rattle.points.specs.Words.{atOf, pointOf};
+ghost use Rattle.turn.specs.Words.{boolOf, orderOf, dueOf, isDue, diskKindOf};
+ghost use Rattle.turn.specs.Words.{orderIn, orderForOf, diskOf, poolOf};
 ghost use Rattle.turn.specs.State.{diskFor, withDisk, stoodAt, queuedAt, steppedAt, lostAt, begunAt};
 ghost use Rattle.turn.specs.State.{closedPool, newPool};
 ghost use Rattle.turn.specs.State.{isFree, marksAt, runningOf};
-use group::words;
-use group::words::AtKind;
-use group::words::PointKind;
-use group::words::Where;
 use log::Counters;
 use log::Due;
 use log::LogId;
 use log::Order;
-use ticking::crash::Losses;
+use points::words;
+use points::words::AtKind;
+use points::words::PointKind;
+use points::words::Where;
+use tick::crash::Losses;
 
 // What an order is for: a new record, the mark of a message, or neither.
-pub enum What {
+pub enum OrderFor {
     Record,
     Mark(LogId),
     Nothing,
@@ -29,7 +29,7 @@ pub enum What {
 // The disk: no order waits; one waits; one failed, and nothing is taken any more. It is what `DiskWords` means.
 pub enum Disk {
     Free,
-    Waits(Order, What),
+    Waits(Order, OrderFor),
     Failed,
 }
 
@@ -96,17 +96,18 @@ pub struct Limits {
 // mailboxes, 13 and 14 the dead messages and the crashes, 15 whether an actor was stepped in this turn, 16 to 20 the
 // log's counters, 21 to 25 the limits, 26 whether no more is admitted, 27 whether the first turn was taken. Yes is 1,
 // no is 0.
+pub type PoolCells = [u64; 28];
 
 // Yes or no as a cell.
 pub fn flag_cell(b: bool) -> u64
-    ensures { λ r. ⌜ flagOf r ≡ b ⌝ }
+    ensures { λ r. ⌜ boolOf r ≡ b ⌝ }
 {
     if b { 1 } else { 0 }
 }
 
 // Yes or no of a cell.
-pub fn flag_of(n: u64) -> bool
-    ensures { λ r. ⌜ r ≡ flagOf n ⌝ }
+pub fn bool_of(n: u64) -> bool
+    ensures { λ r. ⌜ r ≡ boolOf n ⌝ }
 {
     if n == 0 { false } else { true }
 }
@@ -139,7 +140,7 @@ pub fn failed() -> DiskWords
 
 // An order waits.
 pub fn waits(order: Order, what: u64, id: u64) -> DiskWords
-    ensures { λ r. ⌜ diskOf r ≡ Disk.Waits order (whatOf what id) ⌝ }
+    ensures { λ r. ⌜ diskOf r ≡ Disk.Waits order (orderForOf what id) ⌝ }
 {
     match order {
         Order::Append(from, to) => DiskWords {
@@ -236,7 +237,7 @@ pub fn is_due(words: OrderWords) -> bool
 
 // What is due waits, for this.
 pub fn waiting(due: OrderWords, what: u64, id: u64) -> DiskWords
-    ensures { λ r. ⌜ diskOf r ≡ diskFor (dueOf due) (whatOf what id) ⌝ }
+    ensures { λ r. ⌜ diskOf r ≡ diskFor (dueOf due) (orderForOf what id) ⌝ }
 {
     if due.order == NONE {
         return free();
@@ -258,7 +259,7 @@ pub(crate) fn order_in(disk: DiskWords) -> Order
 }
 
 // Where the turn stands.
-pub fn where_in(pool: &[u64; 28]) -> Where
+pub fn where_in(pool: &PoolCells) -> Where
     ensures { λ r. ⌜ poolOf (now (pool .entry)) .turn .at ≡ atOf r ⌝ }
 {
     Where {
@@ -273,7 +274,7 @@ pub fn where_in(pool: &[u64; 28]) -> Where
 }
 
 // The disk.
-pub fn disk_in(pool: &[u64; 28]) -> DiskWords
+pub fn disk_in(pool: &PoolCells) -> DiskWords
     ensures { λ r. ⌜ poolOf (now (pool .entry)) .turn .disk ≡ diskOf r ⌝ }
 {
     DiskWords {
@@ -286,14 +287,14 @@ pub fn disk_in(pool: &[u64; 28]) -> DiskWords
 }
 
 // How many messages are in mailboxes.
-pub fn queued(pool: &[u64; 28]) -> u64
+pub fn queued(pool: &PoolCells) -> u64
     ensures { λ r. ⌜ r ≡ poolOf (now (pool .entry)) .turn .counts .queued ⌝ }
 {
     pool[12]
 }
 
 // The dead messages and the crashes.
-pub fn losses(pool: &[u64; 28]) -> Losses
+pub fn losses(pool: &PoolCells) -> Losses
     ensures { λ r. ⌜ r ≡ poolOf (now (pool .entry)) .turn .counts .losses ⌝ }
 {
     Losses {
@@ -303,17 +304,17 @@ pub fn losses(pool: &[u64; 28]) -> Losses
 }
 
 // Whether an actor was stepped in this turn.
-pub fn stepped(pool: &[u64; 28]) -> bool
+pub fn stepped(pool: &PoolCells) -> bool
     ensures { λ r. ⌜ r ≡ poolOf (now (pool .entry)) .turn .counts .stepped ⌝ }
 {
-    flag_of(pool[15])
+    bool_of(pool[15])
 }
 
 // The log's counters, as the pool has them.
-pub fn counters(pool: &[u64; 28]) -> Counters
-    ensures { λ r. ⌜ r ≡ poolOf (now (pool .entry)) .turn .log ⌝ }
+pub fn counters(pool: &PoolCells) -> Counters
+    ensures { λ r. ⌜ r ≡ poolOf (now (pool .entry)) .turn .counters ⌝ }
 {
-    let dirty = flag_of(pool[19]);
+    let dirty = bool_of(pool[19]);
     Counters {
         next: pool[16],
         live: pool[17] as usize,
@@ -324,55 +325,55 @@ pub fn counters(pool: &[u64; 28]) -> Counters
 }
 
 // How many groups there are.
-pub fn groups(pool: &[u64; 28]) -> usize
+pub fn groups(pool: &PoolCells) -> usize
     ensures { λ r. ⌜ r ≡ poolOf (now (pool .entry)) .limits .groups ⌝ }
 {
     pool[21] as usize
 }
 
-pub fn inbox(pool: &[u64; 28]) -> u64
+pub fn inbox(pool: &PoolCells) -> u64
     ensures { λ r. ⌜ r ≡ poolOf (now (pool .entry)) .limits .inbox ⌝ }
 {
     pool[22]
 }
 
-pub(crate) fn backlog(pool: &[u64; 28]) -> u64
+pub(crate) fn backlog(pool: &PoolCells) -> u64
     ensures { λ r. ⌜ r ≡ poolOf (now (pool .entry)) .limits .backlog ⌝ }
 {
     pool[23]
 }
 
-pub(crate) fn compact_at(pool: &[u64; 28]) -> usize
+pub(crate) fn compact_at(pool: &PoolCells) -> usize
     ensures { λ r. ⌜ r ≡ poolOf (now (pool .entry)) .limits .«compact_at» ⌝ }
 {
     pool[24] as usize
 }
 
-pub(crate) fn tick(pool: &[u64; 28]) -> u64
+pub(crate) fn tick(pool: &PoolCells) -> u64
     ensures { λ r. ⌜ r ≡ poolOf (now (pool .entry)) .limits .tick ⌝ }
 {
     pool[25]
 }
 
 // Whether no more is admitted.
-pub fn closed(pool: &[u64; 28]) -> bool
+pub fn closed(pool: &PoolCells) -> bool
     ensures { λ r. ⌜ r ≡ poolOf (now (pool .entry)) .closed ⌝ }
 {
-    flag_of(pool[26])
+    bool_of(pool[26])
 }
 
 // Whether the first turn was taken.
-pub fn seeded(pool: &[u64; 28]) -> bool
+pub fn seeded(pool: &PoolCells) -> bool
     ensures { λ r. ⌜ r ≡ poolOf (now (pool .entry)) .seeded ⌝ }
 {
-    flag_of(pool[27])
+    bool_of(pool[27])
 }
 
 // The disk is this; the log's counters are as they were.
-pub fn set_disk(pool: &mut [u64; 28], disk: DiskWords)
+pub fn set_disk(pool: &mut PoolCells, disk: DiskWords)
     ensures { λ r.
         ⌜ poolOf (now (pool .exit))
-        ≡ withDisk (poolOf (now (pool .entry))) (poolOf (now (pool .entry)) .turn .log) (diskOf disk) ⌝ }
+        ≡ withDisk (poolOf (now (pool .entry))) (poolOf (now (pool .entry)) .turn .counters) (diskOf disk) ⌝ }
 {
     *pool = [
         pool[0],
@@ -407,7 +408,7 @@ pub fn set_disk(pool: &mut [u64; 28], disk: DiskWords)
 }
 
 // The log's counters and the disk are these.
-pub fn set_log(pool: &mut [u64; 28], counters: Counters, disk: DiskWords)
+pub fn set_log(pool: &mut PoolCells, counters: Counters, disk: DiskWords)
     ensures { λ r. ⌜ poolOf (now (pool .exit)) ≡ withDisk (poolOf (now (pool .entry))) counters (diskOf disk) ⌝ }
 {
     let dirty = flag_cell(counters.dirty);
@@ -444,7 +445,7 @@ pub fn set_log(pool: &mut [u64; 28], counters: Counters, disk: DiskWords)
 }
 
 // The turn stands there.
-pub(crate) fn stand_at(pool: &mut [u64; 28], at: Where)
+pub(crate) fn stand_at(pool: &mut PoolCells, at: Where)
     ensures { λ r. ⌜ poolOf (now (pool .exit)) ≡ stoodAt (poolOf (now (pool .entry))) (atOf at) ⌝ }
 {
     *pool = [
@@ -480,7 +481,7 @@ pub(crate) fn stand_at(pool: &mut [u64; 28], at: Where)
 }
 
 // The turn stands there, with so many messages in mailboxes.
-pub(crate) fn queue_at(pool: &mut [u64; 28], at: Where, queued: u64)
+pub(crate) fn queue_at(pool: &mut PoolCells, at: Where, queued: u64)
     ensures { λ r. ⌜ poolOf (now (pool .exit)) ≡ queuedAt (poolOf (now (pool .entry))) (atOf at) queued ⌝ }
 {
     *pool = [
@@ -516,7 +517,7 @@ pub(crate) fn queue_at(pool: &mut [u64; 28], at: Where, queued: u64)
 }
 
 // The turn stands there, with so many messages in mailboxes, and whether an actor was stepped.
-pub(crate) fn step_at(pool: &mut [u64; 28], at: Where, queued: u64, stepped: bool)
+pub(crate) fn step_at(pool: &mut PoolCells, at: Where, queued: u64, stepped: bool)
     ensures { λ r. ⌜ poolOf (now (pool .exit)) ≡ steppedAt (poolOf (now (pool .entry))) (atOf at) queued stepped ⌝ }
 {
     let flag = flag_cell(stepped);
@@ -553,7 +554,7 @@ pub(crate) fn step_at(pool: &mut [u64; 28], at: Where, queued: u64, stepped: boo
 }
 
 // The turn stands there, with so many messages in mailboxes, and these losses.
-pub(crate) fn lose_at(pool: &mut [u64; 28], at: Where, queued: u64, losses: Losses)
+pub(crate) fn lose_at(pool: &mut PoolCells, at: Where, queued: u64, losses: Losses)
     ensures { λ r. ⌜ poolOf (now (pool .exit)) ≡ lostAt (poolOf (now (pool .entry))) (atOf at) queued losses ⌝ }
 {
     *pool = [
@@ -589,7 +590,7 @@ pub(crate) fn lose_at(pool: &mut [u64; 28], at: Where, queued: u64, losses: Loss
 }
 
 // A turn begins there: no actor was stepped in it yet, and the first turn was taken.
-pub fn begin_at(pool: &mut [u64; 28], at: Where)
+pub fn begin_at(pool: &mut PoolCells, at: Where)
     ensures { λ r. ⌜ poolOf (now (pool .exit)) ≡ begunAt (poolOf (now (pool .entry))) (atOf at) ⌝ }
 {
     *pool = [
@@ -625,7 +626,7 @@ pub fn begin_at(pool: &mut [u64; 28], at: Where)
 }
 
 // No more is admitted.
-pub fn close(pool: &mut [u64; 28])
+pub fn close(pool: &mut PoolCells)
     ensures { λ r. ⌜ poolOf (now (pool .exit)) ≡ closedPool (poolOf (now (pool .entry))) ⌝ }
 {
     *pool = [
@@ -661,7 +662,7 @@ pub fn close(pool: &mut [u64; 28])
 }
 
 // A new pool, at rest.
-pub fn start(pool: &mut [u64; 28], limits: Limits, counters: Counters, disk: DiskWords)
+pub fn start(pool: &mut PoolCells, limits: Limits, counters: Counters, disk: DiskWords)
     ensures { λ r. ⌜ poolOf (now (pool .exit)) ≡ newPool limits counters (diskOf disk) ⌝ }
 {
     let dirty = flag_cell(counters.dirty);
@@ -714,12 +715,12 @@ pub(crate) fn marks_at(w: Where) -> bool
         PointKind::Settle => false,
         PointKind::Crash => true,
         PointKind::AskTrap => true,
-        PointKind::Doomed => true,
+        PointKind::CrashTrapped => true,
     }
 }
 
 // Whether no order waits and none failed.
-pub(crate) fn disk_free(pool: &[u64; 28]) -> bool
+pub(crate) fn disk_free(pool: &PoolCells) -> bool
     ensures { λ r. ⌜ r ≡ isFree (poolOf (now (pool .entry)) .turn .disk) ⌝ }
 {
     let kind = disk_kind(pool[7]);
@@ -731,7 +732,7 @@ pub(crate) fn disk_free(pool: &[u64; 28]) -> bool
 }
 
 // Whether the turn runs on by itself: no order waits, and it is between questions.
-pub(crate) fn running(pool: &[u64; 28]) -> bool
+pub(crate) fn running(pool: &PoolCells) -> bool
     ensures { λ r. ⌜ r ≡ runningOf (poolOf (now (pool .entry))) ⌝ }
 {
     let free = disk_free(pool);

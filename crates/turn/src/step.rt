@@ -4,22 +4,29 @@ ghost use mathlib.Core.Path.{_≡_};
 ghost use mathlib.Core.List.{List};
 ghost use Prim.Native.Nat.{ℕ};
 ghost use Rattle.lists.specs.Links.{Table};
-ghost use Rattle.group.specs.Words.{pointOf};
+ghost use Rattle.points.specs.Words.{pointOf};
 ghost use Rattle.turn.specs.Words.{poolOf};
 ghost use Rattle.turn.specs.Step.{markLogged, markFirst, markAt, stepOf, advanced};
 use crate::go;
 use crate::logged;
 use crate::state;
+use crate::state::PoolCells;
 use actor::message;
 use actor::message::Logged;
-use group::words;
-use group::words::AtKind;
-use group::words::Where;
+use actor::message::MessageRow;
+use actor::state::ActorRow;
+use group::settings::GroupRow;
 use lists::Found;
+use lists::LinkRow;
+use lists::keys::KeyRow;
 use log::LogId;
+use log::RecordRow;
+use points::words;
+use points::words::AtKind;
+use points::words::Where;
 
 // A message that was logged as `id` gets its mark.
-fn mark_logged(pool: &mut [u64; 28], log: &mut [u8], records: &mut [[u64; 3]], id: LogId)
+fn mark_logged(pool: &mut PoolCells, log: &mut [u8], records: &mut [RecordRow], id: LogId)
     ensures { λ r. ⌜
         ((store : List ℕ) (groups links rows keys actors : Table) →
         record {
@@ -59,11 +66,11 @@ fn mark_logged(pool: &mut [u64; 28], log: &mut [u8], records: &mut [[u64; 3]], i
 
 // The first message that is over: its entry is free, and its mark is ordered.
 fn mark_first(
-    pool: &mut [u64; 28],
+    pool: &mut PoolCells,
     log: &mut [u8],
-    records: &mut [[u64; 3]],
-    links: &mut [[u64; 4]],
-    rows: &[[u64; 7]],
+    records: &mut [RecordRow],
+    links: &mut [LinkRow],
+    rows: &[MessageRow],
 )
     ensures { λ r. ⌜
         ((store : List ℕ) (groups keys actors : Table) →
@@ -94,8 +101,7 @@ fn mark_first(
 {
     match lists::first(links, lists::OVER) {
         Found::Entry(e) => {
-            let m = message::message_at(rows, e);
-            let id = m.id;
+            let id = message::id_at(rows, e);
             lists::move_first(links, lists::OVER, lists::FREE);
             match id {
                 Logged::As(number) => mark_logged(pool, log, records, number),
@@ -108,11 +114,11 @@ fn mark_first(
 
 // What is over gets its mark first, at the points that say so.
 fn mark_at(
-    pool: &mut [u64; 28],
+    pool: &mut PoolCells,
     log: &mut [u8],
-    records: &mut [[u64; 3]],
-    links: &mut [[u64; 4]],
-    rows: &[[u64; 7]],
+    records: &mut [RecordRow],
+    links: &mut [LinkRow],
+    rows: &[MessageRow],
     w: Where,
 )
     ensures { λ r. ⌜
@@ -151,15 +157,15 @@ fn mark_at(
 
 // One step of the turn, where it runs: the marks first; then the point, unless an order waits.
 fn step(
-    pool: &mut [u64; 28],
+    pool: &mut PoolCells,
     store: &[u8],
-    groups: &[[u64; 37]],
+    groups: &[GroupRow],
     log: &mut [u8],
-    records: &mut [[u64; 3]],
-    links: &mut [[u64; 4]],
-    rows: &mut [[u64; 7]],
-    lists: &mut [[u8; 65]],
-    actors: &mut [[u64; 12]],
+    records: &mut [RecordRow],
+    links: &mut [LinkRow],
+    rows: &mut [MessageRow],
+    keys: &mut [KeyRow],
+    actors: &mut [ActorRow],
 )
     ensures { λ r. ⌜
         record {
@@ -170,7 +176,7 @@ fn step(
           groups = now (groups .entry);
           links = now (links .exit);
           rows = now (rows .exit);
-          keys = now (lists .exit);
+          keys = now (keys .exit);
           actors = now (actors .exit);
         }
         ≡ stepOf
@@ -182,7 +188,7 @@ fn step(
           groups = now (groups .entry);
           links = now (links .entry);
           rows = now (rows .entry);
-          keys = now (lists .entry);
+          keys = now (keys .entry);
           actors = now (actors .entry);
         })
         ⌝ }
@@ -196,7 +202,7 @@ fn step(
             mark_at(pool, log, records, links, rows, w);
             let free = state::disk_free(pool);
             if free {
-                go::go(pool, store, groups, links, rows, lists, actors, w);
+                go::go(pool, store, groups, links, rows, keys, actors, w);
             }
         }
     }
@@ -204,15 +210,15 @@ fn step(
 
 // Runs until a question, an order or the end.
 pub fn advance(
-    pool: &mut [u64; 28],
+    pool: &mut PoolCells,
     store: &[u8],
-    groups: &[[u64; 37]],
+    groups: &[GroupRow],
     log: &mut [u8],
-    records: &mut [[u64; 3]],
-    links: &mut [[u64; 4]],
-    rows: &mut [[u64; 7]],
-    lists: &mut [[u8; 65]],
-    actors: &mut [[u64; 12]],
+    records: &mut [RecordRow],
+    links: &mut [LinkRow],
+    rows: &mut [MessageRow],
+    keys: &mut [KeyRow],
+    actors: &mut [ActorRow],
 )
     ensures { λ r. ⌜
         record {
@@ -223,7 +229,7 @@ pub fn advance(
           groups = now (groups .entry);
           links = now (links .exit);
           rows = now (rows .exit);
-          keys = now (lists .exit);
+          keys = now (keys .exit);
           actors = now (actors .exit);
         }
         ≡ advanced
@@ -235,22 +241,12 @@ pub fn advance(
           groups = now (groups .entry);
           links = now (links .entry);
           rows = now (rows .entry);
-          keys = now (lists .entry);
+          keys = now (keys .entry);
           actors = now (actors .entry);
         })
         ⌝ }
 {
     while state::running(pool) {
-        step(
-            pool,
-            store,
-            groups,
-            log,
-            records,
-            links,
-            rows,
-            lists,
-            actors,
-        );
+        step(pool, store, groups, log, records, links, rows, keys, actors);
     }
 }

@@ -1,3 +1,3 @@
 pub mod NumberLaws
-pub mod PourLaws
+pub mod OutputLaws
 pub mod ScriptLaws

@@ -1,3 +1,3 @@
 pub mod Number
-pub mod Pour
+pub mod Output
 pub mod Script

@@ -1,22 +1,18 @@
 -- A script's bytes (docs/PROTOCOL.md): a header with settings and lent lengths, the groups, the file, then calls. A
 -- script that is cut short, or has a number that stands for nothing, is malformed.
-use mathlib.Core.Bool.{Bool, true, false}
 use mathlib.Core.List.{List, [], _∷_}
 use Prim.Native.Nat.{ℕ, zero, suc, _+_, _-_, _*_, _≤_, _<_}
-use lib.Dec.{eqb, leb, ltb}
+use lib.Dec.{eqb, ltb}
 use lib.ListN.{length}
 use Rattle.lists.specs.Links.{pick, Table}
-use Rattle.actor.specs.declared.message.Caller.{Caller}
 use Rattle.actor.specs.declared.message.Caller.the-variants as caller
 use Rattle.actor.specs.declared.question.Reply.{Reply}
 use Rattle.actor.specs.declared.question.Reply.the-variants as reply
-use Rattle.actor.specs.declared.question.Status.{Status}
 use Rattle.actor.specs.declared.question.Status.the-variants as status
 use Rattle.wire.specs.Number.{numberAt, numbersAt}
 use Rattle.wire.specs.declared.script.Header.{Header}
 use Rattle.wire.specs.declared.script.HeaderRead.{HeaderRead}
 use Rattle.wire.specs.declared.script.HeaderRead.the-variants as header
-use Rattle.wire.specs.declared.script.Kind.{Kind}
 use Rattle.wire.specs.declared.script.Kind.the-variants as kind
 use Rattle.wire.specs.declared.script.KindRead.{KindRead}
 use Rattle.wire.specs.declared.script.KindRead.the-variants as known

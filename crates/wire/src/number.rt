@@ -1,7 +1,7 @@
 // Numbers of 8 bytes, the lowest byte first, and plain bytes.
 ghost use mathlib.Core.Path.{_≡_};
 ghost use mathlib.Core.List.{[], _∷_};
-ghost use Prim.Native.Nat.{_+_, _*_, _≤_, _<_};
+ghost use Prim.Native.Nat.{_+_, _≤_, _<_};
 ghost use lib.ListN.{length, getD};
 ghost use Rattle.text.specs.Bytes.{Wrote};
 ghost use Rattle.wire.specs.Number.{fourAt, numberAt, number, numbers};
@@ -52,7 +52,7 @@ fn put(out: &mut [u8], at: usize, b: u8) -> usize
 }
 
 // A number, written from `at` on.
-pub(crate) fn put_number(out: &mut [u8], at: usize, n: u64) -> usize
+fn put_number(out: &mut [u8], at: usize, n: u64) -> usize
     requires { ⌜ at + 8 ≤ length (now out) ⌝ }
     ensures { λ r. ⌜ Wrote (now (out .entry)) at (number n) (now (out .exit)) r ⌝ }
 {

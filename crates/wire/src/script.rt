@@ -9,7 +9,8 @@ use actor::message::Caller;
 use actor::message::CallerId;
 use actor::question::Reply;
 use actor::question::Status;
-use setup::settings::Settings;
+use group::settings::GroupRow;
+use settings::ranges::Settings;
 
 pub struct Header {
     // what an entry shows: 0 the answer and the counters, 1 the log too, 2 the tables too, 3 the store too
@@ -116,7 +117,7 @@ pub fn read_header(s: &[u8]) -> HeaderRead
 }
 
 // The row of a group.
-fn group_at(s: &[u8], from: usize) -> [u64; 37]
+fn group_at(s: &[u8], from: usize) -> GroupRow
     requires { ⌜ from + 296 < 18446744073709551616 ⌝ }
     ensures { λ r. ⌜ r ≡ numbersAt 37 (now (s .entry)) from ⌝ }
 {
@@ -131,7 +132,7 @@ fn group_at(s: &[u8], from: usize) -> [u64; 37]
 }
 
 // The rows of the groups; past the end of the table nothing.
-pub fn read_groups(s: &[u8], groups: usize, given: &mut [[u64; 37]])
+pub fn read_groups(s: &[u8], groups: usize, given: &mut [GroupRow])
     ensures { λ r. ⌜ now (given .exit) ≡ groupsInto groups (now (s .entry)) 88 (now (given .entry)) ⌝ }
 {
     let mut g: usize = 0;

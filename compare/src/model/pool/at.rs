@@ -39,7 +39,7 @@ pub enum At {
     Settle { c: Cursor, step: Step },
     Crash { c: Cursor },
     AskTrap { c: Cursor },
-    Doomed { c: Cursor, doomed: VecDeque<Key> },
+    CrashTrapped { c: Cursor, trapped: VecDeque<Key> },
     // -- asking
     SeedBoot { g: usize },
     RouteBoot { g: usize },
@@ -57,7 +57,7 @@ pub enum At {
     EvalTell { c: Cursor, outcome: Outcome },
     Sends { c: Cursor, step: Step },
     Trap { c: Cursor },
-    Trapped { c: Cursor, ask: VecDeque<Key>, doomed: VecDeque<Key> },
+    Trapped { c: Cursor, ask: VecDeque<Key>, trapped: VecDeque<Key> },
 }
 
 /// What the comparison looks at besides questions.

@@ -103,27 +103,27 @@ impl Pool {
     }
 
     /// The next actor that was trapped with the failed one.
-    pub(super) fn retire_doomed(&mut self, c: Cursor, mut doomed: VecDeque<Key>) -> At {
-        let Some(key) = doomed.pop_front() else {
+    pub(super) fn crash_trapped(&mut self, c: Cursor, mut trapped: VecDeque<Key>) -> At {
+        let Some(key) = trapped.pop_front() else {
             return At::Ready { g: c.g, now: c.now, pops: c.pops };
         };
         let actor = self.retire(c.g, key);
         match actor.mailbox.is_empty() {
-            true => met!("doomed: no mail"),
-            false => met!("doomed: its mail goes back to pending"),
+            true => met!("crash_trapped: no mail"),
+            false => met!("crash_trapped: its mail goes back to pending"),
         }
         if actor.mailbox.len() > 1 {
-            met!("doomed: two messages or more go back to pending");
+            met!("crash_trapped: two messages or more go back to pending");
         }
         self.pending.extend(actor.mailbox);
         self.crashes = self.crashes.saturating_add(1);
         match actor.in_flight {
             Some(e) => {
-                met!("doomed: with a message in its hands");
+                met!("crash_trapped: with a message in its hands");
                 self.crashed(c.g, e);
             }
-            None => met!("doomed: with none"),
+            None => met!("crash_trapped: with none"),
         }
-        At::Doomed { c, doomed }
+        At::CrashTrapped { c, trapped }
     }
 }

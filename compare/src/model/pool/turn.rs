@@ -39,7 +39,7 @@ impl Pool {
     fn mark_at(&mut self, at: &At) -> bool {
         match at {
             At::Route | At::StepEnd { .. } | At::Crash { .. } => {}
-            At::AskTrap { .. } | At::Doomed { .. } | At::Ready { .. } => {}
+            At::AskTrap { .. } | At::CrashTrapped { .. } | At::Ready { .. } => {}
             _ => return false,
         }
         if !self.mark_next() {
@@ -50,8 +50,8 @@ impl Pool {
             At::StepEnd { .. } => met!("mark at StepEnd"),
             At::Crash { .. } => met!("mark at Crash"),
             At::AskTrap { .. } => met!("mark at AskTrap"),
-            At::Doomed { doomed, .. } if doomed.is_empty() => met!("mark at Doomed, the last"),
-            At::Doomed { .. } => met!("mark at Doomed, more to retire"),
+            At::CrashTrapped { trapped, .. } if trapped.is_empty() => met!("mark at CrashTrapped, the last"),
+            At::CrashTrapped { .. } => met!("mark at CrashTrapped, more to retire"),
             _ => met!("mark at Ready"),
         }
         true
@@ -96,7 +96,7 @@ impl Pool {
             At::Settle { c, step } => self.settle(c, step),
             At::Crash { c } => self.crash(c),
             At::AskTrap { c } => At::Trap { c },
-            At::Doomed { c, doomed } => self.retire_doomed(c, doomed),
+            At::CrashTrapped { c, trapped } => self.crash_trapped(c, trapped),
             other => unreachable!("{other:?}"),
         })
     }
@@ -217,23 +217,23 @@ impl Pool {
                 met!("Trap: no");
                 At::Ready { g: c.g, now: c.now, pops: c.pops }
             }
-            (At::Trapped { c, mut ask, mut doomed }, reply) => {
+            (At::Trapped { c, mut ask, mut trapped }, reply) => {
                 let key = ask.pop_front().unwrap();
                 if *reply == Reply::Yes {
                     met!("Trapped: yes");
-                    doomed.push_back(key);
+                    trapped.push_back(key);
                 } else {
                     met!("Trapped: no");
                 }
-                next_trapped(c, ask, doomed)
+                next_trapped(c, ask, trapped)
             }
             (at, reply) => unreachable!("{at:?} {reply:?}"),
         }
     }
 }
 
-fn next_trapped(c: super::Cursor, ask: VecDeque<Key>, doomed: VecDeque<Key>) -> At {
-    if ask.is_empty() { At::Doomed { c, doomed } } else { At::Trapped { c, ask, doomed } }
+fn next_trapped(c: super::Cursor, ask: VecDeque<Key>, trapped: VecDeque<Key>) -> At {
+    if ask.is_empty() { At::CrashTrapped { c, trapped } } else { At::Trapped { c, ask, trapped } }
 }
 
 fn met_told(outcome: Outcome) {

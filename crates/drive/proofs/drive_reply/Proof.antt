@@ -1,5 +1,5 @@
 -- `drive_reply` meets its contract: the reply, then what it says. Assumes nothing.
-use mathlib.Core.Path.{ap, _∙_}
+use mathlib.Core.Path.{ap}
 use Rattle.drive.specs.Drive.{driven}
 use borrow.Author.Needs.{needs}
 use Rattle.drive.proofs.drive_reply.Statement.{statement}
@@ -17,15 +17,15 @@ slice-aggregate-reply-2 c = search needs
 reply-requires : tie.Need-reply-requires
 reply-requires c κs = search needs
 
-say-requires : tie.Need-say-requires
-say-requires c κs = search needs
+show-requires : tie.Need-show-requires
+show-requires c κs = search needs
 
 same-length : tie.Need-same-length
 same-length c = search needs
 
 returns : tie.Need-returns
 returns c =
-    let e1 = c .say .ensures in
+    let e1 = c .show .ensures in
     let e2 = simp (c .before .before .before .before .before .before .before .before .before .before .before .before .before .before .before .before .before .before .before .before .reply-in .ensures) at (c .before .before .before .before .before .before .before .before .reply .ensures) in
     simp (e1) (ap driven e2)
 
@@ -37,6 +37,6 @@ drive-reply-spec =
     slice-aggregate-reply
     slice-aggregate-reply-2
     reply-requires
-    say-requires
+    show-requires
     same-length
     returns)

@@ -9,8 +9,8 @@ use Rattle.lists.proofs.join_end.Tie as tie
 link-at-requires : tie.Need-link-at-requires
 link-at-requires c κs = search needs
 
-sum-requires : tie.Need-sum-requires
-sum-requires c κs = search needs
+saturating-add-requires : tie.Need-saturating-add-requires
+saturating-add-requires c κs = search needs
 
 set-ends-requires : tie.Need-set-ends-requires
 set-ends-requires c κs = search needs
@@ -28,7 +28,7 @@ returns : tie.Need-returns
 unfolding joinEnd
 returns c =
     let e1 = c .before .before .before .before .before .link-at .ensures in
-    let e2 = c .before .before .before .before .sum .ensures in
+    let e2 = c .before .before .before .before .saturating-add .ensures in
     let h1 = simp (e1, e2) at (eq-eqb _ _ (c .before .before .before .if1 .taken)) in
     let e3 = c .before .set-ends .ensures in
     simp (e1, e2, e3, h1)
@@ -40,7 +40,7 @@ returns-2 : tie.Need-returns-2
 unfolding joinEnd
 returns-2 c =
     let e1 = c .before .before .before .before .before .before .before .before .link-at .ensures in
-    let e2 = c .before .before .before .before .before .before .before .sum .ensures in
+    let e2 = c .before .before .before .before .before .before .before .saturating-add .ensures in
     let h1 = simp (e1, e2) at (ne-eqb _ _ (c .before .before .before .before .before .before .if1 .left)) in
     let e3 = c .before .before .before .before .set-next .ensures in
     let e4 = c .before .set-ends2 .ensures in
@@ -51,7 +51,7 @@ join-end-spec =
     tie.close
     (tie.spec
     link-at-requires
-    sum-requires
+    saturating-add-requires
     set-ends-requires
     set-next-requires
     set-ends-requires-2

@@ -11,8 +11,8 @@ link-at-requires c κs = search needs
 link-at-requires-2 : tie.Need-link-at-requires-2
 link-at-requires-2 c κs = search needs
 
-less-requires : tie.Need-less-requires
-less-requires c κs = search needs
+saturating-sub-requires : tie.Need-saturating-sub-requires
+saturating-sub-requires c κs = search needs
 
 set-ends-requires : tie.Need-set-ends-requires
 set-ends-requires c κs = search needs
@@ -25,7 +25,7 @@ unfolding leaveOf
 returns c =
     let e1 = c .before .before .before .before .before .before .link-at .ensures in
     let e2 = c .before .before .before .before .link-at2 .ensures in
-    let e3 = c .before .before .before .less .ensures in
+    let e3 = c .before .before .before .saturating-sub .ensures in
     let e4 = c .before .set-ends .ensures in
     simp (e1, e2, e3, e4)
 
@@ -35,7 +35,7 @@ leave-spec =
     (tie.spec
     link-at-requires
     link-at-requires-2
-    less-requires
+    saturating-sub-requires
     set-ends-requires
     same-length
     returns)

@@ -3,7 +3,6 @@ use mathlib.Core.Path.{sym, ap, _∙_}
 use mathlib.Core.List.{[]}
 use lib.ListN.{List·getD-eq-default}
 use Rattle.lists.specs.Links.{linkOf, linkAt}
-use borrow.Author.Tests.{le-ltb, lt-ltb}
 use borrow.Author.Needs.{needs}
 use Rattle.lists.proofs.link_at.Statement.{statement}
 use Rattle.lists.proofs.link_at.Tie as tie

@@ -1,7 +1,6 @@
 -- `set_ends` meets its contract: a store past the end of a table changes nothing. Assumes nothing.
 use mathlib.Core.Path.{sym}
 use lib.Seq.{set-out}
-use borrow.Author.Tests.{le-ltb, lt-ltb}
 use Rattle.lists.specs.Links.{setEnds}
 use borrow.Author.Needs.{needs}
 use Rattle.lists.proofs.set_ends.Statement.{statement}

@@ -1,7 +1,6 @@
 -- `set_next` meets its contract: a store past the end of a table changes nothing. Assumes nothing.
 use mathlib.Core.Path.{sym}
 use lib.Seq.{set-out}
-use borrow.Author.Tests.{le-ltb, lt-ltb}
 use Rattle.lists.specs.Links.{setNext}
 use borrow.Author.Needs.{needs}
 use Rattle.lists.proofs.set_next.Statement.{statement}

@@ -1,5 +1,5 @@
--- `lists::start` meets its contract. The loop's invariant: the rows below `i` are those of the start. The measure is what is left. Assumes nothing.
-use mathlib.Core.Path.{_≡_, refl, _∙_}
+-- `keys::start` meets its contract. The loop's invariant: the rows below `i` are those of the start. The measure is what is left. Assumes nothing.
+use mathlib.Core.Path.{_≡_, refl}
 use Prim.Native.Nat.{_≤_, _-_}
 use native.Mathlib.Omega.{arith}
 use borrow.Author.Needs.{needs}

@@ -37,11 +37,11 @@ play-requires c κs = (refl, refl, refl, refl, refl, refl, refl)
 sub-t16 : tie.Need-sub-t16
 sub-t16 c = count-room _ _ _ _ (c .before .before .before .before .before .before .before .before .before .before .before .before .before .play .ensures)
 
-slice-aggregate-pour-numbers : tie.Need-slice-aggregate-pour-numbers
-slice-aggregate-pour-numbers c = search needs
+slice-aggregate-output-numbers : tie.Need-slice-aggregate-output-numbers
+slice-aggregate-output-numbers c = search needs
 
-pour-numbers-requires : tie.Need-pour-numbers-requires
-pour-numbers-requires c κs = search needs
+output-numbers-requires : tie.Need-output-numbers-requires
+output-numbers-requires c κs = search needs
 
 same-length : tie.Need-same-length
 same-length c = search needs
@@ -56,8 +56,8 @@ returns-2 : tie.Need-returns-2
 returns-2 c =
     let if1 = c .before .before .before .before .before .before .before .before .before .before .before .before .before .before .before .before .before .before .before .before .before .before .before .before .before .before .before .before .before .before .if1 in
     let play = c .before .before .before .before .before .before .before .before .before .before .before .before .before .before .before .before .before .before .play in
-    let pour-numbers = c .before .before .pour-numbers in
-    replay-whole _ _ _ _ (play .ensures) (if1 .left) (pour-numbers .ensures)
+    let output-numbers = c .before .before .output-numbers in
+    replay-whole _ _ _ _ (play .ensures) (if1 .left) (output-numbers .ensures)
 
 pub replay-spec : {M : Type 1} → statement M
 replay-spec =
@@ -73,8 +73,8 @@ replay-spec =
     slice-aggregate-play-7
     play-requires
     sub-t16
-    slice-aggregate-pour-numbers
-    pour-numbers-requires
+    slice-aggregate-output-numbers
+    output-numbers-requires
     same-length
     same-length-2
     same-length-3

@@ -1,4 +1,4 @@
--- `roster::idle_key` meets its contract: by whether the actor is there. Assumes nothing.
+-- `roster::idle_key` meets its contract: by its calls and its tests. Assumes nothing.
 use Rattle.group.specs.Roster.{idleKey}
 use borrow.Author.Needs.{needs}
 use Rattle.group.proofs.roster.idle_key.Statement.{statement}
@@ -10,8 +10,8 @@ live-requires c κs = search needs
 slot-at-requires : tie.Need-slot-at-requires
 slot-at-requires c κs = search needs
 
-actor-at-requires : tie.Need-actor-at-requires
-actor-at-requires c κs = search needs
+is-idle-requires : tie.Need-is-idle-requires
+is-idle-requires c κs = search needs
 
 returns : tie.Need-returns
 unfolding idleKey
@@ -19,7 +19,7 @@ returns c =
     let e1 = c .before .before .before .live .ensures in
     let h1 = simp (e1) at (c .before .before .if1 .taken) in
     let e2 = c .before .slot-at .ensures in
-    let e3 = c .actor-at .ensures in
+    let e3 = c .is-idle .ensures in
     simp (e2, e3, h1)
 
 returns-2 : tie.Need-returns-2
@@ -31,4 +31,4 @@ returns-2 c =
 
 pub idle-key-spec : {M : Type 1} → statement M
 idle-key-spec =
-    tie.close (tie.spec live-requires slot-at-requires actor-at-requires returns returns-2)
+    tie.close (tie.spec live-requires slot-at-requires is-idle-requires returns returns-2)

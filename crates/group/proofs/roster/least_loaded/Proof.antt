@@ -4,7 +4,7 @@ use mathlib.Core.Path.{_≡_, refl, sym, _∙_}
 use mathlib.Core.Logic.{⊎-elim}
 use Prim.Native.Nat.{_-_}
 use native.Mathlib.Omega.{arith}
-use Rattle.lists.specs.declared.keys.Key.the-variants as keys
+use Rattle.lists.specs.declared.keys.Key.the-variants as found
 use Rattle.lists.specs.KeyLists.{keysAt}
 use Rattle.group.specs.Roster.{leastFrom, leastOf}
 use Rattle.group.proofs.Loops.{least-more, least-end}
@@ -14,10 +14,10 @@ use Rattle.group.proofs.roster.least_loaded.Tie as tie
 use Rattle.group.specs.Roster.{betterOf}
 
 abbrev Inv-loop : tie.InvT-loop
-Inv-loop lists links g row best₀ key₀ best key = leastFrom (keysAt lists row) (betterOf links g) 16 0 keys.Nothing ≡ leastFrom (keysAt lists row) (betterOf links g) (16 - key) key best
+Inv-loop keys links g row best₀ key₀ best key = leastFrom (keysAt keys row) (betterOf links g) 16 0 found.Nothing ≡ leastFrom (keysAt keys row) (betterOf links g) (16 - key) key best
 
 abbrev μ-loop : tie.MeasureT-loop
-μ-loop lists links g row best₀ key₀ best key = 16 - key
+μ-loop keys links g row best₀ key₀ best key = 16 - key
 
 slab-row-requires : tie.Need-slab-row-requires Inv-loop μ-loop
 slab-row-requires c κs = search needs

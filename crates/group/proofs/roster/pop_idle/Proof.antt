@@ -10,10 +10,10 @@ use Rattle.group.proofs.roster.pop_idle.Statement.{statement}
 use Rattle.group.proofs.roster.pop_idle.Tie as tie
 
 abbrev Inv-loop : tie.InvT-loop
-Inv-loop lists₀ actors g row n₀ lists n = Taken lists₀ lists row n × Left lists₀ lists actors g row n
+Inv-loop keys₀ actors g row n₀ keys n = Taken keys₀ keys row n × Left keys₀ keys actors g row n
 
 abbrev μ-loop : tie.MeasureT-loop
-μ-loop lists₀ actors g row n₀ lists n = n
+μ-loop keys₀ actors g row n₀ keys n = n
 
 idle-row-requires : tie.Need-idle-row-requires Inv-loop μ-loop
 idle-row-requires c κs = search needs
@@ -48,7 +48,7 @@ returns : tie.Need-returns Inv-loop μ-loop
 returns c =
     let l = c .before .before .before .before .before .before .before .before .before .before .before .before .loop in
     let came = sym (c .before .before .before .before .before .before .before .before .before .last-at .ensures) ∙ c .before .before .before .before .came .given .1 in
-    idle-found _ (l .lists) _ _ _ _ (l .n) (c .before .before .before .before .before .before .before .before .before .before .before .before .before .before .before .idle-row .ensures) (l .inv .0) (l .inv .1) (c .before .before .before .before .before .before .before .before .before .before .before .loop-test .taken)
+    idle-found _ (l .keys) _ _ _ _ (l .n) (c .before .before .before .before .before .before .before .before .before .before .before .before .before .before .before .idle-row .ensures) (l .inv .0) (l .inv .1) (c .before .before .before .before .before .before .before .before .before .before .before .loop-test .taken)
     (c .before .before .before .before .before .before .before .pop-end-at .ensures) _ came (sym (c .before .idle-key .ensures) ∙ c .if1 .taken)
 
 loop-less : tie.Need-loop-less Inv-loop μ-loop
@@ -58,7 +58,7 @@ loop-again : tie.Need-loop-again Inv-loop μ-loop
 loop-again c =
     let l = c .before .before .before .before .before .before .before .before .before .before .before .before .loop in
     let came = sym (c .before .before .before .before .before .before .before .before .before .last-at .ensures) ∙ c .before .before .before .before .came .given .1 in
-    idle-passed _ (l .lists) _ _ _ _ (l .n) (c .before .before .before .before .before .before .before .before .before .before .before .before .before .before .before .idle-row .ensures) (l .inv .0) (l .inv .1) (c .before .before .before .before .before .before .before .before .before .before .before .loop-test .taken)
+    idle-passed _ (l .keys) _ _ _ _ (l .n) (c .before .before .before .before .before .before .before .before .before .before .before .before .before .before .before .idle-row .ensures) (l .inv .0) (l .inv .1) (c .before .before .before .before .before .before .before .before .before .before .before .loop-test .taken)
     (c .before .before .before .before .before .before .before .pop-end-at .ensures) _ came (sym (c .before .idle-key .ensures) ∙ c .if1 .left)
 
 enum-told : tie.Need-enum-told Inv-loop μ-loop
@@ -71,7 +71,7 @@ loop-again-2 : tie.Need-loop-again-2 Inv-loop μ-loop
 loop-again-2 c =
     let l = c .before .before .before .before .before .before .before .before .loop in
     let came = sym (c .before .before .before .before .before .last-at .ensures) ∙ c .enum-told .given .1 in
-    idle-blank _ (l .lists) _ _ _ _ (l .n) (c .before .before .before .before .before .before .before .before .before .before .before .idle-row .ensures) (l .inv .0) (l .inv .1) (c .before .before .before .before .before .before .before .loop-test .taken)
+    idle-blank _ (l .keys) _ _ _ _ (l .n) (c .before .before .before .before .before .before .before .before .before .before .before .idle-row .ensures) (l .inv .0) (l .inv .1) (c .before .before .before .before .before .before .before .loop-test .taken)
     (c .before .before .before .pop-end-at .ensures) came
 
 same-length-2 : tie.Need-same-length-2 Inv-loop μ-loop
@@ -80,7 +80,7 @@ same-length-2 c = ap length (c .before .loop .inv .0 .0) ∙ simp length-set
 returns-2 : tie.Need-returns-2 Inv-loop μ-loop
 returns-2 c =
     let l = c .before .loop in
-    idle-none _ (l .lists) _ _ _ (l .n) (c .before .before .before .before .idle-row .ensures) (l .inv .0) (l .inv .1) (c .loop-test .left)
+    idle-none _ (l .keys) _ _ _ (l .n) (c .before .before .before .before .idle-row .ensures) (l .inv .0) (l .inv .1) (c .loop-test .left)
 
 pub pop-idle-spec : {M : Type 1} → statement M
 pop-idle-spec =

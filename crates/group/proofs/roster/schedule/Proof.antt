@@ -1,8 +1,5 @@
--- `roster::schedule` meets its contract: an actor that is not there, or is queued already, changes nothing. Assumes
--- nothing.
-use mathlib.Core.Path.{ap₂, sym, _∙_}
+-- `roster::schedule` meets its contract: by its calls and its tests. Assumes nothing.
 use Rattle.group.specs.Roster.{scheduleOf}
-use Rattle.group.proofs.Keyed.{keyed, schedule-new}
 use borrow.Author.Needs.{needs}
 use Rattle.group.proofs.roster.schedule.Statement.{statement}
 use Rattle.group.proofs.roster.schedule.Tie as tie
@@ -13,8 +10,8 @@ live-requires c κs = search needs
 slot-at-requires : tie.Need-slot-at-requires
 slot-at-requires c κs = search needs
 
-actor-at-requires : tie.Need-actor-at-requires
-actor-at-requires c κs = search needs
+is-scheduled-requires : tie.Need-is-scheduled-requires
+is-scheduled-requires c κs = search needs
 
 same-length : tie.Need-same-length
 same-length c = search needs
@@ -28,7 +25,7 @@ returns c =
     let e1 = c .before .before .before .before .before .live .ensures in
     let h1 = simp (e1) at (c .before .before .before .before .if1 .taken) in
     let e2 = c .before .before .before .slot-at .ensures in
-    let e3 = c .before .actor-at .ensures in
+    let e3 = c .before .is-scheduled .ensures in
     let h2 = simp (e2, e3) at (c .if2 .taken) in
     simp (h1, h2)
 
@@ -48,13 +45,17 @@ same-length-4 : tie.Need-same-length-4
 same-length-4 c = search needs
 
 returns-2 : tie.Need-returns-2
+unfolding scheduleOf
 returns-2 c =
-    let h1 = simp (c .before .before .before .before .before .before .before .before .before .before .before .before .live .ensures) at (c .before .before .before .before .before .before .before .before .before .before .before .if1 .taken) in
-    let e1 = c .before .before .before .before .before .before .before .before .before .before .slot-at .ensures in
-    let h2 = simp (e1, c .before .before .before .before .before .before .before .before .actor-at .ensures) at (c .before .before .before .before .before .before .before .if2 .left) in
-    let keys = simp (c .before .before .before .ready-row .ensures) at (c .before .push-key .ensures) in
-    let actors = simp e1 at (c .before .before .before .before .before .scheduled-at .ensures) in
-    ap₂ keyed keys actors ∙ sym (schedule-new _ _ _ _ h1 h2)
+    let e1 = c .before .before .before .before .before .before .before .before .before .before .before .before .live .ensures in
+    let h1 = simp (e1) at (c .before .before .before .before .before .before .before .before .before .before .before .if1 .taken) in
+    let e2 = c .before .before .before .before .before .before .before .before .before .before .slot-at .ensures in
+    let e3 = c .before .before .before .before .before .before .before .before .is-scheduled .ensures in
+    let h2 = simp (e2, e3) at (c .before .before .before .before .before .before .before .if2 .left) in
+    let e4 = c .before .before .before .before .before .scheduled-at .ensures in
+    let e5 = c .before .before .before .ready-row .ensures in
+    let e6 = c .before .push-key .ensures in
+    simp (e2, e4, e5, e6, h1, h2)
 
 same-length-5 : tie.Need-same-length-5
 same-length-5 c = search needs
@@ -72,7 +73,7 @@ schedule-spec =
     (tie.spec
     live-requires
     slot-at-requires
-    actor-at-requires
+    is-scheduled-requires
     same-length
     same-length-2
     returns

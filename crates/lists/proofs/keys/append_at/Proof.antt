@@ -21,29 +21,29 @@ index-2-n c = search needs
 cast-at : tie.Need-cast-at
 cast-at c = search needs
 
-add-lists : tie.Need-add-lists
-add-lists c = search needs
+add-keys : tie.Need-add-keys
+add-keys c = search needs
 
-mul-lists : tie.Need-mul-lists
-mul-lists c = search needs
+mul-keys : tie.Need-mul-keys
+mul-keys c = search needs
 
-index-1-lists : tie.Need-index-1-lists
-index-1-lists c = search needs
+index-1-keys : tie.Need-index-1-keys
+index-1-keys c = search needs
 
-index-2-lists : tie.Need-index-2-lists
-index-2-lists c = search needs
+index-2-keys : tie.Need-index-2-keys
+index-2-keys c = search needs
 
-add-lists-2 : tie.Need-add-lists-2
-add-lists-2 c = search needs
+add-keys-2 : tie.Need-add-keys-2
+add-keys-2 c = search needs
 
-mul-lists-2 : tie.Need-mul-lists-2
-mul-lists-2 c = search needs
+mul-keys-2 : tie.Need-mul-keys-2
+mul-keys-2 c = search needs
 
-index-1-lists-2 : tie.Need-index-1-lists-2
-index-1-lists-2 c = search needs
+index-1-keys-2 : tie.Need-index-1-keys-2
+index-1-keys-2 c = search needs
 
-index-2-lists-2 : tie.Need-index-2-lists-2
-index-2-lists-2 c = search needs
+index-2-keys-2 : tie.Need-index-2-keys-2
+index-2-keys-2 c = search needs
 
 same-length : tie.Need-same-length
 same-length c = search needs
@@ -52,19 +52,19 @@ returns : tie.Need-returns
 unfolding appendOf
 returns c =
     let inside = c .before .before .if1 .taken in
-    let row = row-in (c .before .before .before .args .lists .now) (c .before .before .before .args .i) inside in
+    let row = row-in (c .before .before .before .args .keys .now) (c .before .before .before .args .i) inside in
     let h1 = lt-ltb _ _ (rw row at (c .if2 .taken)) in
-    again (c .before .before .before .args .lists .now) (c .before .before .before .args .i) _ 0 _ inside ∙ simp (row, h1)
+    again (c .before .before .before .args .keys .now) (c .before .before .before .args .i) _ 0 _ inside ∙ simp (row, h1)
 
 returns-2 : tie.Need-returns-2
 unfolding appendOf
 returns-2 c =
-    let row = row-in (c .before .before .before .args .lists .now) (c .before .before .before .args .i) (c .before .before .if1 .taken) in
+    let row = row-in (c .before .before .before .args .keys .now) (c .before .before .before .args .i) (c .before .before .if1 .taken) in
     let h1 = le-ltb _ _ (rw row at (c .if2 .left)) in
-    rw h1 (sym (set-getD (c .before .before .before .args .lists .now) (c .before .before .before .args .i) blankRow))
+    rw h1 (sym (set-getD (c .before .before .before .args .keys .now) (c .before .before .before .args .i) blankRow))
 
 returns-3 : tie.Need-returns-3
-returns-3 c = kept-out (c .before .args .lists .now) (c .before .args .i) _ (c .if1 .left)
+returns-3 c = kept-out (c .before .args .keys .now) (c .before .args .i) _ (c .if1 .left)
 
 pub append-at-spec : {M : Type 1} → statement M
 append-at-spec =
@@ -74,14 +74,14 @@ append-at-spec =
     index-1-n
     index-2-n
     cast-at
-    add-lists
-    mul-lists
-    index-1-lists
-    index-2-lists
-    add-lists-2
-    mul-lists-2
-    index-1-lists-2
-    index-2-lists-2
+    add-keys
+    mul-keys
+    index-1-keys
+    index-2-keys
+    add-keys-2
+    mul-keys-2
+    index-1-keys-2
+    index-2-keys-2
     same-length
     returns
     returns-2

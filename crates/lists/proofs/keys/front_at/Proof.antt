@@ -17,7 +17,7 @@ index-2-n c = search needs
 
 returns : tie.Need-returns
 returns c =
-    let row = row-in (c .before .before .before .args .lists .now) (c .before .before .before .args .i) (c .before .before .if1 .taken) in
+    let row = row-in (c .before .before .before .args .keys .now) (c .before .before .before .args .i) (c .before .before .if1 .taken) in
     let h1 = eq-eqb _ _ (rw row at (c .if2 .taken)) in
     rw h1
 
@@ -32,12 +32,12 @@ index-2-t10 c = search needs
 
 returns-2 : tie.Need-returns-2
 returns-2 c =
-    let row = row-in (c .before .before .before .before .args .lists .now) (c .before .before .before .before .args .i) (c .before .before .before .if1 .taken) in
+    let row = row-in (c .before .before .before .before .args .keys .now) (c .before .before .before .before .args .i) (c .before .before .before .if1 .taken) in
     let h1 = ne-eqb _ _ (rw row at (c .before .if2 .left)) in
     rw (row, h1)
 
 returns-3 : tie.Need-returns-3
-returns-3 c = rw (row-out (c .before .args .lists .now) (c .before .args .i) (c .if1 .left))
+returns-3 c = rw (row-out (c .before .args .keys .now) (c .before .args .i) (c .if1 .left))
 
 pub front-at-spec : {M : Type 1} → statement M
 front-at-spec =

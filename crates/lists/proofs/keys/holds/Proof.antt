@@ -1,6 +1,6 @@
 -- `keys::holds` meets its contract. The loop's invariant: the key stands among the cells from `i` on where it stands in
 -- the row. The measure is what is left. Assumes nothing.
-use mathlib.Core.Path.{_≡_, refl, sym, _∙_}
+use mathlib.Core.Path.{_≡_, sym, _∙_}
 use Prim.Native.Nat.{_≤_, _-_}
 use native.Mathlib.Omega.{arith}
 use borrow.Author.Needs.{needs}

@@ -17,11 +17,11 @@ holds-requires : tie.Need-holds-requires
 holds-requires c κs = search needs
 
 returns : tie.Need-returns
-returns c = c .holds .ensures ∙ rw (row-in (c .before .before .before .before .args .lists .now) (c .before .before .before .before .args .i) (c .before .before .before .if1 .taken))
+returns c = c .holds .ensures ∙ rw (row-in (c .before .before .before .before .args .keys .now) (c .before .before .before .before .args .i) (c .before .before .before .if1 .taken))
 
 returns-2 : tie.Need-returns-2
 unfolding holdsOf elem
-returns-2 c = rw (row-out (c .before .args .lists .now) (c .before .args .i) (c .if1 .left))
+returns-2 c = rw (row-out (c .before .args .keys .now) (c .before .args .i) (c .if1 .left))
 
 pub holds-at-spec : {M : Type 1} → statement M
 holds-at-spec =

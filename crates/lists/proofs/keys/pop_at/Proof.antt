@@ -21,9 +21,9 @@ index-2-n c = search needs
 returns : tie.Need-returns
 unfolding popFront
 returns c =
-    let row = row-in (c .before .before .before .args .lists .now) (c .before .before .before .args .i) (c .before .before .if1 .taken) in
+    let row = row-in (c .before .before .before .args .keys .now) (c .before .before .before .args .i) (c .before .before .if1 .taken) in
     let h1 = eq-eqb _ _ (rw row at (c .if2 .taken)) in
-    rw h1 (sym (set-getD (c .before .before .before .args .lists .now) (c .before .before .before .args .i) blankRow))
+    rw h1 (sym (set-getD (c .before .before .before .args .keys .now) (c .before .before .before .args .i) blankRow))
 
 mul-shift : tie.Need-mul-shift
 mul-shift c = search needs
@@ -34,17 +34,17 @@ index-1-shift c = search needs
 shift-requires : tie.Need-shift-requires
 shift-requires c κs = search needs
 
-sub-lists : tie.Need-sub-lists
-sub-lists c = search needs
+sub-keys : tie.Need-sub-keys
+sub-keys c = search needs
 
-mul-lists : tie.Need-mul-lists
-mul-lists c = search needs
+mul-keys : tie.Need-mul-keys
+mul-keys c = search needs
 
-index-1-lists : tie.Need-index-1-lists
-index-1-lists c = search needs
+index-1-keys : tie.Need-index-1-keys
+index-1-keys c = search needs
 
-index-2-lists : tie.Need-index-2-lists
-index-2-lists c = search needs
+index-2-keys : tie.Need-index-2-keys
+index-2-keys c = search needs
 
 same-length : tie.Need-same-length
 same-length c = search needs
@@ -53,13 +53,13 @@ returns-2 : tie.Need-returns-2
 unfolding popFront
 returns-2 c =
     let inside = c .before .before .before .before .if1 .taken in
-    let row = row-in (c .before .before .before .before .before .args .lists .now) (c .before .before .before .before .before .args .i) inside in
+    let row = row-in (c .before .before .before .before .before .args .keys .now) (c .before .before .before .before .before .args .i) inside in
     let h1 = ne-eqb _ _ (rw row at (c .before .before .if2 .left)) in
     let e1 = c .shift .ensures in
-    again (c .before .before .before .before .before .args .lists .now) (c .before .before .before .before .before .args .i) _ 0 _ inside ∙ simp (e1, row, h1)
+    again (c .before .before .before .before .before .args .keys .now) (c .before .before .before .before .before .args .i) _ 0 _ inside ∙ simp (e1, row, h1)
 
 returns-3 : tie.Need-returns-3
-returns-3 c = kept-out (c .before .args .lists .now) (c .before .args .i) _ (c .if1 .left)
+returns-3 c = kept-out (c .before .args .keys .now) (c .before .args .i) _ (c .if1 .left)
 
 pub pop-at-spec : {M : Type 1} → statement M
 pop-at-spec =
@@ -72,10 +72,10 @@ pop-at-spec =
     mul-shift
     index-1-shift
     shift-requires
-    sub-lists
-    mul-lists
-    index-1-lists
-    index-2-lists
+    sub-keys
+    mul-keys
+    index-1-keys
+    index-2-keys
     same-length
     returns-2
     returns-3)

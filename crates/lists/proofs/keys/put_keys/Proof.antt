@@ -5,11 +5,11 @@ use borrow.Author.Needs.{needs}
 use Rattle.lists.proofs.keys.put_keys.Statement.{statement}
 use Rattle.lists.proofs.keys.put_keys.Tie as tie
 
-mul-keys : tie.Need-mul-keys
-mul-keys c = search needs
+mul-row : tie.Need-mul-row
+mul-row c = search needs
 
-slice-set-from-keys : tie.Need-slice-set-from-keys
-slice-set-from-keys c = search needs
+slice-set-from-row : tie.Need-slice-set-from-row
+slice-set-from-row c = search needs
 
 same-length : tie.Need-same-length
 same-length c = search needs
@@ -18,7 +18,7 @@ returns : tie.Need-returns
 returns c = search needs
 
 returns-2 : tie.Need-returns-2
-returns-2 c = sym (set-out (c .before .args .lists .now) (c .before .args .i) (c .before .args .keys) (c .if1 .left))
+returns-2 c = sym (set-out (c .before .args .keys .now) (c .before .args .i) (c .before .args .row) (c .if1 .left))
 
 pub put-keys-spec : {M : Type 1} → statement M
-put-keys-spec = tie.close (tie.spec mul-keys slice-set-from-keys same-length returns returns-2)
+put-keys-spec = tie.close (tie.spec mul-row slice-set-from-row same-length returns returns-2)

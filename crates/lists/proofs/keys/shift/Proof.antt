@@ -1,7 +1,7 @@
 -- `keys::shift` meets its contract: moving the first key behind the others gives the same from every turn's row. The
 -- measure is what is left. Assumes nothing.
 use mathlib.Core.Path.{_≡_, refl, sym, _∙_}
-use Prim.Native.Nat.{_<_, _-_, _+_}
+use Prim.Native.Nat.{_<_, _-_}
 use native.Mathlib.Omega.{arith}
 use borrow.Author.Needs.{needs}
 use lib.ListN.{length, length-set}

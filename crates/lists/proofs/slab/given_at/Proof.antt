@@ -15,10 +15,10 @@ index-2-result : tie.Need-index-2-result
 index-2-result c = search needs
 
 returns : tie.Need-returns
-returns c = rw (row-in (c .before .before .args .lists .now) (c .before .before .args .i) (c .before .if1 .taken))
+returns c = rw (row-in (c .before .before .args .keys .now) (c .before .before .args .i) (c .before .if1 .taken))
 
 returns-2 : tie.Need-returns-2
-returns-2 c = rw (row-out (c .before .args .lists .now) (c .before .args .i) (c .if1 .left))
+returns-2 c = rw (row-out (c .before .args .keys .now) (c .before .args .i) (c .if1 .left))
 
 pub given-at-spec : {M : Type 1} → statement M
 given-at-spec = tie.close (tie.spec mul-result index-1-result index-2-result returns returns-2)

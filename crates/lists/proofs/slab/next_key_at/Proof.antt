@@ -11,10 +11,10 @@ use Rattle.lists.proofs.slab.next_key_at.Statement.{statement}
 use Rattle.lists.proofs.slab.next_key_at.Tie as tie
 
 abbrev Inv-loop : tie.InvT-loop
-Inv-loop lists i from key₀ key = nextKey (keysAt lists i) (16 - from) from ≡ nextKey (keysAt lists i) (16 - key) key
+Inv-loop keys i from key₀ key = nextKey (keysAt keys i) (16 - from) from ≡ nextKey (keysAt keys i) (16 - key) key
 
 abbrev μ-loop : tie.MeasureT-loop
-μ-loop lists i from key₀ key = 16 - key
+μ-loop keys i from key₀ key = 16 - key
 
 loop-holds : tie.Need-loop-holds Inv-loop μ-loop
 loop-holds c = refl

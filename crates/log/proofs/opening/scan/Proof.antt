@@ -52,24 +52,24 @@ use denote.Triple.Spec.{Meets, tripleOf}
 use denote.Triple.Table.{entered, cited}
 use denote.Triple.Walked.{says, needs, Stays, stay-slice, stay-none, stay-none-slice, walkOf, goes-slice, goes-none, goes-none-slice, Walks, ends-at, walked, walk-meets}
 use borrow.Within.Token.{Rest, within-token, within-end}
-use Rattle.lines.proofs.Local.{lends-local, local-back}
-use Rattle.lines.specs.Lines.{turnAt}
-use Rattle.lines.specs.declared.Lines.{Lines}
-use Rattle.lines.specs.declared.Turn.{Turn}
-use Rattle.lines.specs.declared.Line.{Line}
-use Rattle.lines.proofs.Lines as T
-use Rattle.lines.proofs.Lines.Laws as T′
-use Rattle.lines.proofs.Line as S
-use Rattle.lines.proofs.Line.Laws as S′
-use Rattle.lines.proofs.reader as reader
-use Rattle.lines.proofs.reader.Symbol as reader-def
-use Rattle.lines.proofs.reader.Symbol.{name as #reader}
-use Rattle.lines.proofs.reader.Met as reader-thm
-use Rattle.lines.proofs.next as next
-use Rattle.lines.proofs.next.Symbol as next-def
-use Rattle.lines.proofs.next.Symbol.{name as #next}
-use Rattle.lines.proofs.next.Met as next-thm
-use Rattle.log.specs.Scan.{begun, CanTake, TookTurn, Scanned}
+use Rattle.text.proofs.Local.{lends-local, local-back}
+use Rattle.text.specs.Lines.{nextAt}
+use Rattle.text.specs.declared.lines.Lines.{Lines}
+use Rattle.text.specs.declared.lines.NextLine.{NextLine}
+use Rattle.text.specs.declared.lines.Line.{Line}
+use Rattle.text.proofs.lines.Lines as T
+use Rattle.text.proofs.lines.Lines.Laws as T′
+use Rattle.text.proofs.lines.Line as S
+use Rattle.text.proofs.lines.Line.Laws as S′
+use Rattle.text.proofs.lines.reader as reader
+use Rattle.text.proofs.lines.reader.Symbol as reader-def
+use Rattle.text.proofs.lines.reader.Symbol.{name as #reader}
+use Rattle.text.proofs.lines.reader.Met as reader-thm
+use Rattle.text.proofs.lines.next as next
+use Rattle.text.proofs.lines.next.Symbol as next-def
+use Rattle.text.proofs.lines.next.Symbol.{name as #next}
+use Rattle.text.proofs.lines.next.Met as next-thm
+use Rattle.log.specs.Scan.{begun, CanTake, TookNextLine, Scanned}
 use Rattle.log.specs.declared.opening.Passing.{Passing}
 use Rattle.log.specs.declared.opening.Taken.{Taken}
 use Rattle.log.proofs.Again.{LentAgain, lends-again, comes-back}
@@ -317,7 +317,7 @@ module _ {M : Type 1} (𝓤 : URA M) (H : Heap 𝓤) (A : Atoms 𝓤) (W : Given
           calls-at ! fm (The-next 𝓤 H A at-mem run) known-next (to-next (t .at) a l4 δ) (and-then ! (load ! (from ! (stop !)) (look ! 10 refl)) (no-more !)) (λ u.
           use1 W (later (some (λ (l : Line). ((‵ (flft (a ∷ κ1) lq) ⊛ ‵ (flft κ1 rq) ⊛ ‵ ftrue) ⊛ ‵ (S.the-row .own l (u ∷ []))) ⊛ raw (ensured 𝓤 H A next.ended (next.clauses 𝓤 H A at-mem run) (a ∷ κ1, (κ1, tt)) (lent (t .at) l4 δ, tt) tt l)))) (id⊢ 𝓤 _) $ await ! tt $ pick ! (λ l. split ! $
           move ! (1 ∷ []) $
-          use1 W (some (λ (z : Lines × Unit {0}). ‵ (lasts next.ended (a ∷ κ1, (κ1, tt)) (lent (t .at) l4 δ, tt) z) ⊛ raw (fact 𝓤 ((_≡_ {A = Turn} (record { line = l; at = z .0 .at }) (turnAt (now s) (t .at))) × (z .0 .log ≡ s))))) (id⊢ 𝓤 _) $ pick ! (λ z. split ! $ move ! (1 ∷ []) $ heard ! ((_≡_ {A = Turn} (record { line = l; at = z .0 .at }) (turnAt (now s) (t .at))) × (z .0 .log ≡ s)) (λ e. fsplit ! $
+          use1 W (some (λ (z : Lines × Unit {0}). ‵ (lasts next.ended (a ∷ κ1, (κ1, tt)) (lent (t .at) l4 δ, tt) z) ⊛ raw (fact 𝓤 ((_≡_ {A = NextLine} (record { line = l; at = z .0 .at }) (nextAt (now s) (t .at))) × (z .0 .log ≡ s))))) (id⊢ 𝓤 _) $ pick ! (λ z. split ! $ move ! (1 ∷ []) $ heard ! ((_≡_ {A = NextLine} (record { line = l; at = z .0 .at }) (nextAt (now s) (t .at))) × (z .0 .log ≡ s)) (λ e. fsplit ! $
           move ! (2 ∷ []) $ split ! $
           move ! (1 ∷ []) $ peeks ! S.the-row (Is S.the-row) (shows 𝓤 H A S.the-row) l (u ∷ []) (λ isl. drop ! $ let told = EL.tells S.the-type S′.the-laws l (u ∷ []) isl in
           land ! (from ! (stop !)) (init ! 9 refl (EL.lawful S.the-type S′.the-laws 𝓤 H A W tt .typed l _ isl .0)) $ rewrite ! 9 (λ (y : Val). ‵ (fat fullShare S′.mir l6 0 y)) (ap only told) refl $
@@ -340,7 +340,7 @@ module _ {M : Type 1} (𝓤 : URA M) (H : Heap 𝓤) (A : Atoms 𝓤) (W : Given
           move ! (2 ∷ 5 ∷ 0 ∷ 8 ∷ []) $ group ! 4 $ use1 W (raw (The-take 𝓤 H A at-mem run .pre (to-take d γ₁ t l)) ⊛ ‵ Own) (goes-take d γ₁ t l ok isl′) $ split ! $
           calls-at-last ! fm (The-take 𝓤 H A at-mem run) known-take (to-take d γ₁ t l) (and-then ! (load ! (from ! (stop !)) (look ! 13 refl)) (and-then ! (load ! (from ! (stop !)) (look ! 16 refl)) (and-then ! (load ! (from ! (stop !)) (look ! 17 refl)) (and-then ! (load ! (from ! (stop !)) (look ! 7 refl)) (and-then ! (load ! (from ! (stop !)) (look ! 8 refl)) (no-more !)))))) (λ u′.
           use1 W (later (some (λ (r : Passing). ((‵ (flft (d ∷ []) fullShare) ⊛ ‵ (flft κ1 q1) ⊛ ‵ ftrue) ⊛ ‵ (P.the-row .own r (u′ ∷ []))) ⊛ raw (ensured 𝓤 H A take.ended (take.clauses 𝓤 H A at-mem run) (d ∷ [], (κ1, tt)) (taken-args γ₁ t l) tt r)))) (id⊢ 𝓤 _) $ await ! tt $ pick ! (λ r. split ! $ move ! (1 ∷ []) $
-          use1 W (some (λ (y : List (List ℕ) × (Unit {0} × (Unit {0} × (Unit {0} × (Unit {0} × Unit {0}))))). ‵ (lasts take.ended (d ∷ [], (κ1, tt)) (taken-args γ₁ t l) y) ⊛ raw (fact 𝓤 (TookTurn lo (now s) (t .ys) (t .p .taken) l r (y .0))))) (id⊢ 𝓤 _) $ pick ! (λ y. split ! $ move ! (1 ∷ []) $ heard ! (TookTurn lo (now s) (t .ys) (t .p .taken) l r (y .0)) (λ e′. fsplit ! $ fsplit ! $ move ! (1 ∷ []) $ feqL ! (λ len.
+          use1 W (some (λ (y : List (List ℕ) × (Unit {0} × (Unit {0} × (Unit {0} × (Unit {0} × Unit {0}))))). ‵ (lasts take.ended (d ∷ [], (κ1, tt)) (taken-args γ₁ t l) y) ⊛ raw (fact 𝓤 (TookNextLine lo (now s) (t .ys) (t .p .taken) l r (y .0))))) (id⊢ 𝓤 _) $ pick ! (λ y. split ! $ move ! (1 ∷ []) $ heard ! (TookNextLine lo (now s) (t .ys) (t .p .taken) l r (y .0)) (λ e′. fsplit ! $ fsplit ! $ move ! (1 ∷ []) $ feqL ! (λ len.
           move ! (2 ∷ []) $ split ! $ move ! (1 ∷ []) $
           peeks ! P.the-row (Is P.the-row) (shows 𝓤 H A P.the-row) r (u′ ∷ []) (λ isp. drop ! $ let toldp = LL.tells P.the-type P′.the-laws r (u′ ∷ []) isp in
           split ! $ lft-end ! tt $ move ! (1 ∷ []) $ split ! $
@@ -409,7 +409,7 @@ scan-spec 𝓤 H 𝓜 𝓖 𝓡 =
     entered 𝓤 H (tripleOf 𝓤 H (𝓖 .A) self.signature (self.spec 𝓤 H (𝓖 .A) (𝓜 .mem) (𝓡 .run)))
     (tables 𝓤 H 𝓜 𝓡 code.env .C) (tables 𝓤 H 𝓜 𝓡 code.env .Λ) #self code.function (code.unfolded 𝓤 H 𝓜 𝓡)
     (meets 𝓤 H (𝓖 .A) (givenOf 𝓤 H 𝓜 𝓖) (𝓜 .mem) (𝓡 .run) (tablesOf 𝓤 H 𝓜 (tables 𝓤 H 𝓜 𝓡 code.env))
-    (cited 𝓤 H (The-reader 𝓤 H (𝓖 .A) (𝓜 .mem) (𝓡 .run)) 𝓜 𝓡 code.env #reader reader-def.routine code.calls-lines·reader (reader-thm.met 𝓤 H 𝓜 𝓖 𝓡))
-    (cited 𝓤 H (The-next 𝓤 H (𝓖 .A) (𝓜 .mem) (𝓡 .run)) 𝓜 𝓡 code.env #next next-def.routine code.calls-lines·next (next-thm.met 𝓤 H 𝓜 𝓖 𝓡))
+    (cited 𝓤 H (The-reader 𝓤 H (𝓖 .A) (𝓜 .mem) (𝓡 .run)) 𝓜 𝓡 code.env #reader reader-def.routine code.calls-text·lines·reader (reader-thm.met 𝓤 H 𝓜 𝓖 𝓡))
+    (cited 𝓤 H (The-next 𝓤 H (𝓖 .A) (𝓜 .mem) (𝓡 .run)) 𝓜 𝓡 code.env #next next-def.routine code.calls-text·lines·next (next-thm.met 𝓤 H 𝓜 𝓖 𝓡))
     (cited 𝓤 H (The-begin 𝓤 H (𝓖 .A) (𝓜 .mem) (𝓡 .run)) 𝓜 𝓡 code.env #begin begin-def.routine code.calls-log·opening·begin (begin-thm.met 𝓤 H 𝓜 𝓖 𝓡))
     (cited 𝓤 H (The-take 𝓤 H (𝓖 .A) (𝓜 .mem) (𝓡 .run)) 𝓜 𝓡 code.env #take take-def.routine code.calls-log·opening·take-line (take-thm.met 𝓤 H 𝓜 𝓖 𝓡)))

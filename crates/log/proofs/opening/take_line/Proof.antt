@@ -4,24 +4,24 @@ use mathlib.Core.Bool.{false}
 use mathlib.Core.List.{List}
 use Prim.Native.Nat.{ℕ}
 use denote.Ref.{now}
-use Rattle.lines.specs.declared.Line.{Line}
-use Rattle.lines.specs.declared.Line.the-variants.{At, End}
+use Rattle.text.specs.declared.lines.Line.{Line}
+use Rattle.text.specs.declared.lines.Line.the-variants.{At, End}
 use Rattle.log.specs.declared.opening.Pass.{Pass}
 use Rattle.log.specs.declared.opening.Passing.{Passing}
 use Rattle.log.specs.declared.opening.Taken.{Taken}
 use Rattle.log.specs.declared.opening.Taken.the-variants.{Next, Over}
 use borrow.Author.Needs.{needs}
-use Rattle.log.specs.Scan.{CanTake, TookTurn}
+use Rattle.log.specs.Scan.{CanTake, TookNextLine}
 use Rattle.log.proofs.opening.take_line.Statement.{statement}
 use Rattle.log.proofs.opening.take_line.Tie as tie
 
 can-take : (lo : ℕ) (file : List ℕ) (rows : List (List ℕ)) (t : Taken) (l : Line) (p : Pass) (a e : ℕ) → t ≡ Next p → l ≡ At a e → CanTake lo file rows t l → CanTake lo file rows (Next p) (At a e)
 can-take lo file rows t l p a e et el k = subst (CanTake lo file rows (Next p)) el (subst (λ u. CanTake lo file rows u l) et k)
 
-took : (lo : ℕ) (file : List ℕ) (rows : List (List ℕ)) (t : Taken) (l : Line) (r : Passing) (rows' : List (List ℕ)) (t' : Taken) (l' : Line) → t ≡ t' → l ≡ l' → TookTurn lo file rows t' l' r rows' → TookTurn lo file rows t l r rows'
-took lo file rows t l r rows' t' l' et el k = subst (λ u. TookTurn lo file rows u l r rows') (sym et) (subst (λ u. TookTurn lo file rows t' u r rows') (sym el) k)
+took : (lo : ℕ) (file : List ℕ) (rows : List (List ℕ)) (t : Taken) (l : Line) (r : Passing) (rows' : List (List ℕ)) (t' : Taken) (l' : Line) → t ≡ t' → l ≡ l' → TookNextLine lo file rows t' l' r rows' → TookNextLine lo file rows t l r rows'
+took lo file rows t l r rows' t' l' et el k = subst (λ u. TookNextLine lo file rows u l r rows') (sym et) (subst (λ u. TookNextLine lo file rows t' u r rows') (sym el) k)
 
-took-none : (lo : ℕ) (file : List ℕ) (rows : List (List ℕ)) (l : Line) → TookTurn lo file rows Over l (record { taken = Over; on = false }) rows
+took-none : (lo : ℕ) (file : List ℕ) (rows : List (List ℕ)) (l : Line) → TookNextLine lo file rows Over l (record { taken = Over; on = false }) rows
 took-none lo file rows (At a e) = (refl, refl, refl)
 took-none lo file rows End = (refl, refl, refl)
 

@@ -45,11 +45,11 @@ use denote.Triple.Table.{entered, cited}
 use denote.Triple.Walked.{says, Stays, stay-ref, stay-none-slice, gave-slice, walkOf, goes-ref, goes-none-slice, goes-gave-slice, Walks, ends-at, walked, walk-meets}
 use Rattle.log.specs.Log.{DidAppend, state, appendOf}
 use Rattle.log.specs.declared.Counters.{Counters}
-use Rattle.log.specs.declared.Stepped.{Stepped}
+use Rattle.log.specs.declared.Answered.{Answered}
 use Rattle.log.proofs.Counters as T
 use Rattle.log.proofs.Counters.Laws as T′
-use Rattle.log.proofs.Stepped as S
-use Rattle.log.proofs.Stepped.Laws as S′
+use Rattle.log.proofs.Answered as S
+use Rattle.log.proofs.Answered.Laws as S′
 use Rattle.log.proofs.Answer as E
 use Rattle.log.proofs.Answer.Laws as E′
 use Rattle.log.proofs.wal.append_step as callee
@@ -68,7 +68,7 @@ R = T.the-row
 abbrev mach : Counters → Val
 mach h = only (LL.vals T.the-type T′.the-laws h)
 
-abbrev back : Stepped → Val
+abbrev back : Answered → Val
 back r = only (LL.vals S.the-type S′.the-laws r)
 
 abbrev stayed : Stays (self.ended .signature .params) (self.ended .kept)
@@ -126,7 +126,7 @@ module _ {M : Type 1} (𝓤 : URA M) (H : Heap 𝓤) (A : Atoms 𝓤) (W : Given
       qed W (‵ (owns (MutSlice (named 1) κ1 u8 ∷ MutSlice (named 2) κ2 (Array u64 3) ∷ ShrSlice (named 3) κ3 u8 ∷ ShrSlice (named 4) κ4 u8 ∷ []) rest rest-vals) ∷ (‵ (flft κ1 q1) ⊛ ‵ (flft κ2 q2) ⊛ ‵ (flft κ3 q3) ⊛ ‵ (flft κ4 q4) ⊛ ‵ ftrue) ∷ []) ∵
       fsplit ! $ move ! (1 ∷ []) $ fsplit ! $ move ! (1 ∷ []) $ fsplit ! $ use1 W (‵ Own3 ⊛ ‵ Own3) (shr-slice-copy 𝓤 H A W (named 3) κ3 u8 .twice x3 (s3 ∷ [])) $ split ! $ move ! (2 ∷ []) $ fsplit ! $ use1 W (‵ Own4 ⊛ ‵ Own4) (shr-slice-copy 𝓤 H A W (named 4) κ4 u8 .twice x4 (s4 ∷ [])) $ split ! $ move ! (0 ∷ 2 ∷ []) $ fjoin ! $ move ! (2 ∷ 0 ∷ []) $ fjoin ! $ move ! (3 ∷ 0 ∷ []) $ fjoin ! $ move ! (3 ∷ 0 ∷ []) $ fjoin ! $ owned ! R (Is R) (LL.makes T.the-type T′.the-plain 𝓤 H A) h _ is $ fjoin ! $ move ! (3 ∷ 0 ∷ []) $ use2 W (raw (Callee 𝓤 H A at-mem run .pre to)) asked $ move ! (0 ∷ 2 ∷ 1 ∷ []) $ frame ! $ frame ! $ done !
 
-  exits : (r : Stepped) (u : Val) (z1 : List ℕ) (z2 : List (List ℕ)) → Is E.the-row (r .answer) (u ∷ []) → length z1 ≡ length (x1 .now) → length z2 ≡ length (x2 .now) → _≡_ {A = DidAppend} (record { wal = state z1 z2 (r .counters); answer = r .answer }) (appendOf (state (x1 .now) (x2 .now) h) (x3 .now) (x4 .now))
+  exits : (r : Answered) (u : Val) (z1 : List ℕ) (z2 : List (List ℕ)) → Is E.the-row (r .answer) (u ∷ []) → length z1 ≡ length (x1 .now) → length z2 ≡ length (x2 .now) → _≡_ {A = DidAppend} (record { wal = state z1 z2 (r .counters); answer = r .answer }) (appendOf (state (x1 .now) (x2 .now) h) (x3 .now) (x4 .now))
       → ent 𝓤 (⋆ 𝓤 H A (‵ (fobs γ (R .coded .code (r .counters))) ∷ ‵ (fbor κ0 (Body (mem R) b o γ)) ∷ ‵ (flft κ0 q0) ∷ (‵ (flft κ1 q1) ⊛ ‵ (flft κ2 q2) ⊛ ‵ (flft κ3 q3) ⊛ ‵ (flft κ4 q4) ⊛ ‵ ftrue) ∷ ‵ (finally u8 (x1 .name) z1) ∷ ‵ (finally (Array u64 3) (x2 .name) z2) ∷ ‵ Own3 ∷ ‵ Own4 ∷ [])) (Post u)
   exits r u z1 z2 is l1 l2 e =
       qed W (‵ (fobs γ (R .coded .code (r .counters))) ∷ ‵ (fbor κ0 (Body (mem R) b o γ)) ∷ ‵ (flft κ0 q0) ∷ (‵ (flft κ1 q1) ⊛ ‵ (flft κ2 q2) ⊛ ‵ (flft κ3 q3) ⊛ ‵ (flft κ4 q4) ⊛ ‵ ftrue) ∷ ‵ (finally u8 (x1 .name) z1) ∷ ‵ (finally (Array u64 3) (x2 .name) z2) ∷ ‵ Own3 ∷ ‵ Own4 ∷ []) ∵
@@ -134,7 +134,7 @@ module _ {M : Type 1} (𝓤 : URA M) (H : Heap 𝓤) (A : Atoms 𝓤) (W : Given
       move ! (2 ∷ 3 ∷ []) $ join ! $ frame ! $ feqI ! (List Val) (vptr b o ∷ []) (vptr b o ∷ []) refl $ fjoin3 ! $ nothing ! $ move ! (5 ∷ 0 ∷ []) $ fjoin ! $ move ! (4 ∷ 0 ∷ []) $ fjoin ! $ move ! (3 ∷ 0 ∷ []) $ fjoin ! $ move ! (2 ∷ 0 ∷ []) $ fjoin ! $ move ! (1 ∷ 0 ∷ []) $ fjoin ! $ owned ! E.the-row (Is E.the-row) (EL.makes E.the-type E′.the-plain 𝓤 H A) (r .answer) _ is $ move ! (1 ∷ 0 ∷ []) $ done !
 
   -- what is known of what the callee returned, at its machine value
-  back-is : (r : Stepped) (u : Val) → Is S.the-row r (u ∷ []) → Is S.the-row r (back r ∷ [])
+  back-is : (r : Answered) (u : Val) → Is S.the-row r (u ∷ []) → Is S.the-row r (back r ∷ [])
   back-is r u is = subst (λ (vs : List Val). Is S.the-row r vs) (LL.tells S.the-type S′.the-laws r (u ∷ []) is) is
 
   module _ (C : Calls 𝓤 H) (Λ : Loops 𝓤 H) (fm : FmC 𝓤 H (W .laws) C) (known : Triple 𝓤 (C #callee) (Callee 𝓤 H A at-mem run)) where
@@ -157,7 +157,7 @@ module _ {M : Type 1} (𝓤 : URA M) (H : Heap 𝓤) (A : Atoms 𝓤) (W : Given
         move ! (5 ∷ 4 ∷ []) $ use2 W (raw (Callee 𝓤 H A at-mem run .pre to) ⊛ ‵ Own3 ⊛ ‵ Own4) (goes was) $ split ! $ move ! (1 ∷ []) $ split ! $
         move ! (2 ∷ []) $
         calls-at ! fm (Callee 𝓤 H A at-mem run) known to (and-then ! (load ! (from ! (stop !)) (look ! 15 refl)) (and-then ! (load ! (from ! (stop !)) (look ! 11 refl)) (and-then ! (load ! (from ! (stop !)) (look ! 7 refl)) (and-then ! (load ! (from ! (stop !)) (look ! 21 refl)) (and-then ! (load ! (from ! (stop !)) (look ! 19 refl)) (no-more !)))))) (λ u.
-        use1 W (later (some (λ (r : Stepped). ((‵ (flft κ1 q1) ⊛ ‵ (flft κ2 q2) ⊛ ‵ (flft κ3 q3) ⊛ ‵ (flft κ4 q4) ⊛ ‵ ftrue) ⊛ ‵ (S.the-row .own r (u ∷ []))) ⊛ raw (ensured 𝓤 H A callee.ended (callee.clauses 𝓤 H A at-mem run) (κ1, (κ2, (κ3, (κ4, tt)))) (h, rest) tt r)))) (id⊢ 𝓤 _) $ await ! tt $ pick ! (λ r. split ! $ move ! (1 ∷ []) $
+        use1 W (later (some (λ (r : Answered). ((‵ (flft κ1 q1) ⊛ ‵ (flft κ2 q2) ⊛ ‵ (flft κ3 q3) ⊛ ‵ (flft κ4 q4) ⊛ ‵ ftrue) ⊛ ‵ (S.the-row .own r (u ∷ []))) ⊛ raw (ensured 𝓤 H A callee.ended (callee.clauses 𝓤 H A at-mem run) (κ1, (κ2, (κ3, (κ4, tt)))) (h, rest) tt r)))) (id⊢ 𝓤 _) $ await ! tt $ pick ! (λ r. split ! $ move ! (1 ∷ []) $
         use1 W (some (λ (z : Unit {0} × (List ℕ × (List (List ℕ) × (Unit {0} × (Unit {0} × Unit {0}))))). ‵ (lasts callee.ended (κ1, (κ2, (κ3, (κ4, tt)))) (h, rest) z) ⊛ raw (fact 𝓤 (_≡_ {A = DidAppend} (record { wal = state (z .1 .0) (z .1 .1 .0) (r .counters); answer = r .answer }) (appendOf (state (x1 .now) (x2 .now) h) (x3 .now) (x4 .now)))))) (id⊢ 𝓤 _) $ pick ! (λ z. split ! $ move ! (1 ∷ []) $ heard ! (_≡_ {A = DidAppend} (record { wal = state (z .1 .0) (z .1 .1 .0) (r .counters); answer = r .answer }) (appendOf (state (x1 .now) (x2 .now) h) (x3 .now) (x4 .now))) (λ e.
         fsplit ! $
         move ! (1 ∷ []) $ fsplit ! $

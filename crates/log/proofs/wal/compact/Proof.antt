@@ -1,4 +1,4 @@
--- The loop keeps that the rows left, moved from here on, give the whole (`Squeezing`).
+-- The loop keeps that the rows left, moved from here on, give the whole (`Compacting`).
 use mathlib.Core.List.{[]}
 use mathlib.Core.Path.{sym, _∙_}
 use Prim.Native.Nat.{_+_, _-_}
@@ -7,13 +7,13 @@ use borrow.Author.Tests.{leb-true, leb-false}
 use borrow.Author.Needs.{needs}
 use lib.ListN.{length, getD}
 use Rattle.log.specs.Log.{rowAt, rowLen}
-use Rattle.log.proofs.CompactLaws.{Squeezing, squeezing-begins, squeezing-ends, moved-on, passed-by, movable-low, movable-long}
+use Rattle.log.proofs.CompactLaws.{Compacting, compacting-begins, compacting-ends, moved-on, passed-by, movable-low, movable-long}
 use Rattle.log.proofs.TableLaws.{no-row, last-row}
 use Rattle.log.proofs.wal.compact.Statement.{statement}
 use Rattle.log.proofs.wal.compact.Tie as tie
 
 abbrev Inv-loop : tie.InvT-loop
-Inv-loop log₀ records₀ count to₀ i₀ log records to i = Squeezing log₀ records₀ count log records to i
+Inv-loop log₀ records₀ count to₀ i₀ log records to i = Compacting log₀ records₀ count log records to i
 
 abbrev μ-loop : tie.MeasureT-loop
 μ-loop log₀ records₀ count to₀ i₀ log records to i = count - i
@@ -21,7 +21,7 @@ abbrev μ-loop : tie.MeasureT-loop
 loop-holds : tie.Need-loop-holds Inv-loop μ-loop
 loop-holds c =
     let args = c .before .args in
-    squeezing-begins (args .log .now) (args .records .now) (args .count)
+    compacting-begins (args .log .now) (args .records .now) (args .count)
 
 same-length : tie.Need-same-length Inv-loop μ-loop
 same-length c =
@@ -38,7 +38,7 @@ returns c =
     let args = c .before .before .before .before .args in
     let loop = c .before .before .loop in
     let if1 = c .if1 in
-    squeezing-ends (loop .inv) (no-row [] (args .records .now) (args .count) (loop .i) (omega (arith, loop .inv .many, if1 .taken)))
+    compacting-ends (loop .inv) (no-row [] (args .records .now) (args .count) (loop .i) (omega (arith, loop .inv .many, if1 .taken)))
 
 mul-r : tie.Need-mul-r Inv-loop μ-loop
 mul-r c = search needs
@@ -138,7 +138,7 @@ returns-2 c =
     let args = c .before .before .before .args in
     let loop = c .before .loop in
     let loop-test = c .loop-test in
-    squeezing-ends (loop .inv) (last-row [] (args .records .now) (args .count) (loop .i) (loop-test .left))
+    compacting-ends (loop .inv) (last-row [] (args .records .now) (args .count) (loop .i) (loop-test .left))
 
 pub compact-spec : {M : Type 1} → statement M
 compact-spec =

@@ -1,6 +1,6 @@
 -- The sum is never made: the room behind `size` is compared with n.
 use mathlib.Core.Path.{sym}
-use Prim.Native.Nat.{_+_, _-_}
+use Prim.Native.Nat.{_+_}
 use native.Mathlib.Omega.{arith}
 use borrow.Author.Tests.{lt-leb}
 use Rattle.log.proofs.TableLaws.{room-behind}

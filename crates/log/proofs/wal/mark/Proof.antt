@@ -46,14 +46,14 @@ use denote.Triple.Table.{entered, cited}
 use denote.Triple.Walked.{says, Stays, stay-ref, stay-none, gave-slice, walkOf, goes-ref, goes-none, goes-gave-slice, Walks, ends-at, walked, walk-meets}
 use Rattle.log.specs.Log.{DidMark, state, markOf}
 use Rattle.log.specs.declared.Counters.{Counters}
-use Rattle.log.specs.declared.SteppedDue.{SteppedDue}
+use Rattle.log.specs.declared.AnsweredDue.{AnsweredDue}
 use Rattle.log.specs.declared.LogId.{LogId}
 use Rattle.log.proofs.LogId as X4
 use Rattle.log.proofs.LogId.Laws as X4′
 use Rattle.log.proofs.Counters as T
 use Rattle.log.proofs.Counters.Laws as T′
-use Rattle.log.proofs.SteppedDue as S
-use Rattle.log.proofs.SteppedDue.Laws as S′
+use Rattle.log.proofs.AnsweredDue as S
+use Rattle.log.proofs.AnsweredDue.Laws as S′
 use Rattle.log.proofs.Due as E
 use Rattle.log.proofs.Due.Laws as E′
 use Rattle.log.proofs.wal.mark_step as callee
@@ -72,7 +72,7 @@ R = T.the-row
 abbrev mach : Counters → Val
 mach h = only (LL.vals T.the-type T′.the-laws h)
 
-abbrev back : SteppedDue → Val
+abbrev back : AnsweredDue → Val
 back r = only (LL.vals S.the-type S′.the-laws r)
 
 abbrev stayed : Stays (self.ended .signature .params) (self.ended .kept)
@@ -118,7 +118,7 @@ module _ {M : Type 1} (𝓤 : URA M) (H : Heap 𝓤) (A : Atoms 𝓤) (W : Given
       qed W (‵ (owns (MutSlice (named 1) κ1 u8 ∷ MutSlice (named 2) κ2 (Array u64 3) ∷ usize ∷ X4.the-row ∷ []) rest rest-vals) ∷ (‵ (flft κ1 q1) ⊛ ‵ (flft κ2 q2) ⊛ ‵ ftrue) ∷ []) ∵
       fsplit ! $ move ! (1 ∷ []) $ fsplit ! $ move ! (1 ∷ []) $ fsplit ! $ move ! (1 ∷ []) $ fsplit ! $ move ! (0 ∷ 1 ∷ []) $ fjoin ! $ move ! (1 ∷ 0 ∷ []) $ fjoin ! $ move ! (1 ∷ 0 ∷ []) $ fjoin ! $ move ! (1 ∷ 0 ∷ []) $ fjoin ! $ owned ! R (Is R) (LL.makes T.the-type T′.the-plain 𝓤 H A) h _ is $ fjoin ! $ move ! (1 ∷ 0 ∷ []) $ use2 W (raw (Callee 𝓤 H A at-mem run .pre to)) asked $ done !
 
-  exits : (r : SteppedDue) (u : Val) (z1 : List ℕ) (z2 : List (List ℕ)) → Is E.the-row (r .due) (u ∷ []) → length z1 ≡ length (x1 .now) → length z2 ≡ length (x2 .now) → _≡_ {A = DidMark} (record { wal = state z1 z2 (r .counters); due = r .due }) (markOf x3 (state (x1 .now) (x2 .now) h) (x4 .0))
+  exits : (r : AnsweredDue) (u : Val) (z1 : List ℕ) (z2 : List (List ℕ)) → Is E.the-row (r .due) (u ∷ []) → length z1 ≡ length (x1 .now) → length z2 ≡ length (x2 .now) → _≡_ {A = DidMark} (record { wal = state z1 z2 (r .counters); due = r .due }) (markOf x3 (state (x1 .now) (x2 .now) h) (x4 .0))
       → ent 𝓤 (⋆ 𝓤 H A (‵ (fobs γ (R .coded .code (r .counters))) ∷ ‵ (fbor κ0 (Body (mem R) b o γ)) ∷ ‵ (flft κ0 q0) ∷ (‵ (flft κ1 q1) ⊛ ‵ (flft κ2 q2) ⊛ ‵ ftrue) ∷ ‵ (finally u8 (x1 .name) z1) ∷ ‵ (finally (Array u64 3) (x2 .name) z2) ∷ [])) (Post u)
   exits r u z1 z2 is l1 l2 e =
       qed W (‵ (fobs γ (R .coded .code (r .counters))) ∷ ‵ (fbor κ0 (Body (mem R) b o γ)) ∷ ‵ (flft κ0 q0) ∷ (‵ (flft κ1 q1) ⊛ ‵ (flft κ2 q2) ⊛ ‵ ftrue) ∷ ‵ (finally u8 (x1 .name) z1) ∷ ‵ (finally (Array u64 3) (x2 .name) z2) ∷ []) ∵
@@ -126,7 +126,7 @@ module _ {M : Type 1} (𝓤 : URA M) (H : Heap 𝓤) (A : Atoms 𝓤) (W : Given
       move ! (2 ∷ 3 ∷ []) $ join ! $ frame ! $ feqI ! (List Val) (vptr b o ∷ []) (vptr b o ∷ []) refl $ fjoin3 ! $ nothing ! $ owned ! X4.the-row (Is X4.the-row) (LL.makes X4.the-type X4′.the-plain 𝓤 H A) x4 _ x4-is $ fjoin ! $ owned ! usize (Is usize) (uint-makes 𝓤 H A W w64) x3 _ (refl, x3-is) $ fjoin ! $ move ! (3 ∷ 0 ∷ []) $ fjoin ! $ move ! (2 ∷ 0 ∷ []) $ fjoin ! $ move ! (1 ∷ 0 ∷ []) $ fjoin ! $ owned ! E.the-row (Is E.the-row) (EL.makes E.the-type E′.the-plain 𝓤 H A) (r .due) _ is $ move ! (1 ∷ 0 ∷ []) $ done !
 
   -- what is known of what the callee returned, at its machine value
-  back-is : (r : SteppedDue) (u : Val) → Is S.the-row r (u ∷ []) → Is S.the-row r (back r ∷ [])
+  back-is : (r : AnsweredDue) (u : Val) → Is S.the-row r (u ∷ []) → Is S.the-row r (back r ∷ [])
   back-is r u is = subst (λ (vs : List Val). Is S.the-row r vs) (LL.tells S.the-type S′.the-laws r (u ∷ []) is) is
 
   module _ (C : Calls 𝓤 H) (Λ : Loops 𝓤 H) (fm : FmC 𝓤 H (W .laws) C) (known : Triple 𝓤 (C #callee) (Callee 𝓤 H A at-mem run)) where
@@ -148,7 +148,7 @@ module _ {M : Type 1} (𝓤 : URA M) (H : Heap 𝓤) (A : Atoms 𝓤) (W : Given
         -- `mark_step`
         move ! (5 ∷ 4 ∷ []) $ use2 W (raw (Callee 𝓤 H A at-mem run .pre to)) (goes was) $
         calls-at ! fm (Callee 𝓤 H A at-mem run) known to (and-then ! (load ! (from ! (stop !)) (look ! 13 refl)) (and-then ! (load ! (from ! (stop !)) (look ! 9 refl)) (and-then ! (load ! (from ! (stop !)) (look ! 5 refl)) (and-then ! (load ! (from ! (stop !)) (look ! 19 refl)) (and-then ! (load ! (from ! (stop !)) (look ! 17 refl)) (no-more !)))))) (λ u.
-        use1 W (later (some (λ (r : SteppedDue). ((‵ (flft κ1 q1) ⊛ ‵ (flft κ2 q2) ⊛ ‵ ftrue) ⊛ ‵ (S.the-row .own r (u ∷ []))) ⊛ raw (ensured 𝓤 H A callee.ended (callee.clauses 𝓤 H A at-mem run) (κ1, (κ2, tt)) (h, rest) tt r)))) (id⊢ 𝓤 _) $ await ! tt $ pick ! (λ r. split ! $ move ! (1 ∷ []) $
+        use1 W (later (some (λ (r : AnsweredDue). ((‵ (flft κ1 q1) ⊛ ‵ (flft κ2 q2) ⊛ ‵ ftrue) ⊛ ‵ (S.the-row .own r (u ∷ []))) ⊛ raw (ensured 𝓤 H A callee.ended (callee.clauses 𝓤 H A at-mem run) (κ1, (κ2, tt)) (h, rest) tt r)))) (id⊢ 𝓤 _) $ await ! tt $ pick ! (λ r. split ! $ move ! (1 ∷ []) $
         use1 W (some (λ (z : Unit {0} × (List ℕ × (List (List ℕ) × (Unit {0} × (Unit {0} × Unit {0}))))). ‵ (lasts callee.ended (κ1, (κ2, tt)) (h, rest) z) ⊛ raw (fact 𝓤 (_≡_ {A = DidMark} (record { wal = state (z .1 .0) (z .1 .1 .0) (r .counters); due = r .due }) (markOf x3 (state (x1 .now) (x2 .now) h) (x4 .0)))))) (id⊢ 𝓤 _) $ pick ! (λ z. split ! $ move ! (1 ∷ []) $ heard ! (_≡_ {A = DidMark} (record { wal = state (z .1 .0) (z .1 .1 .0) (r .counters); due = r .due }) (markOf x3 (state (x1 .now) (x2 .now) h) (x4 .0))) (λ e.
         fsplit ! $
         move ! (1 ∷ []) $ fsplit ! $

@@ -39,11 +39,11 @@ use denote.Triple.Table.{entered, cited}
 use denote.Triple.Walked.{says, Stays, stay-ref, walkOf, goes-ref, Walks, ends-at, walked, walk-meets}
 use Rattle.log.specs.Log.{syncOf}
 use Rattle.log.specs.declared.Counters.{Counters}
-use Rattle.log.specs.declared.SteppedDue.{SteppedDue}
+use Rattle.log.specs.declared.AnsweredDue.{AnsweredDue}
 use Rattle.log.proofs.Counters as T
 use Rattle.log.proofs.Counters.Laws as T′
-use Rattle.log.proofs.SteppedDue as S
-use Rattle.log.proofs.SteppedDue.Laws as S′
+use Rattle.log.proofs.AnsweredDue as S
+use Rattle.log.proofs.AnsweredDue.Laws as S′
 use Rattle.log.proofs.Due as E
 use Rattle.log.proofs.Due.Laws as E′
 use Rattle.log.proofs.wal.sync_step as callee
@@ -62,7 +62,7 @@ R = T.the-row
 abbrev mach : Counters → Val
 mach h = only (LL.vals T.the-type T′.the-laws h)
 
-abbrev back : SteppedDue → Val
+abbrev back : AnsweredDue → Val
 back r = only (LL.vals S.the-type S′.the-laws r)
 
 abbrev stayed : Stays (self.ended .signature .params) (self.ended .kept)
@@ -102,7 +102,7 @@ module _ {M : Type 1} (𝓤 : URA M) (H : Heap 𝓤) (A : Atoms 𝓤) (W : Given
       qed W (‵ (owns ([]) rest rest-vals) ∷ (‵ ftrue) ∷ []) ∵
       owned ! R (Is R) (LL.makes T.the-type T′.the-plain 𝓤 H A) h _ is $ fjoin ! $ move ! (1 ∷ 0 ∷ []) $ use2 W (raw (Callee 𝓤 H A at-mem run .pre to)) asked $ done !
 
-  exits : (r : SteppedDue) (u : Val) → Is E.the-row (r .due) (u ∷ []) → _≡_ {A = SteppedDue} (record { counters = (r .counters); due = r .due }) (syncOf h)
+  exits : (r : AnsweredDue) (u : Val) → Is E.the-row (r .due) (u ∷ []) → _≡_ {A = AnsweredDue} (record { counters = (r .counters); due = r .due }) (syncOf h)
       → ent 𝓤 (⋆ 𝓤 H A (‵ (fobs γ (R .coded .code (r .counters))) ∷ ‵ (fbor κ0 (Body (mem R) b o γ)) ∷ ‵ (flft κ0 q0) ∷ (‵ ftrue) ∷ [])) (Post u)
   exits r u is e =
       qed W (‵ (fobs γ (R .coded .code (r .counters))) ∷ ‵ (fbor κ0 (Body (mem R) b o γ)) ∷ ‵ (flft κ0 q0) ∷ (‵ ftrue) ∷ []) ∵
@@ -110,7 +110,7 @@ module _ {M : Type 1} (𝓤 : URA M) (H : Heap 𝓤) (A : Atoms 𝓤) (W : Given
       move ! (2 ∷ 3 ∷ []) $ join ! $ frame ! $ feqI ! (List Val) (vptr b o ∷ []) (vptr b o ∷ []) refl $ fjoin3 ! $ nothing ! $ move ! (1 ∷ 0 ∷ []) $ fjoin ! $ owned ! E.the-row (Is E.the-row) (EL.makes E.the-type E′.the-plain 𝓤 H A) (r .due) _ is $ move ! (1 ∷ 0 ∷ []) $ done !
 
   -- what is known of what the callee returned, at its machine value
-  back-is : (r : SteppedDue) (u : Val) → Is S.the-row r (u ∷ []) → Is S.the-row r (back r ∷ [])
+  back-is : (r : AnsweredDue) (u : Val) → Is S.the-row r (u ∷ []) → Is S.the-row r (back r ∷ [])
   back-is r u is = subst (λ (vs : List Val). Is S.the-row r vs) (LL.tells S.the-type S′.the-laws r (u ∷ []) is) is
 
   module _ (C : Calls 𝓤 H) (Λ : Loops 𝓤 H) (fm : FmC 𝓤 H (W .laws) C) (known : Triple 𝓤 (C #callee) (Callee 𝓤 H A at-mem run)) where
@@ -128,8 +128,8 @@ module _ {M : Type 1} (𝓤 : URA M) (H : Heap 𝓤) (A : Atoms 𝓤) (W : Given
         -- `sync_step`
         move ! (5 ∷ 4 ∷ []) $ use2 W (raw (Callee 𝓤 H A at-mem run .pre to)) (goes was) $
         calls-at ! fm (Callee 𝓤 H A at-mem run) known to (and-then ! (load ! (from ! (stop !)) (look ! 5 refl)) (no-more !)) (λ u.
-        use1 W (later (some (λ (r : SteppedDue). ((‵ ftrue) ⊛ ‵ (S.the-row .own r (u ∷ []))) ⊛ raw (ensured 𝓤 H A callee.ended (callee.clauses 𝓤 H A at-mem run) tt (h, rest) tt r)))) (id⊢ 𝓤 _) $ await ! tt $ pick ! (λ r. split ! $ move ! (1 ∷ []) $
-        use1 W (some (λ (z : Unit {0} × Unit {0}). ‵ (lasts callee.ended tt (h, rest) z) ⊛ raw (fact 𝓤 (_≡_ {A = SteppedDue} (record { counters = (r .counters); due = r .due }) (syncOf h))))) (id⊢ 𝓤 _) $ pick ! (λ z. split ! $ move ! (1 ∷ []) $ heard ! (_≡_ {A = SteppedDue} (record { counters = (r .counters); due = r .due }) (syncOf h)) (λ e.
+        use1 W (later (some (λ (r : AnsweredDue). ((‵ ftrue) ⊛ ‵ (S.the-row .own r (u ∷ []))) ⊛ raw (ensured 𝓤 H A callee.ended (callee.clauses 𝓤 H A at-mem run) tt (h, rest) tt r)))) (id⊢ 𝓤 _) $ await ! tt $ pick ! (λ r. split ! $ move ! (1 ∷ []) $
+        use1 W (some (λ (z : Unit {0} × Unit {0}). ‵ (lasts callee.ended tt (h, rest) z) ⊛ raw (fact 𝓤 (_≡_ {A = AnsweredDue} (record { counters = (r .counters); due = r .due }) (syncOf h))))) (id⊢ 𝓤 _) $ pick ! (λ z. split ! $ move ! (1 ∷ []) $ heard ! (_≡_ {A = AnsweredDue} (record { counters = (r .counters); due = r .due }) (syncOf h)) (λ e.
         fsplit ! $
         move ! (2 ∷ []) $ split ! $
         move ! (1 ∷ []) $ peeks ! S.the-row (Is S.the-row) (shows 𝓤 H A S.the-row) r (u ∷ []) (λ is. drop ! $ let owed = LL.owed S.the-type S′.the-laws r _ (back-is r u is) in

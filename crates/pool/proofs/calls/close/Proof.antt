@@ -1,6 +1,6 @@
 -- `calls::close` meets its contract: by its calls and its tests. Assumes nothing.
 use Rattle.pool.specs.Calls.{closeOf}
-use Rattle.front.specs.Answers.{shown}
+use Rattle.answers.specs.Answers.{shown}
 use borrow.Author.Needs.{needs}
 use Rattle.pool.proofs.calls.close.Statement.{statement}
 use Rattle.pool.proofs.calls.close.Tie as tie

@@ -1,6 +1,6 @@
 -- `calls::failed` meets its contract: by its calls and its tests. Assumes nothing.
 use Rattle.pool.specs.Calls.{failedOf}
-use Rattle.front.specs.Answers.{shown}
+use Rattle.answers.specs.Answers.{shown}
 use borrow.Author.Needs.{needs}
 use Rattle.pool.proofs.calls.failed.Statement.{statement}
 use Rattle.pool.proofs.calls.failed.Tie as tie

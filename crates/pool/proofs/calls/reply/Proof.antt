@@ -1,5 +1,5 @@
 -- `calls::reply` meets its contract: by its table, and by what the reply is. Assumes nothing.
-use Rattle.front.proofs.RefusalLaws.{by-refused, by-effect}
+use Rattle.answers.proofs.RefusalLaws.{by-refused, by-effect}
 use Rattle.pool.proofs.ReplyLaws.{stores, fails, sends, resumes}
 use Rattle.pool.specs.Calls.{replyOf}
 use borrow.Author.Needs.{needs}
@@ -39,8 +39,8 @@ enum-told-4 c = search needs
 is-message-requires : tie.Need-is-message-requires
 is-message-requires c κs = search needs
 
-sent-requires : tie.Need-sent-requires
-sent-requires c κs = search needs
+collect-send-requires : tie.Need-collect-send-requires
+collect-send-requires c κs = search needs
 
 same-length : tie.Need-same-length
 same-length c = search needs
@@ -58,7 +58,7 @@ returns c =
     let h1 = c .before .before .before .before .before .before .before .before .before .before .before .before .before .before .enum-told .given .1 in
     let h2 = simp (c .before .before .before .before .before .before .before .before .before .before .before .before .before .stored-in .ensures) at (c .before .before .before .before .before .before .before .before .before .before .before .enum-told4 .given .1) in
     let h3 = simp (c .before .before .before .before .before .before .before .before .before .before .is-message .ensures) at (c .before .before .before .before .before .before .before .before .before .if1 .taken) in
-    let e2 = c .before .before .before .before .sent .ensures in
+    let e2 = c .before .before .before .before .collect-send .ensures in
     by-effect _ _ _ _ _ (e1 _ _ _ _ _ _) h1 (sends _ _ _ _ _ h2 h3 (e2 _ _ _ _ _))
 
 resumed-requires : tie.Need-resumed-requires
@@ -168,7 +168,7 @@ reply-spec =
     failed-requires
     enum-told-4
     is-message-requires
-    sent-requires
+    collect-send-requires
     same-length
     same-length-2
     same-length-3

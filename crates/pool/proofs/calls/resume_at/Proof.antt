@@ -1,9 +1,7 @@
 -- `calls::resume_at` meets its contract: by where the turn stands. Assumes nothing.
 use mathlib.Core.Path.{_∙_}
-use Rattle.group.proofs.WordLaws.{at-rest, at-asks, at-runs}
+use Rattle.points.proofs.WordLaws.{at-rest, at-asks, at-runs}
 use Rattle.pool.proofs.ReplyLaws.{resume-rests, resume-asks, resume-runs}
-use Rattle.pool.specs.Calls.{resumeAt}
-use Rattle.group.specs.Words.{atOf}
 use borrow.Author.Needs.{needs}
 use Rattle.pool.proofs.calls.resume_at.Statement.{statement}
 use Rattle.pool.proofs.calls.resume_at.Tie as tie

@@ -1,7 +1,6 @@
 -- `calls::stored` meets its contract: by whether a turn is under way. Assumes nothing.
-use mathlib.Core.Path.{sym, _∙_}
 use Rattle.pool.proofs.ReplyLaws.{stored-runs, stored-shows}
-use Rattle.front.specs.Answers.{shown}
+use Rattle.answers.specs.Answers.{shown}
 use borrow.Author.Needs.{needs}
 use Rattle.pool.proofs.calls.stored.Statement.{statement}
 use Rattle.pool.proofs.calls.stored.Tie as tie

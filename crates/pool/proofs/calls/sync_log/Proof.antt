@@ -1,6 +1,6 @@
 -- `calls::sync_log` meets its contract: by whether a flush was due. Assumes nothing.
-use Rattle.turn.specs.Words.{whatOf}
-use Rattle.front.specs.Answers.{shown}
+use Rattle.turn.specs.Words.{orderForOf}
+use Rattle.answers.specs.Answers.{shown}
 use Rattle.pool.proofs.SyncLaws.{sync-due, sync-none}
 use borrow.Author.Needs.{needs}
 use Rattle.pool.proofs.calls.sync_log.Statement.{statement}
@@ -25,7 +25,7 @@ shown-now-requires : tie.Need-shown-now-requires
 shown-now-requires c κs = search needs
 
 returns : tie.Need-returns
-unfolding shown whatOf
+unfolding shown orderForOf
 returns c bytes records store groups links rows keys actors =
     let e1 = simp (c .before .before .before .before .before .before .before .before .before .counters .ensures) at (c .before .before .before .before .before .before .before .before .sync .ensures) in
     let h1 = simp (c .before .before .before .before .before .before .is-due .ensures) at (c .before .before .before .before .before .if1 .taken) in

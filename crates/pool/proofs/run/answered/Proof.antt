@@ -1,6 +1,6 @@
 -- `run::answered` meets its contract: by its calls and its tests. Assumes nothing.
 use Rattle.pool.specs.Run.{answeredOf}
-use Rattle.front.specs.Answers.{shown}
+use Rattle.answers.specs.Answers.{shown}
 use borrow.Author.Needs.{needs}
 use Rattle.pool.proofs.run.answered.Statement.{statement}
 use Rattle.pool.proofs.run.answered.Tie as tie

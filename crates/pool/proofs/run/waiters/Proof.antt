@@ -9,10 +9,10 @@ use Rattle.pool.proofs.run.waiters.Statement.{statement}
 use Rattle.pool.proofs.run.waiters.Tie as tie
 
 abbrev Inv-loop : tie.InvT-loop
-Inv-loop lists groups g₀ g = waitersFrom lists groups ≡ waitersFrom lists g
+Inv-loop keys groups g₀ g = waitersFrom keys groups ≡ waitersFrom keys g
 
 abbrev μ-loop : tie.MeasureT-loop
-μ-loop lists groups g₀ g = g
+μ-loop keys groups g₀ g = g
 
 loop-holds : tie.Need-loop-holds Inv-loop μ-loop
 loop-holds c = refl

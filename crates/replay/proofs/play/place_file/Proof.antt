@@ -1,4 +1,4 @@
--- `play::place_file` meets its contract: the file is poured at the front of the log. Assumes nothing.
+-- `play::place_file` meets its contract: the file is written at the front of the log. Assumes nothing.
 use Rattle.replay.specs.Replay.{placed}
 use mathlib.Core.Path.{ap}
 use borrow.Author.Needs.{needs}
@@ -8,33 +8,33 @@ use Rattle.replay.proofs.play.place_file.Tie as tie
 add-end : tie.Need-add-end
 add-end c = search needs
 
-sub-pour-bytes : tie.Need-sub-pour-bytes
-sub-pour-bytes c = search needs
+sub-output-bytes : tie.Need-sub-output-bytes
+sub-output-bytes c = search needs
 
-part-pour-bytes-start : tie.Need-part-pour-bytes-start
-part-pour-bytes-start c = search needs
+part-output-bytes-start : tie.Need-part-output-bytes-start
+part-output-bytes-start c = search needs
 
-part-pour-bytes-end : tie.Need-part-pour-bytes-end
-part-pour-bytes-end c = search needs
+part-output-bytes-end : tie.Need-part-output-bytes-end
+part-output-bytes-end c = search needs
 
-pour-bytes-requires : tie.Need-pour-bytes-requires
-pour-bytes-requires c κs = search needs
+output-bytes-requires : tie.Need-output-bytes-requires
+output-bytes-requires c κs = search needs
 
 same-length : tie.Need-same-length
 same-length c = search needs
 
 returns : tie.Need-returns
 unfolding placed
-returns c = ap (λ d. d .out) (c .before .before .pour-bytes .ensures)
+returns c = ap (λ d. d .out) (c .before .before .output-bytes .ensures)
 
 pub place-file-spec : {M : Type 1} → statement M
 place-file-spec =
     tie.close
     (tie.spec
     add-end
-    sub-pour-bytes
-    part-pour-bytes-start
-    part-pour-bytes-end
-    pour-bytes-requires
+    sub-output-bytes
+    part-output-bytes-start
+    part-output-bytes-end
+    output-bytes-requires
     same-length
     returns)

@@ -12,14 +12,14 @@ use Rattle.replay.proofs.play.run_calls.Statement.{statement}
 use Rattle.replay.proofs.play.run_calls.Tie as tie
 
 abbrev Inv-loop : tie.InvT-loop
-Inv-loop script start show cells₀ log₀ records₀ store₀ groups links₀ rows₀ lists₀ actors₀ out₀ p₀ e₀ cells log records
-    store links rows lists actors out p e =
+Inv-loop script start show cells₀ log₀ records₀ store₀ groups links₀ rows₀ keys₀ actors₀ out₀ p₀ e₀ cells log records
+    store links rows keys actors out p e =
     (length log ≡ length log₀) ×
     (length records ≡ length records₀) ×
     (length store ≡ length store₀) ×
     (length links ≡ length links₀) ×
     (length rows ≡ length rows₀) ×
-    (length lists ≡ length lists₀) ×
+    (length keys ≡ length keys₀) ×
     (length actors ≡ length actors₀) ×
     (length out ≡ length out₀) ×
     Running
@@ -31,7 +31,7 @@ Inv-loop script start show cells₀ log₀ records₀ store₀ groups links₀ r
       groups = groups;
       links = links₀;
       rows = rows₀;
-      keys = lists₀;
+      keys = keys₀;
       actors = actors₀;
     })
     (record { out = out₀; at = e₀ .at; code = e₀ .code })
@@ -44,14 +44,14 @@ Inv-loop script start show cells₀ log₀ records₀ store₀ groups links₀ r
       groups = groups;
       links = links;
       rows = rows;
-      keys = lists;
+      keys = keys;
       actors = actors;
     })
     (record { out = out; at = e .at; code = e .code }) p
 
 abbrev μ-loop : tie.MeasureT-loop
-μ-loop script start show cells₀ log₀ records₀ store₀ groups links₀ rows₀ lists₀ actors₀ out₀ p₀ e₀ cells log records
-    store links rows lists actors out p e =
+μ-loop script start show cells₀ log₀ records₀ store₀ groups links₀ rows₀ keys₀ actors₀ out₀ p₀ e₀ cells log records
+    store links rows keys actors out p e =
     length script - p
 
 loop-holds : tie.Need-loop-holds Inv-loop μ-loop
@@ -135,8 +135,8 @@ step-requires c κs =
     let within = subst (InScript (args .script .now) (loop .p)) (read .given .1) (read-call .ensures .1) in
     (within .1, within .2, within .3)
 
-pour-entry-requires : tie.Need-pour-entry-requires Inv-loop μ-loop
-pour-entry-requires c κs = search needs
+output-entry-requires : tie.Need-output-entry-requires Inv-loop μ-loop
+output-entry-requires c κs = search needs
 
 loop-less : tie.Need-loop-less Inv-loop μ-loop
 loop-less c =
@@ -156,8 +156,8 @@ loop-again c =
     let read-call = c .before .before .before .before .before .before .before .before .before .before .before .before .before .before .before .before .before .before .before .before .before .before .before .before .before .before .before .before .before .before .before .before .before .read-call in
     let read = c .before .before .before .before .before .before .before .before .before .before .before .before .before .before .before .before .before .before .before .before .before .before .before .before .before .before .before .before .before .before .before .read in
     let step = c .before .before .before .before .before .before .before .before .before .before .before .before .before .before .before .before .before .before .before .before .before .step in
-    let pour-entry = c .before .before .pour-entry in
-    (step .kept .1 .1 .1 .0 ∙ loop .inv .0, step .kept .1 .1 .1 .1 .0 ∙ loop .inv .1, step .kept .1 .1 .1 .1 .1 .0 ∙ loop .inv .2, step .kept .1 .1 .1 .1 .1 .1 .1 .0 ∙ loop .inv .3, step .kept .1 .1 .1 .1 .1 .1 .1 .1 .0 ∙ loop .inv .4, step .kept .1 .1 .1 .1 .1 .1 .1 .1 .1 .0 ∙ loop .inv .5, step .kept .1 .1 .1 .1 .1 .1 .1 .1 .1 .1 .0 ∙ loop .inv .6, pour-entry .kept .0 ∙ loop .inv .7, running-on (loop .inv .8) (if1 .taken) (if2 .left) (read .given .0 .0) (sym (read .given .1) ∙ read-call .ensures .0) (subst (InScript (args .script .now) (loop .p)) (read .given .1) (read-call .ensures .1) .0) (step .ensures) (pour-entry .ensures))
+    let output-entry = c .before .before .output-entry in
+    (step .kept .1 .1 .1 .0 ∙ loop .inv .0, step .kept .1 .1 .1 .1 .0 ∙ loop .inv .1, step .kept .1 .1 .1 .1 .1 .0 ∙ loop .inv .2, step .kept .1 .1 .1 .1 .1 .1 .1 .0 ∙ loop .inv .3, step .kept .1 .1 .1 .1 .1 .1 .1 .1 .0 ∙ loop .inv .4, step .kept .1 .1 .1 .1 .1 .1 .1 .1 .1 .0 ∙ loop .inv .5, step .kept .1 .1 .1 .1 .1 .1 .1 .1 .1 .1 .0 ∙ loop .inv .6, output-entry .kept .0 ∙ loop .inv .7, running-on (loop .inv .8) (if1 .taken) (if2 .left) (read .given .0 .0) (sym (read .given .1) ∙ read-call .ensures .0) (subst (InScript (args .script .now) (loop .p)) (read .given .1) (read-call .ensures .1) .0) (step .ensures) (output-entry .ensures))
 
 same-length-17 : tie.Need-same-length-17 Inv-loop μ-loop
 same-length-17 c = c .before .before .loop .inv .0
@@ -215,7 +215,7 @@ run-calls-spec =
     returns-2
     enum-known-read
     step-requires
-    pour-entry-requires
+    output-entry-requires
     loop-less
     loop-again
     same-length-17

@@ -8,8 +8,8 @@ use Rattle.replay.proofs.play.run_opened.Tie as tie
 open-requires : tie.Need-open-requires
 open-requires c κs = search needs
 
-pour-entry-requires : tie.Need-pour-entry-requires
-pour-entry-requires c κs = search needs
+output-entry-requires : tie.Need-output-entry-requires
+output-entry-requires c κs = search needs
 
 is-accepted-requires : tie.Need-is-accepted-requires
 is-accepted-requires c κs = search needs
@@ -63,18 +63,18 @@ same-length-8 c = c .before .before .before .before .before .before .before .bef
 
 same-length-9 : tie.Need-same-length-9
 same-length-9 c =
-    let pour-entry = c .before .before .before .before .before .before .before .before .before .before .before .before .before .before .before .before .before .before .before .before .before .before .before .before .before .before .pour-entry in
+    let output-entry = c .before .before .before .before .before .before .before .before .before .before .before .before .before .before .before .before .before .before .before .before .before .before .before .before .before .before .output-entry in
     let run-calls = c .before .before .before .before .before .before .before .before .before .before .before .run-calls in
-    run-calls .kept .1 .1 .1 .1 .1 .1 .1 .1 .1 .1 .1 .1 .0 ∙ pour-entry .kept .0
+    run-calls .kept .1 .1 .1 .1 .1 .1 .1 .1 .1 .1 .1 .1 .0 ∙ output-entry .kept .0
 
 returns : tie.Need-returns
 returns c =
     let opened = c .before .before .before .before .before .before .before .before .before .before .before .before .before .before .before .before .before .before .before .before .before .before .before .before .before .before .before .before .before .before .before .before .before .before .before .before .before .before .before .before .before .before .before .before .before .before .«open» in
-    let pour-entry = c .before .before .before .before .before .before .before .before .before .before .before .before .before .before .before .before .before .before .before .before .before .before .before .before .before .before .pour-entry in
+    let output-entry = c .before .before .before .before .before .before .before .before .before .before .before .before .before .before .before .before .before .before .before .before .before .before .before .before .before .before .output-entry in
     let is-accepted = c .before .before .before .before .before .before .before .before .before .before .before .before .before .before .before .before .before .before .before .before .before .before .before .is-accepted in
     let if1 = c .before .before .before .before .before .before .before .before .before .before .before .before .before .before .before .before .before .before .before .before .before .before .if1 in
     let run-calls = c .before .before .before .before .before .before .before .before .before .before .before .run-calls in
-    opened-on _ _ _ _ (opened .ensures) (pour-entry .ensures) (sym (is-accepted .ensures _ _ _) ∙ if1 .taken) (run-calls .ensures)
+    opened-on _ _ _ _ (opened .ensures) (output-entry .ensures) (sym (is-accepted .ensures _ _ _) ∙ if1 .taken) (run-calls .ensures)
 
 same-length-10 : tie.Need-same-length-10
 same-length-10 c = search needs
@@ -106,17 +106,17 @@ same-length-18 c = search needs
 returns-2 : tie.Need-returns-2
 returns-2 c =
     let opened = c .before .before .before .before .before .before .before .before .before .before .before .before .before .before .before .before .before .before .before .before .before .before .before .before .«open» in
-    let pour-entry = c .before .before .before .before .pour-entry in
+    let output-entry = c .before .before .before .before .output-entry in
     let is-accepted = c .before .is-accepted in
     let if1 = c .if1 in
-    opened-refused _ _ _ _ (opened .ensures) (pour-entry .ensures) (sym (is-accepted .ensures _ _ _) ∙ if1 .left)
+    opened-refused _ _ _ _ (opened .ensures) (output-entry .ensures) (sym (is-accepted .ensures _ _ _) ∙ if1 .left)
 
 pub run-opened-spec : {M : Type 1} → statement M
 run-opened-spec =
     tie.close
     (tie.spec
     open-requires
-    pour-entry-requires
+    output-entry-requires
     is-accepted-requires
     run-calls-requires
     same-length

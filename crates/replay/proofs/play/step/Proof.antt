@@ -1,6 +1,6 @@
 -- `play::step` meets its contract: by the call, each the definition of what was called. Assumes nothing.
 use mathlib.Core.Path.{refl}
-use Rattle.rail.specs.Rail.{callOf}
+use Rattle.theorem.specs.Rail.{callOf}
 use borrow.Author.Needs.{needs}
 use Rattle.replay.proofs.play.step.Statement.{statement}
 use Rattle.replay.proofs.play.step.Tie as tie

@@ -29,16 +29,16 @@ div-ticks c = search needs
 mul-whole : tie.Need-mul-whole
 mul-whole c = omega (arith, whole-fits (c .before .before .args .limit .timeout) (c .before .before .args .limit .tick) (c .before .if1 .left))
 
-sum-requires : tie.Need-sum-requires
-sum-requires c κs = search needs
+saturating-add-requires : tie.Need-saturating-add-requires
+saturating-add-requires c κs = search needs
 
 returns-3 : tie.Need-returns-3
 unfolding deadlineFrom
 returns-3 c =
     let h1 = le-ltb _ _ (c .before .before .if1 .left) in
-    let e1 = c .sum .ensures in
+    let e1 = c .saturating-add .ensures in
     simp (e1, h1)
 
 pub deadline-spec : {M : Type 1} → statement M
 deadline-spec =
-    tie.close (tie.spec returns returns-2 mul-ticks div-ticks mul-whole sum-requires returns-3)
+    tie.close (tie.spec returns returns-2 mul-ticks div-ticks mul-whole saturating-add-requires returns-3)

@@ -6,9 +6,6 @@ use borrow.Author.Needs.{needs}
 use Rattle.steps.proofs.eval.eval_dispatched.Statement.{statement}
 use Rattle.steps.proofs.eval.eval_dispatched.Tie as tie
 
-actor-at-requires : tie.Need-actor-at-requires
-actor-at-requires c κs = search needs
-
 deadline-of-requires : tie.Need-deadline-of-requires
 deadline-of-requires c κs = search needs
 
@@ -24,12 +21,11 @@ same-length c = search needs
 returns : tie.Need-returns
 unfolding evalDispatched
 returns c =
-    let h1 = lt-ltb _ _ (c .before .before .before .before .before .if1 .taken) in
-    let e1 = c .before .before .before .actor-at .ensures in
+    let h1 = lt-ltb _ _ (c .before .before .before .before .if1 .taken) in
     let e2 = c .before .before .deadline-of .ensures in
     let e3 = c .before .blocked-until .ensures .1 in
     let e4 = c .ends .ensures in
-    simp (e1, e2, e3, e4, h1)
+    simp (e2, e3, e4, h1)
 
 eval-finish-requires : tie.Need-eval-finish-requires
 eval-finish-requires c κs = search needs
@@ -51,7 +47,6 @@ pub eval-dispatched-spec : {M : Type 1} → statement M
 eval-dispatched-spec =
     tie.close
     (tie.spec
-    actor-at-requires
     deadline-of-requires
     blocked-until-requires
     ends-requires

@@ -1,6 +1,5 @@
 -- `eval::eval_finish` meets its contract: each way out follows from what the calls ensured and the tests said. Assumes
 -- nothing.
-use Rattle.steps.specs.Words.{evalNextOf}
 use Rattle.steps.specs.StepEval.{evalFinish}
 use borrow.Author.Needs.{needs}
 use Rattle.steps.proofs.eval.eval_finish.Statement.{statement}

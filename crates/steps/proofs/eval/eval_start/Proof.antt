@@ -6,9 +6,6 @@ use borrow.Author.Needs.{needs}
 use Rattle.steps.proofs.eval.eval_start.Statement.{statement}
 use Rattle.steps.proofs.eval.eval_start.Tie as tie
 
-actor-at-requires : tie.Need-actor-at-requires
-actor-at-requires c κs = search needs
-
 has-run-requires : tie.Need-has-run-requires
 has-run-requires c κs = search needs
 
@@ -21,9 +18,8 @@ same-length c = search needs
 returns : tie.Need-returns
 unfolding evalStart
 returns c =
-    let e1 = c .before .before .before .actor-at .ensures in
     let e2 = c .before .before .has-run .ensures in
-    let h1 = simp (e1, e2) at (c .before .if1 .taken) in
+    let h1 = simp (e2) at (c .before .if1 .taken) in
     let e3 = c .asks-for .ensures in
     simp (e3, h1)
 
@@ -48,9 +44,8 @@ same-length-3 c = search needs
 returns-2 : tie.Need-returns-2
 unfolding evalStart
 returns-2 c =
-    let e1 = c .before .before .before .before .before .before .before .before .before .actor-at .ensures in
     let e2 = c .before .before .before .before .before .before .before .before .has-run .ensures in
-    let h1 = simp (e1, e2) at (c .before .before .before .before .before .before .before .if1 .left) in
+    let h1 = simp (e2) at (c .before .before .before .before .before .before .before .if1 .left) in
     let e3 = c .before .before .before .before .take-mail .ensures in
     let h2 = c .before .if2 .taken in
     let e4 = c .asks-for2 .ensures in
@@ -65,9 +60,8 @@ same-length-5 c = search needs
 returns-3 : tie.Need-returns-3
 unfolding evalStart
 returns-3 c =
-    let e1 = c .before .before .before .before .before .before .before .before .before .before .actor-at .ensures in
     let e2 = c .before .before .before .before .before .before .before .before .before .has-run .ensures in
-    let h1 = simp (e1, e2) at (c .before .before .before .before .before .before .before .before .if1 .left) in
+    let h1 = simp (e2) at (c .before .before .before .before .before .before .before .before .if1 .left) in
     let e3 = c .before .before .before .before .before .take-mail .ensures in
     let h2 = c .before .before .if2 .left in
     let e4 = c .before .waiting .ensures .1 in
@@ -78,7 +72,6 @@ pub eval-start-spec : {M : Type 1} → statement M
 eval-start-spec =
     tie.close
     (tie.spec
-    actor-at-requires
     has-run-requires
     asks-for-requires
     same-length

@@ -26,8 +26,8 @@ move-first-to-front-requires c κs = search needs
 idle-at-requires : tie.Need-idle-at-requires
 idle-at-requires c κs = search needs
 
-sum-requires : tie.Need-sum-requires
-sum-requires c κs = search needs
+saturating-add-requires : tie.Need-saturating-add-requires
+saturating-add-requires c κs = search needs
 
 waiting-requires : tie.Need-waiting-requires
 waiting-requires c κs = search needs
@@ -64,7 +64,7 @@ returns-2 c =
     let e1 = c .before .before .before .before .before .before .before .before .before .mailbox .ensures in
     let e2 = c .before .before .before .before .before .before .before .move-first-to-front .ensures in
     let e3 = c .before .before .before .before .idle-at .ensures in
-    let e4 = c .before .before .sum .ensures in
+    let e4 = c .before .before .saturating-add .ensures in
     let e5 = c .before .waiting .ensures .0 in
     let e6 = c .ends .ensures in
     simp (e1, e2, e3, e4, e5, e6, h1)
@@ -80,7 +80,7 @@ fixed-pushed-spec =
     mailbox-requires
     move-first-to-front-requires
     idle-at-requires
-    sum-requires
+    saturating-add-requires
     waiting-requires
     ends-requires
     same-length

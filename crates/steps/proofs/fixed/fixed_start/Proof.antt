@@ -1,13 +1,12 @@
--- `fixed::fixed_start` meets its contract: each way out follows from what the calls ensured and the tests said.
--- Mechanical answers, as tools/answers.py writes them. Assumes nothing.
+-- `fixed::fixed_start` meets its contract: by its calls and its tests. Assumes nothing.
 use Rattle.steps.specs.Words.{fixedKindOf}
 use Rattle.steps.specs.StepFixed.{fixedStart}
 use borrow.Author.Needs.{needs}
 use Rattle.steps.proofs.fixed.fixed_start.Statement.{statement}
 use Rattle.steps.proofs.fixed.fixed_start.Tie as tie
 
-actor-at-requires : tie.Need-actor-at-requires
-actor-at-requires c κs = search needs
+is-started-requires : tie.Need-is-started-requires
+is-started-requires c κs = search needs
 
 started-at-requires : tie.Need-started-at-requires
 started-at-requires c κs = search needs
@@ -18,7 +17,7 @@ same-length c = search needs
 returns : tie.Need-returns
 unfolding fixedKindOf fixedStart
 returns c =
-    let e1 = c .before .before .before .before .actor-at .ensures in
+    let e1 = c .before .before .before .before .is-started .ensures in
     let e2 = c .before .before .started-at .ensures in
     let h1 = simp (e1) at (c .if1 .taken) in
     simp (e2, h1)
@@ -29,7 +28,7 @@ same-length-2 c = search needs
 returns-2 : tie.Need-returns-2
 unfolding fixedKindOf fixedStart
 returns-2 c =
-    let e1 = c .before .before .before .before .actor-at .ensures in
+    let e1 = c .before .before .before .before .is-started .ensures in
     let e2 = c .before .before .started-at .ensures in
     let h1 = simp (e1) at (c .if1 .left) in
     simp (e2, h1)
@@ -37,4 +36,4 @@ returns-2 c =
 pub fixed-start-spec : {M : Type 1} → statement M
 fixed-start-spec =
     tie.close
-    (tie.spec actor-at-requires started-at-requires same-length returns same-length-2 returns-2)
+    (tie.spec is-started-requires started-at-requires same-length returns same-length-2 returns-2)

@@ -1,5 +1,4 @@
--- `step::caller_first` meets its contract: each way out follows from what the calls ensured and the tests said. Mechanical
--- answers, as tools/answers.py writes them. Assumes nothing.
+-- `step::caller_first` meets its contract: by its calls and its tests. Assumes nothing.
 use Rattle.steps.specs.Steps.{callerFirst}
 use borrow.Author.Needs.{needs}
 use Rattle.steps.proofs.step.caller_first.Statement.{statement}
@@ -8,8 +7,8 @@ use Rattle.steps.proofs.step.caller_first.Tie as tie
 enum-known-found : tie.Need-enum-known-found
 enum-known-found c = search needs
 
-message-at-requires : tie.Need-message-at-requires
-message-at-requires c κs = search needs
+caller-at-requires : tie.Need-caller-at-requires
+caller-at-requires c κs = search needs
 
 enum-told : tie.Need-enum-told
 enum-told c = search needs
@@ -18,7 +17,7 @@ returns : tie.Need-returns
 unfolding callerFirst
 returns c =
     let h1 = c .before .before .found .given .1 in
-    let e1 = c .message-at .ensures in
+    let e1 = c .caller-at .ensures in
     simp (e1, h1)
 
 returns-2 : tie.Need-returns-2
@@ -29,4 +28,4 @@ returns-2 c =
 
 pub caller-first-spec : {M : Type 1} → statement M
 caller-first-spec =
-    tie.close (tie.spec enum-known-found message-at-requires enum-told returns returns-2)
+    tie.close (tie.spec enum-known-found caller-at-requires enum-told returns returns-2)

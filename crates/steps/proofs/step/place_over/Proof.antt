@@ -1,5 +1,4 @@
--- `step::place_over` meets its contract: each way out follows from what the calls ensured and the tests said. Mechanical
--- answers, as tools/answers.py writes them. Assumes nothing.
+-- `step::place_over` meets its contract: by its calls and its tests. Assumes nothing.
 use Rattle.steps.specs.Steps.{placeOver}
 use borrow.Author.Needs.{needs}
 use Rattle.steps.proofs.step.place_over.Statement.{statement}
@@ -8,8 +7,8 @@ use Rattle.steps.proofs.step.place_over.Tie as tie
 enum-known-found : tie.Need-enum-known-found
 enum-known-found c = search needs
 
-message-at-requires : tie.Need-message-at-requires
-message-at-requires c κs = search needs
+id-at-requires : tie.Need-id-at-requires
+id-at-requires c κs = search needs
 
 place-logged-requires : tie.Need-place-logged-requires
 place-logged-requires c κs = search needs
@@ -21,7 +20,7 @@ returns : tie.Need-returns
 unfolding placeOver
 returns c =
     let h1 = c .before .before .before .found .given .1 in
-    let e1 = c .before .message-at .ensures in
+    let e1 = c .before .id-at .ensures in
     let e2 = c .place-logged .ensures in
     simp (e1, e2, h1)
 
@@ -34,10 +33,4 @@ returns-2 c =
 pub place-over-spec : {M : Type 1} → statement M
 place-over-spec =
     tie.close
-    (tie.spec
-    enum-known-found
-    message-at-requires
-    place-logged-requires
-    enum-told
-    returns
-    returns-2)
+    (tie.spec enum-known-found id-at-requires place-logged-requires enum-told returns returns-2)

@@ -18,8 +18,8 @@ idle-at-requires c κs = search needs
 move-first-requires : tie.Need-move-first-requires
 move-first-requires c κs = search needs
 
-less-requires : tie.Need-less-requires
-less-requires c κs = search needs
+saturating-sub-requires : tie.Need-saturating-sub-requires
+saturating-sub-requires c κs = search needs
 
 same-length : tie.Need-same-length
 same-length c = search needs
@@ -46,7 +46,7 @@ returns-2 c =
     let e2 = c .before .before .before .before .before .length-of .ensures in
     let h1 = simp (e1, e2) at (ne-eqb _ _ (c .before .before .before .before .if1 .left)) in
     let e3 = c .before .before .move-first .ensures in
-    let e4 = c .less .ensures in
+    let e4 = c .saturating-sub .ensures in
     simp (e1, e2, e3, e4, h1)
 
 pub take-mail-spec : {M : Type 1} → statement M
@@ -57,7 +57,7 @@ take-mail-spec =
     length-of-requires
     idle-at-requires
     move-first-requires
-    less-requires
+    saturating-sub-requires
     same-length
     same-length-2
     returns

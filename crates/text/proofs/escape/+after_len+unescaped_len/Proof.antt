@@ -1,6 +1,6 @@
 -- Each byte read is passed over or counted, and the bytes left fall with each call.
 use mathlib.Core.Path.{ap}
-use Prim.Native.Nat.{_+_, _-_, ℕ, _<_}
+use Prim.Native.Nat.{_-_, ℕ, _<_}
 use native.Mathlib.Omega.{arith}
 use borrow.Author.Needs.{needs}
 use borrow.Fn.Kinds.{In}

@@ -1,6 +1,5 @@
 -- One law for each of the three kinds of byte.
 use mathlib.Core.Path.{sym}
-use Prim.Native.Nat.{_-_}
 use Rattle.text.proofs.EscapeLaws.{escaped-t, escaped-n, escaped-else}
 use Rattle.text.proofs.escape.escaped_byte.Statement.{statement}
 use Rattle.text.proofs.escape.escaped_byte.Tie as tie

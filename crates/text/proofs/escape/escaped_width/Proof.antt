@@ -1,6 +1,5 @@
 -- One law for each of the four kinds of byte.
 use mathlib.Core.Path.{ap, sym}
-use Prim.Native.Nat.{_-_}
 use lib.ListN.{length}
 use Rattle.text.proofs.EscapeLaws.{byte-backslash, byte-tab, byte-lf, byte-plain}
 use Rattle.text.proofs.escape.escaped_width.Statement.{statement}

@@ -1,6 +1,5 @@
 -- One law for each of the four kinds of byte.
 use mathlib.Core.Path.{ap, _∙_}
-use Prim.Native.Nat.{_-_}
 use native.Mathlib.Omega.{arith}
 use lib.ListN.{length}
 use Rattle.text.proofs.WriteLaws.{both, is-text}

@@ -1,6 +1,5 @@
 -- The parts of a record are written one behind the other; what is left of it gives the whole.
 use mathlib.Core.Path.{_∙_}
-use Prim.Native.Nat.{_-_}
 use native.Mathlib.Omega.{arith}
 use lib.ListN.{length-append}
 use Rattle.text.specs.Format.{Message, escape}

@@ -1,7 +1,7 @@
 -- `asks::asked_in` meets its contract: by its calls and its tests. Assumes nothing.
 use Rattle.turn.specs.Asks.{askedIn}
 use Rattle.turn.specs.Words.{diskOf}
-use Rattle.group.specs.Words.{atOf}
+use Rattle.points.specs.Words.{atOf}
 use borrow.Author.Needs.{needs}
 use Rattle.turn.proofs.asks.asked_in.Statement.{statement}
 use Rattle.turn.proofs.asks.asked_in.Tie as tie

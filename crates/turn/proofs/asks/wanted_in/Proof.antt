@@ -2,7 +2,7 @@
 use Rattle.turn.specs.Asks.{askedIn}
 use Rattle.turn.specs.Asks.{wantedBy}
 use Rattle.turn.specs.Words.{diskOf}
-use Rattle.group.specs.Words.{atOf}
+use Rattle.points.specs.Words.{atOf}
 use borrow.Author.Needs.{needs}
 use Rattle.turn.proofs.asks.wanted_in.Statement.{statement}
 use Rattle.turn.proofs.asks.wanted_in.Tie as tie

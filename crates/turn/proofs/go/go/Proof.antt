@@ -143,8 +143,8 @@ enum-told-12 c = search needs
 losses-requires-2 : tie.Need-losses-requires-2
 losses-requires-2 c κs = search needs
 
-doomed-requires : tie.Need-doomed-requires
-doomed-requires c κs = search needs
+crash-trapped-requires : tie.Need-crash-trapped-requires
+crash-trapped-requires c κs = search needs
 
 lose-at-requires-2 : tie.Need-lose-at-requires-2
 lose-at-requires-2 c κs = search needs
@@ -346,7 +346,7 @@ returns-12 c bytes records =
     let e3 = c .before .before .before .before .before .before .before .before .before .before .before .before .before .before .before .cursor-of .ensures in
     let h1 = simp (e2) at (c .before .before .before .before .before .before .before .before .before .before .before .before .before .enum-told12 .given .1) in
     let e4 = c .before .before .before .before .before .before .before .before .before .before .before .losses2 .ensures in
-    let e5 = simp (e1, e3, e4) at (c .before .before .before .before .before .before .before .doomed .ensures) in
+    let e5 = simp (e1, e3, e4) at (c .before .before .before .before .before .before .before .crash-trapped .ensures) in
     let e6 = c .lose-at2 .ensures in
     simp (e1, e3, e4, ← e5, e6, h1)
 
@@ -400,7 +400,7 @@ go-spec =
     stand-at-requires-7
     enum-told-12
     losses-requires-2
-    doomed-requires
+    crash-trapped-requires
     lose-at-requires-2
     same-length
     same-length-2

@@ -50,7 +50,7 @@ use Rattle.log.specs.declared.Due.{Due}
 use Rattle.log.specs.declared.LogId.{LogId}
 use Rattle.turn.specs.declared.logged.LogStep.{LogStep}
 use Rattle.turn.specs.Words.{dueOf}
-use Rattle.log.specs.declared.SteppedDue.{SteppedDue}
+use Rattle.log.specs.declared.AnsweredDue.{AnsweredDue}
 use Rattle.turn.specs.Logged.{steppedOf, steppedAs}
 use Rattle.log.proofs.Counters as T
 use Rattle.log.proofs.Counters.Laws as T′
@@ -213,7 +213,7 @@ module _ {M : Type 1} (𝓤 : URA M) (H : Heap 𝓤) (A : Atoms 𝓤) (W : Given
         use0 W (raw (The-after 𝓤 H A at-mem run .pre (to-after (z .0) a))) (goes-after (z .0) a isn isa′) $
         calls-at ! fm (The-after 𝓤 H A at-mem run) known-after (to-after (z .0) a) (and-then ! (load ! (from ! (stop !)) (look ! 6 {q = fullShare} {τ = T′.mir} {b = l13} {o = 0} {v = mach (z .0)} refl)) (and-then ! (load ! (from ! (stop !)) (look ! 18 {q = fullShare} {τ = E′.mir} {b = l7} {o = 0} {v = only (EL.vals E.the-type E′.the-laws a)} refl)) (no-more !))) (λ u′.
         use1 W (later (some (λ (r : LogStep). ((‵ ftrue) ⊛ ‵ (S.the-row .own r (u′ ∷ []))) ⊛ raw (ensured 𝓤 H A after.ended (after.clauses 𝓤 H A at-mem run) tt (after-args (z .0) a) tt r)))) (id⊢ 𝓤 _) $ await ! tt $ pick ! (λ r. split ! $ move ! (1 ∷ []) $
-        use1 W (some (λ (y : Unit {0} × (Unit {0} × Unit {0})). ‵ (lasts after.ended tt (after-args (z .0) a) y) ⊛ raw (fact 𝓤 (_≡_ {A = SteppedDue} (steppedOf r) (steppedAs (z .0) a))))) (id⊢ 𝓤 _) $ pick ! (λ y. split ! $ move ! (1 ∷ []) $ heard ! (_≡_ {A = SteppedDue} (steppedOf r) (steppedAs (z .0) a)) (λ e′.
+        use1 W (some (λ (y : Unit {0} × (Unit {0} × Unit {0})). ‵ (lasts after.ended tt (after-args (z .0) a) y) ⊛ raw (fact 𝓤 (_≡_ {A = AnsweredDue} (steppedOf r) (steppedAs (z .0) a))))) (id⊢ 𝓤 _) $ pick ! (λ y. split ! $ move ! (1 ∷ []) $ heard ! (_≡_ {A = AnsweredDue} (steppedOf r) (steppedAs (z .0) a)) (λ e′.
         move ! (1 ∷ []) $ split ! $ move ! (1 ∷ []) $ peeks ! S.the-row (Is S.the-row) (shows 𝓤 H A S.the-row) r (u′ ∷ []) (λ isr. drop ! $
         land ! (from ! (stop !)) (init ! 32 {τ = S′.mir} {b = l0} {o = 0} {v = u′} refl (LL.lawful S.the-type S′.the-laws 𝓤 H A W .typed r (u′ ∷ []) isr .0)) $
         returns ! (look ! 32 refl) $ forget ! 7 refl $ forget ! 9 refl $ forget ! 11 refl $ forget ! 13 refl $ forget ! 15 refl $ forget ! 17 refl $ forget ! 19 refl $ forget ! 2 refl $ forget ! 22 refl $ forget ! 24 refl $ forget ! 26 refl $ forget ! 28 refl $ forget ! 30 refl $ forget ! 32 refl $ move ! (32 ∷ 33 ∷ []) $ free1 ! $ move ! (30 ∷ 31 ∷ []) $ free1 ! $ move ! (28 ∷ 29 ∷ []) $ free1 ! $ move ! (26 ∷ 27 ∷ []) $ free1 ! $ move ! (24 ∷ 25 ∷ []) $ free1 ! $ move ! (22 ∷ 23 ∷ []) $ free1 ! $ move ! (2 ∷ 21 ∷ []) $ free1 ! $ move ! (18 ∷ 19 ∷ []) $ free1 ! $ move ! (16 ∷ 17 ∷ []) $ free1 ! $ move ! (14 ∷ 15 ∷ []) $ free1 ! $ move ! (12 ∷ 13 ∷ []) $ free1 ! $ move ! (10 ∷ 11 ∷ []) $ free1 ! $ move ! (8 ∷ 9 ∷ []) $ free1 ! $ move ! (6 ∷ 7 ∷ []) $ free1 ! $ free0 ! $

@@ -4,11 +4,11 @@ use borrow.Author.Needs.{needs}
 use Rattle.turn.proofs.state.counters.Statement.{statement}
 use Rattle.turn.proofs.state.counters.Tie as tie
 
-element-copy-out-flag-of : tie.Need-element-copy-out-flag-of
-element-copy-out-flag-of c = search needs
+element-copy-out-bool-of : tie.Need-element-copy-out-bool-of
+element-copy-out-bool-of c = search needs
 
-flag-of-requires : tie.Need-flag-of-requires
-flag-of-requires c κs = search needs
+bool-of-requires : tie.Need-bool-of-requires
+bool-of-requires c κs = search needs
 
 element-copy-out-t5 : tie.Need-element-copy-out-t5
 element-copy-out-t5 c = search needs
@@ -25,15 +25,15 @@ element-copy-out-t18 c = search needs
 returns : tie.Need-returns
 unfolding poolOf
 returns c =
-    let e1 = c .before .before .before .before .flag-of .ensures in
+    let e1 = c .before .before .before .before .bool-of .ensures in
     simp (e1)
 
 pub counters-spec : {M : Type 1} → statement M
 counters-spec =
     tie.close
     (tie.spec
-    element-copy-out-flag-of
-    flag-of-requires
+    element-copy-out-bool-of
+    bool-of-requires
     element-copy-out-t5
     element-copy-out-t10
     element-copy-out-t14

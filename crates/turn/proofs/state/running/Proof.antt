@@ -1,7 +1,7 @@
 -- `state::running` meets its contract: by its calls and its tests. Assumes nothing.
 use Rattle.turn.specs.State.{runningOf}
 use Rattle.turn.specs.Words.{poolOf}
-use Rattle.group.specs.Words.{atOf}
+use Rattle.points.specs.Words.{atOf}
 use borrow.Author.Needs.{needs}
 use Rattle.turn.proofs.state.running.Statement.{statement}
 use Rattle.turn.proofs.state.running.Tie as tie

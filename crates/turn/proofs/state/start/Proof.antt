@@ -1,8 +1,8 @@
 -- `state::start` meets its contract: by its calls and its tests. Assumes nothing.
 use Rattle.turn.specs.Words.{poolOf}
-use Rattle.turn.specs.Words.{flagOf}
-use Rattle.group.specs.Words.{atOf}
-use Rattle.group.specs.Words.{atKindOf}
+use Rattle.turn.specs.Words.{boolOf}
+use Rattle.points.specs.Words.{atOf}
+use Rattle.points.specs.Words.{atKindOf}
 use borrow.Author.Needs.{needs}
 use Rattle.turn.proofs.state.start.Statement.{statement}
 use Rattle.turn.proofs.state.start.Tie as tie
@@ -11,7 +11,7 @@ flag-cell-requires : tie.Need-flag-cell-requires
 flag-cell-requires c κs = search needs
 
 returns : tie.Need-returns
-unfolding poolOf flagOf atOf atKindOf
+unfolding poolOf boolOf atOf atKindOf
 returns c =
     let e1 = c .before .flag-cell .ensures in
     simp (e1)

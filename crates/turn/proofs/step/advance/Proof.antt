@@ -10,12 +10,12 @@ use Rattle.turn.proofs.step.advance.Statement.{statement}
 use Rattle.turn.proofs.step.advance.Tie as tie
 
 abbrev Inv-loop : tie.InvT-loop
-Inv-loop cells₀ store groups log₀ records₀ links₀ rows₀ lists₀ actors₀ cells log records links rows lists actors =
+Inv-loop cells₀ store groups log₀ records₀ links₀ rows₀ keys₀ actors₀ cells log records links rows keys actors =
     (length log ≡ length log₀) ×
     (length records ≡ length records₀) ×
     (length links ≡ length links₀) ×
     (length rows ≡ length rows₀) ×
-    (length lists ≡ length lists₀) ×
+    (length keys ≡ length keys₀) ×
     (length actors ≡ length actors₀) ×
     (advanced (record {
       pool = poolOf cells;
@@ -25,7 +25,7 @@ Inv-loop cells₀ store groups log₀ records₀ links₀ rows₀ lists₀ actor
       groups = groups;
       links = links;
       rows = rows;
-      keys = lists;
+      keys = keys;
       actors = actors;
     })
     ≡ advanced (record {
@@ -36,12 +36,12 @@ Inv-loop cells₀ store groups log₀ records₀ links₀ rows₀ lists₀ actor
       groups = groups;
       links = links₀;
       rows = rows₀;
-      keys = lists₀;
+      keys = keys₀;
       actors = actors₀;
     }))
 
 abbrev μ-loop : tie.MeasureT-loop
-μ-loop cells₀ store groups log₀ records₀ links₀ rows₀ lists₀ actors₀ cells log records links rows lists actors =
+μ-loop cells₀ store groups log₀ records₀ links₀ rows₀ keys₀ actors₀ cells log records links rows keys actors =
     weightOf (poolOf cells .turn)
 
 loop-holds : tie.Need-loop-holds Inv-loop μ-loop

@@ -11,8 +11,8 @@ first-requires c κs = search needs
 enum-known-e : tie.Need-enum-known-e
 enum-known-e c = search needs
 
-message-at-requires : tie.Need-message-at-requires
-message-at-requires c κs = search needs
+id-at-requires : tie.Need-id-at-requires
+id-at-requires c κs = search needs
 
 move-first-requires : tie.Need-move-first-requires
 move-first-requires c κs = search needs
@@ -43,7 +43,7 @@ unfolding markFirst
 returns c store groups keys actors =
     let e1 = c .before .before .before .before .before .before .before .before .before .before .before .before .before .before .before .before .before .first .ensures in
     let h1 = simp (e1) at (c .before .before .before .before .before .before .before .before .before .before .before .before .before .before .before .e .given .1) in
-    let e2 = c .before .before .before .before .before .before .before .before .before .before .before .before .before .message-at .ensures in
+    let e2 = c .before .before .before .before .before .before .before .before .before .before .before .before .before .id-at .ensures in
     let e3 = c .before .before .before .before .before .before .before .before .before .before .before .move-first .ensures in
     let h2 = simp (e1, e2) at (c .before .before .before .before .before .before .before .before .id .given .1) in
     let e4 = c .before .before .before .mark-logged .ensures in
@@ -57,7 +57,7 @@ unfolding markFirst markLogged
 returns-2 c store groups keys actors =
     let e1 = c .before .before .before .before .before .before .before .before .before .first .ensures in
     let h1 = simp (e1) at (c .before .before .before .before .before .before .before .e .given .1) in
-    let e2 = c .before .before .before .before .before .message-at .ensures in
+    let e2 = c .before .before .before .before .before .id-at .ensures in
     let e3 = c .before .before .before .move-first .ensures in
     let h2 = simp (e1, e2) at (c .enum-told .given .1) in
     simp (e3, h1, h2)
@@ -78,7 +78,7 @@ mark-first-spec =
     (tie.spec
     first-requires
     enum-known-e
-    message-at-requires
+    id-at-requires
     move-first-requires
     enum-known-id
     mark-logged-requires

@@ -1,6 +1,6 @@
 -- `step::mark_logged` meets its contract: by its calls and its tests. Assumes nothing.
 use Rattle.turn.specs.Step.{markLogged}
-use Rattle.turn.specs.Words.{whatOf}
+use Rattle.turn.specs.Words.{orderForOf}
 use borrow.Author.Needs.{needs}
 use Rattle.turn.proofs.step.mark_logged.Statement.{statement}
 use Rattle.turn.proofs.step.mark_logged.Tie as tie
@@ -27,7 +27,7 @@ same-length-2 : tie.Need-same-length-2
 same-length-2 c = search needs
 
 returns : tie.Need-returns
-unfolding markLogged whatOf
+unfolding markLogged orderForOf
 returns c store groups links rows keys actors =
     let e1 = c .before .before .before .before .before .before .before .before .before .before .before .before .before .counters .ensures in
     let e2 = c .before .before .before .before .before .before .before .before .before .before .before .compact-at .ensures in

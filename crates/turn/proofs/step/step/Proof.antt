@@ -1,6 +1,6 @@
 -- `step::step` meets its contract: by where the turn stands, and by whether the marks put out an order. Assumes nothing.
 use mathlib.Core.Path.{_∙_}
-use Rattle.group.proofs.WordLaws.{at-rest, at-asks, at-runs}
+use Rattle.points.proofs.WordLaws.{at-rest, at-asks, at-runs}
 use Rattle.turn.proofs.StepLaws.{step-rests, step-asks, step-goes, step-stops}
 use borrow.Author.Needs.{needs}
 use Rattle.turn.proofs.step.step.Statement.{statement}

@@ -1,0 +1,17 @@
+-- `numbers::flag` meets its contract: by the test. Assumes nothing.
+use borrow.Author.Needs.{needs}
+use Rattle.answers.proofs.numbers.flag.Statement.{statement}
+use Rattle.answers.proofs.numbers.flag.Tie as tie
+
+returns : tie.Need-returns
+returns c = search needs
+
+returns-2 : tie.Need-returns-2
+returns-2 c = search needs
+
+pub flag-spec : {M : Type 1} → statement M
+flag-spec =
+    tie.close
+    (tie.spec
+    returns
+    returns-2)

@@ -1,4 +1,0 @@
--- Laws of the door.
-pub mod AdmitLaws
-pub mod Names
-pub mod OpenLaws

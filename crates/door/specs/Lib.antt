@@ -1,4 +1,0 @@
--- Definitions and statements.
-pub mod Open
-pub mod Admit
-pub mod Loaded

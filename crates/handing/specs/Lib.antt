@@ -1,3 +1,0 @@
--- Definitions and statements.
-pub mod Handing
-pub mod Shown

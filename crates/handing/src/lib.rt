@@ -1,1 +1,0 @@
-// What an opening hands back: definitions and laws, no code.

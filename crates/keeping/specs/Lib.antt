@@ -1,4 +1,0 @@
--- Definitions and statements.
-pub mod Keeping
-pub mod Living
-pub mod MailSteps

@@ -1,3 +1,0 @@
--- The laws of the line reader.
-pub mod TurnLaws
-pub mod Local

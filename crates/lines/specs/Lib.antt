@@ -1,2 +1,0 @@
--- The definitions of the line reader.
-pub mod Lines

@@ -1,4 +1,0 @@
--- Definitions and statements.
-pub mod Mailboxes
-pub mod Operations
-pub mod Examples

@@ -1,5 +1,0 @@
--- Laws of the places.
-pub mod Totals
-pub mod Through
-pub mod Moves
-pub mod Steps

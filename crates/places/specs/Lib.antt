@@ -1,2 +1,0 @@
--- Definitions and statements.
-pub mod Places

@@ -1,0 +1,12 @@
+-- `words::seed` meets its contract: its words mean that place. Assumes nothing.
+use Rattle.points.specs.Words.{pointKindOf, atKindOf, atOf}
+use mathlib.Core.Path.{refl}
+use Rattle.points.proofs.words.seed.Statement.{statement}
+use Rattle.points.proofs.words.seed.Tie as tie
+
+returns : tie.Need-returns
+unfolding atOf atKindOf pointKindOf
+returns c = refl
+
+pub seed-spec : {M : Type 1} → statement M
+seed-spec = tie.close (tie.spec returns)

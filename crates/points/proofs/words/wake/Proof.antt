@@ -1,0 +1,12 @@
+-- `words::wake` meets its contract: its words mean that place. Assumes nothing.
+use Rattle.points.specs.Words.{pointKindOf, atKindOf, atOf}
+use mathlib.Core.Path.{refl}
+use Rattle.points.proofs.words.wake.Statement.{statement}
+use Rattle.points.proofs.words.wake.Tie as tie
+
+returns : tie.Need-returns
+unfolding atOf atKindOf pointKindOf
+returns c = refl
+
+pub wake-spec : {M : Type 1} → statement M
+wake-spec = tie.close (tie.spec returns)

@@ -1,0 +1,3 @@
+-- Definitions and statements.
+pub mod At
+pub mod Words

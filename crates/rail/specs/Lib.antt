@@ -1,4 +1,0 @@
--- Definitions and statements.
-pub mod Rail
-pub mod Refusals
-pub mod Stopping

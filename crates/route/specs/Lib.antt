@@ -1,0 +1,4 @@
+-- Definitions and statements.
+pub mod Seed
+pub mod Intake
+pub mod Batch

@@ -1,4 +1,0 @@
--- Definitions and statements.
-pub mod Seed
-pub mod Intake
-pub mod Route

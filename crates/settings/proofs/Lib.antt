@@ -1,0 +1,2 @@
+-- Laws of the settings and the tables.
+pub mod Loops

@@ -1,0 +1,3 @@
+-- Definitions and statements.
+pub mod Ranges
+pub mod Tables

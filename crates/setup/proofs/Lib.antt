@@ -1,3 +1,0 @@
--- Laws of the setup.
-pub mod Loops
-pub mod Parts

@@ -1,0 +1,147 @@
+-- A group's ready list is popped, and each actor that has work is stepped once: its step begins at a question, or has
+-- ended.
+use mathlib.Core.Bool.{Bool, true, false, _&&_}
+use Prim.Native.Nat.{ℕ, _-_}
+use lib.Dec.{eqb}
+use lib.ListN.{set}
+use Rattle.lists.specs.declared.keys.Key.{Key}
+use Rattle.lists.specs.declared.keys.Key.the-variants as key
+use Rattle.lists.specs.Links.{pick, Table, lenOf, mailboxOf}
+use Rattle.lists.specs.KeyLists.{keysAt, frontOf, popFront}
+use Rattle.actor.specs.declared.state.Actor.{Actor}
+use Rattle.actor.specs.declared.state.Mode.{Mode}
+use Rattle.actor.specs.declared.state.Mode.the-variants as mode
+use Rattle.actor.specs.Actors.{actorAt, putActor, scheduledAs, beganStep}
+use Rattle.steps.specs.StepFixed.{FixedActors, fixedStart}
+use Rattle.steps.specs.StepEval.{EvalStarted, evalStart}
+use Rattle.points.specs.declared.at.At.{At}
+use Rattle.points.specs.declared.at.At.the-variants as at
+use Rattle.points.specs.declared.at.Ask.the-variants as asks
+use Rattle.points.specs.declared.at.Point.the-variants as point
+use Rattle.points.specs.declared.at.Cursor.{Cursor}
+use Rattle.points.specs.At.{nextGroup, readyAfter, evalAfter}
+use Rattle.group.specs.Roster.{Mailed, mailed, readyRow, slotOn, liveOf}
+use Rattle.tick.specs.declared.ready.Begun as words
+use Rattle.points.specs.Words.{atOf}
+
+-- where the turn stands then, and the new counts
+pub record Begun : Type 0 where
+  pub at : At
+  pub queued : ℕ
+  pub stepped : Bool
+
+-- the same of the words that code hands on
+abbrev pub begunOf : words.Begun → Begun
+begunOf w = record { at = atOf (w .at); queued = w .queued; stepped = w .stepped }
+
+-- what a ready list works on: lists of messages, keys, actors, how many messages are in mailboxes, and whether an
+-- actor was stepped in this turn
+pub record Readying : Type 0 where
+  pub links : Table
+  pub keys : Table
+  pub actors : Table
+  pub queued : ℕ
+  pub stepped : Bool
+
+abbrev pub readying : Table → Table → Table → ℕ → Bool → Readying
+readying t keys actors queued stepped =
+    record { links = t; keys = keys; actors = actors; queued = queued; stepped = stepped }
+
+pub record Started : Type 0 where
+  pub actors : Table
+  pub at : At
+
+pub record Stepping : Type 0 where
+  pub links : Table
+  pub actors : Table
+  pub begun : Begun
+
+pub record Readied : Type 0 where
+  pub links : Table
+  pub keys : Table
+  pub actors : Table
+  pub begun : Begun
+
+abbrev pub begunAt : At → ℕ → Bool → Begun
+begunAt a queued stepped = record { at = a; queued = queued; stepped = stepped }
+
+-- no work: an empty mailbox, and it ran and is not runnable
+unfoldable pub restsOf : Actor → ℕ → Bool
+restsOf a waiting = eqb waiting 0 && (pick (a .runnable) false (a .ran))
+
+abbrev pub startedFixed : Cursor → FixedActors → Started
+startedFixed c f = record { actors = f .actors; at = at.Asks (asks.Fixed c (f .ask)) }
+
+unfoldable pub beginFixed : Table → Cursor → ℕ → Started
+beginFixed actors c slot = startedFixed c (fixedStart actors slot)
+
+abbrev pub startedEval : Cursor → EvalStarted → Stepping
+startedEval c s =
+    record {
+      links = s .links;
+      actors = s .actors;
+      begun = begunAt (evalAfter c (s .step .next)) (s .step .queued) true;
+    }
+
+unfoldable pub beginEval : Table → Table → Cursor → ℕ → ℕ → Stepping
+beginEval t actors c slot queued = startedEval c (evalStart t actors slot queued)
+
+abbrev pub fixedBegun : Table → ℕ → Started → Stepping
+fixedBegun t queued s = record { links = t; actors = s .actors; begun = begunAt (s .at) queued true }
+
+abbrev pub beginBy : Mailed → Table → Cursor → ℕ → Mode → Stepping
+beginBy m actors c slot mode.Fixed = fixedBegun (m .links) (m .queued) (beginFixed actors c slot)
+beginBy m actors c slot mode.Eval = beginEval (m .links) actors c slot (m .queued)
+
+unfoldable pub beginStep : Table → Table → Cursor → ℕ → ℕ → Stepping
+beginStep t actors c slot queued =
+    beginBy (mailed t queued) (putActor actors slot (beganStep (actorAt actors slot))) c slot
+    (actorAt actors slot .mode)
+
+-- the actor is scheduled no more, and stepped if it has work
+abbrev pub unscheduled : Table → ℕ → Table
+unscheduled actors slot = putActor actors slot (scheduledAs (actorAt actors slot) false)
+
+unfoldable pub readyKey : Readying → Cursor → Stepping
+readyKey x c =
+    pick (liveOf (x .keys) (c .group) (c .key))
+    (pick (restsOf (actorAt (x .actors) (slotOn c)) (lenOf (x .links) (mailboxOf (slotOn c))))
+    (record {
+      links = x .links;
+      actors = unscheduled (x .actors) (slotOn c);
+      begun = begunAt (readyAfter c) (x .queued) (x .stepped);
+    })
+    (beginStep (x .links) (unscheduled (x .actors) (slotOn c)) c (slotOn c) (x .queued)))
+    (record { links = x .links; actors = x .actors; begun = begunAt (readyAfter c) (x .queued) (x .stepped) })
+
+abbrev pub readiedWith : Table → Stepping → Readied
+readiedWith keys s = record { links = s .links; keys = keys; actors = s .actors; begun = s .begun }
+
+abbrev pub wakeAfter : Readying → ℕ → ℕ → Readied
+wakeAfter x g clock =
+    record {
+      links = x .links;
+      keys = x .keys;
+      actors = x .actors;
+      begun = begunAt (at.Runs (point.Wake (nextGroup g) clock)) (x .queued) (x .stepped);
+    }
+
+-- the cursor of a key that is popped
+abbrev pub cursorAt : ℕ → ℕ → ℕ → ℕ → Cursor
+cursorAt g k clock pops = record { group = g; key = k; now = clock; pops = pops }
+
+abbrev pub popReady : Table → ℕ → Table
+popReady keys g = set keys (readyRow g) (popFront (keysAt keys (readyRow g)))
+
+abbrev pub readyPopped : Readying → ℕ → Readying
+readyPopped x g = readying (x .links) (popReady (x .keys) g) (x .actors) (x .queued) (x .stepped)
+
+abbrev pub readyFront : Readying → ℕ → ℕ → ℕ → Key → Readied
+readyFront x g clock pops (key.At k) =
+    readiedWith (popReady (x .keys) g) (readyKey (readyPopped x g) (cursorAt g k clock (pops - 1)))
+readyFront x g clock pops key.Nothing = wakeAfter x g clock
+
+unfoldable pub readyOf : Readying → ℕ → ℕ → ℕ → Readied
+readyOf x g clock pops =
+    pick (eqb pops 0) (wakeAfter x g clock)
+    (readyFront x g clock pops (frontOf (keysAt (x .keys) (readyRow g))))
