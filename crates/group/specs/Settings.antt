@@ -19,7 +19,6 @@ groupOf c =
       eval = boolOf (getD c 1 0);
       timeout = getD c 2 0;
       retry = getD c 3 0;
-      «name_len» = getD c 4 0;
     }
 
 unfoldable pub groupAt : Table → ℕ → Group

@@ -6,7 +6,6 @@ ghost use Prim.Native.Nat.{_<_, _≤_};
 ghost use lib.ListN.{getD};
 ghost use Rattle.actor.specs.Actors.{boolOf};
 ghost use Rattle.group.specs.Settings.{
-  groupOf,
   groupAt,
   agrees,
   named,
@@ -19,7 +18,7 @@ use actor::message;
 use log::ENTRY;
 use log::NAME;
 
-// A group's row, as it is lent: the numbers of a `Group`, in order, and the 32 bytes of its name.
+// A group's row, as it is lent: the numbers of a `Group`, in order, the length of its name, and its 32 bytes.
 pub type GroupRow = [u64; 37];
 
 pub struct Group {
@@ -29,8 +28,6 @@ pub struct Group {
     // seconds
     pub timeout: u64,
     pub retry: u64,
-    // the length of its name
-    pub name_len: u64,
 }
 
 // The group that a message's name stands for.
@@ -45,40 +42,28 @@ fn bool_of(n: u64) -> bool
     if n == 0 { false } else { true }
 }
 
-fn group_of(c: GroupRow) -> Group
-    ensures { λ r. ⌜ r ≡ groupOf c ⌝ }
+// A cell of a group's row, past the table's end 0. It is read where it stands: a row has 296 bytes.
+fn cell_at(groups: &[GroupRow], g: usize, i: usize) -> u64
+    requires { ⌜ i < 37 ⌝ }
+    ensures { λ r. ⌜ r ≡ getD (getD (now (groups .entry)) g []) i 0 ⌝ }
 {
-    let eval = bool_of(c[1]);
-    Group {
-        ceiling: c[0],
-        eval,
-        timeout: c[2],
-        retry: c[3],
-        name_len: c[4],
-    }
-}
-
-fn no_group() -> Group
-    ensures { λ r. ⌜ r ≡ groupOf [] ⌝ }
-{
-    Group {
-        ceiling: 0,
-        eval: false,
-        timeout: 0,
-        retry: 0,
-        name_len: 0,
-    }
+    if g < groups.len() { groups[g][i] } else { 0 }
 }
 
 // A row of the table, past its end an empty one.
 pub fn group_at(groups: &[GroupRow], g: usize) -> Group
     ensures { λ r. ⌜ r ≡ groupAt (now (groups .entry)) g ⌝ }
 {
-    if g < groups.len() {
-        let c = groups[g];
-        group_of(c)
-    } else {
-        no_group()
+    let ceiling = cell_at(groups, g, 0);
+    let tag = cell_at(groups, g, 1);
+    let eval = bool_of(tag);
+    let timeout = cell_at(groups, g, 2);
+    let retry = cell_at(groups, g, 3);
+    Group {
+        ceiling,
+        eval,
+        timeout,
+        retry,
     }
 }
 
@@ -87,14 +72,6 @@ fn byte_at(store: &[u8], i: usize) -> u8
     ensures { λ r. ⌜ r ≡ getD (now (store .entry)) i 0 ⌝ }
 {
     if i < store.len() { store[i] } else { 0 }
-}
-
-// A cell of a group's row, past the table's end 0. It is read where it stands: a row has 296 bytes.
-fn cell_at(groups: &[GroupRow], g: usize, i: usize) -> u64
-    requires { ⌜ i < 37 ⌝ }
-    ensures { λ r. ⌜ r ≡ getD (getD (now (groups .entry)) g []) i 0 ⌝ }
-{
-    if g < groups.len() { groups[g][i] } else { 0 }
 }
 
 // Whether a group's name has the n bytes of the store, or of a name by itself, from `from` on.

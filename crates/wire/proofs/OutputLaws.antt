@@ -1,4 +1,4 @@
--- Laws of texts poured one behind the other: what becomes of one text, and one row of a table after another.
+-- Laws of texts written one behind the other: what becomes of one text, and one row of a table after another.
 use mathlib.Core.Path.{_≡_, ap, sym, _∙_}
 use mathlib.Core.Bool.{true, false}
 use mathlib.Core.List.{List, [], _∷_}
