@@ -71,7 +71,7 @@ use Rattle.text.proofs.lines.next as next
 use Rattle.text.proofs.lines.next.Symbol as next-def
 use Rattle.text.proofs.lines.next.Symbol.{name as #next}
 use Rattle.text.proofs.lines.next.Met as next-thm
-use Rattle.log.specs.Scan.{begun, CanTake, TookNextLine, Scanned}
+use Rattle.log.specs.Scan.{passBegun, CanTake, TookNextLine, Scanned}
 use Rattle.log.specs.declared.opening.Passing.{Passing}
 use Rattle.log.specs.declared.opening.Taken.{Taken}
 use Rattle.log.proofs.Again.{LentAgain, lends-again, comes-back}
@@ -213,7 +213,7 @@ w('-- `begin`')
 w('use0 W (raw (The-begin 𝓤 H A at-mem run .pre to-begin)) goes-begin $ calls-at ! fm (The-begin 𝓤 H A at-mem run) known-begin to-begin (no-more !) (λ u′.')
 k.put('pre')
 w('use1 W (later (some (λ (r′ : Passing). (‵ ftrue ⊛ ‵ (P.the-row .own r′ (u′ ∷ []))) ⊛ raw (ensured 𝓤 H A begin.ended (begin.clauses 𝓤 H A at-mem run) tt tt tt r′)))) (id⊢ 𝓤 _) $ await ! tt $ pick ! (λ r′.')
-w('split ! $ move ! (1 ∷ []) $ use1 W (raw (fact 𝓤 (r′ ≡ begun))) (begin-said r′) $ heard ! (r′ ≡ begun) (λ e′. split ! $ drop ! $')
+w('split ! $ move ! (1 ∷ []) $ use1 W (raw (fact 𝓤 (r′ ≡ passBegun))) (begin-said r′) $ heard ! (r′ ≡ passBegun) (λ e′. split ! $ drop ! $')
 k.take(1, 'ownp')
 w('peeks ! P.the-row (Is P.the-row) (shows 𝓤 H A P.the-row) r′ (u′ ∷ []) (λ isp. drop ! $ let toldp = LL.tells P.the-type P′.the-laws r′ (u′ ∷ []) isp in')
 k.take(1)
@@ -351,8 +351,8 @@ module _ {mod} (W : Given 𝓤 H A) (at-mem : Memory → SProp 𝓤) (run : Rout
   goes-begin : ent 𝓤 (emp 𝓤) (The-begin 𝓤 H A at-mem run .pre to-begin)
   goes-begin = qed W [] ∵ nothing ! $ nothing ! $ nothing ! $ move ! (1 ∷ 0 ∷ []) $ join ! $ frame ! $ done !
 
-  begin-said : (r : Passing) → ent 𝓤 (ensured 𝓤 H A begin.ended (begin.clauses 𝓤 H A at-mem run) tt tt tt r) (fact 𝓤 (r ≡ begun))
-  begin-said r = exE 𝓤 _ (λ ws. snd∗ 𝓤 (sem 𝓤 H A (lasts begin.ended tt tt ws)) (fact 𝓤 (r ≡ begun)))
+  begin-said : (r : Passing) → ent 𝓤 (ensured 𝓤 H A begin.ended (begin.clauses 𝓤 H A at-mem run) tt tt tt r) (fact 𝓤 (r ≡ passBegun))
+  begin-said r = exE 𝓤 _ (λ ws. snd∗ 𝓤 (sem 𝓤 H A (lasts begin.ended tt tt ws)) (fact 𝓤 (r ≡ passBegun)))
 
   -- the call of `next`, at the local at l, lent for a ∷ κ1 under the name δ
   abbrev lent : ℕ → ℕ → GName → RefT Lines

@@ -17,7 +17,7 @@ use Rattle.actor.specs.declared.state.Wake.the-variants as wake
 use Rattle.actor.specs.declared.state.EvalRun.{EvalRun}
 use Rattle.actor.specs.declared.state.EvalRun.the-variants as run
 use Rattle.actor.specs.declared.state.Actor.{Actor}
-use Rattle.actor.specs.Actors.{modeOf, boolOf, wakeOf, runOf, actorOf, flagOnto, modeOnto, wakeTagOnto}
+use Rattle.actor.specs.Actors.{modeOf, boolOf, wakeTimeOf, evalRunOf, actorOf, flagOnto, modeOnto, wakeTagOnto}
 use Rattle.actor.specs.Actors.{wakeNumberOnto, runTagOnto, runNumberOnto, actorOnto, flagged, numbered}
 use Rattle.actor.specs.Actors.{unnumbered, blockedCells, wokenCells, putActor}
 use Rattle.actor.specs.Actors.{deliveredTo, scheduledAs, beganStep, startedAs, idledAs, consumedAs, yieldedAs}
@@ -40,31 +40,31 @@ mode-own n = go (ℕ-discrete n 0)
     go (no e) = simp (ne-eqb n 0 e)
 
 module _ (tag n : ℕ) where
-  wake-tag-own : wakeTagOnto tag (wakeOf tag n) ≡ tag
+  wake-tag-own : wakeTagOnto tag (wakeTimeOf tag n) ≡ tag
   wake-tag-own = go (ℕ-discrete tag 0)
     where
-      go : Dec (tag ≡ 0) → wakeTagOnto tag (wakeOf tag n) ≡ tag
+      go : Dec (tag ≡ 0) → wakeTagOnto tag (wakeTimeOf tag n) ≡ tag
       go (yes e) = simp (eq-eqb tag 0 e) (sym e)
       go (no e) = simp (ne-eqb tag 0 e)
 
-  wake-number-own : wakeNumberOnto tag n (wakeOf tag n) ≡ n
+  wake-number-own : wakeNumberOnto tag n (wakeTimeOf tag n) ≡ n
   wake-number-own = go (ℕ-discrete tag 0)
     where
-      go : Dec (tag ≡ 0) → wakeNumberOnto tag n (wakeOf tag n) ≡ n
+      go : Dec (tag ≡ 0) → wakeNumberOnto tag n (wakeTimeOf tag n) ≡ n
       go (yes e) = simp (eq-eqb tag 0 e)
       go (no e) = simp (ne-eqb tag 0 e)
 
-  run-tag-own : runTagOnto tag (runOf tag n) ≡ tag
+  run-tag-own : runTagOnto tag (evalRunOf tag n) ≡ tag
   run-tag-own = go (ℕ-discrete tag 0)
     where
-      go : Dec (tag ≡ 0) → runTagOnto tag (runOf tag n) ≡ tag
+      go : Dec (tag ≡ 0) → runTagOnto tag (evalRunOf tag n) ≡ tag
       go (yes e) = simp (eq-eqb tag 0 e) (sym e)
       go (no e) = simp (ne-eqb tag 0 e)
 
-  run-number-own : runNumberOnto tag n (runOf tag n) ≡ n
+  run-number-own : runNumberOnto tag n (evalRunOf tag n) ≡ n
   run-number-own = go (ℕ-discrete tag 0)
     where
-      go : Dec (tag ≡ 0) → runNumberOnto tag n (runOf tag n) ≡ n
+      go : Dec (tag ≡ 0) → runNumberOnto tag n (evalRunOf tag n) ≡ n
       go (yes e) = simp (eq-eqb tag 0 e)
       go (no e) = simp (ne-eqb tag 0 e)
 
@@ -88,11 +88,11 @@ mode-back : (n : ℕ) (m : Mode) → modeOf (modeOnto n m) ≡ m
 mode-back n mode.Fixed = refl
 mode-back n mode.Eval = rw (raised n)
 
-wake-back : (tag n : ℕ) (w : Wake) → wakeOf (wakeTagOnto tag w) (wakeNumberOnto tag n w) ≡ w
+wake-back : (tag n : ℕ) (w : Wake) → wakeTimeOf (wakeTagOnto tag w) (wakeNumberOnto tag n w) ≡ w
 wake-back tag n (wake.At ns) = rw (raised tag)
 wake-back tag n wake.Never = refl
 
-run-back : (tag n : ℕ) (r : EvalRun) → runOf (runTagOnto tag r) (runNumberOnto tag n r) ≡ r
+run-back : (tag n : ℕ) (r : EvalRun) → evalRunOf (runTagOnto tag r) (runNumberOnto tag n r) ≡ r
 run-back tag n (run.Until ns) = rw (raised tag)
 run-back tag n run.Nothing = refl
 

@@ -29,8 +29,8 @@ abbrev pub flagCell : Bool → ℕ
 flagCell true = 1
 flagCell false = 0
 
-abbrev pub wakeOf : ℕ → ℕ → Wake
-wakeOf tag ns = pick (eqb tag 0) wake.Never (wake.At ns)
+abbrev pub wakeTimeOf : ℕ → ℕ → Wake
+wakeTimeOf tag ns = pick (eqb tag 0) wake.Never (wake.At ns)
 
 abbrev pub wakeTag : Wake → ℕ
 wakeTag (wake.At ns) = 1
@@ -40,8 +40,8 @@ abbrev pub wakeNumber : Wake → ℕ
 wakeNumber (wake.At ns) = ns
 wakeNumber wake.Never = 0
 
-abbrev pub runOf : ℕ → ℕ → EvalRun
-runOf tag ns = pick (eqb tag 0) run.Nothing (run.Until ns)
+abbrev pub evalRunOf : ℕ → ℕ → EvalRun
+evalRunOf tag ns = pick (eqb tag 0) run.Nothing (run.Until ns)
 
 abbrev pub runTag : EvalRun → ℕ
 runTag (run.Until ns) = 1
@@ -62,8 +62,8 @@ actorOf c =
       scheduled = boolOf (getD c 5 0);
       blocked = boolOf (getD c 6 0);
       consumed = boolOf (getD c 7 0);
-      «wake_at» = wakeOf (getD c 8 0) (getD c 9 0);
-      run = runOf (getD c 10 0) (getD c 11 0);
+      «wake_at» = wakeTimeOf (getD c 8 0) (getD c 9 0);
+      run = evalRunOf (getD c 10 0) (getD c 11 0);
     }
 
 unfoldable pub actorCells : Actor → List ℕ

@@ -6,7 +6,7 @@ ghost use mathlib.Core.Path.{_≡_};
 ghost use mathlib.Core.List.{[]};
 ghost use lib.ListN.{getD, set};
 ghost use Prim.Native.Nat.{_<_};
-ghost use Rattle.actor.specs.Actors.{modeOf, boolOf, wakeOf, runOf, modeOnto, keptNumber, flagged};
+ghost use Rattle.actor.specs.Actors.{modeOf, boolOf, wakeTimeOf, evalRunOf, modeOnto, keptNumber, flagged};
 ghost use Rattle.actor.specs.Actors.{numbered, unnumbered, blockedCells, wokenCells, actorAt, putActor};
 ghost use Rattle.actor.specs.Actors.{newActor, deliveredTo, scheduledAs, beganStep, startedAs, idledAs};
 ghost use Rattle.actor.specs.Actors.{consumedAs, runningTo, blockedTo, yieldedAs, wokenAs, deadlineOf, hasRun};
@@ -67,13 +67,13 @@ fn bool_of(n: u64) -> bool
 }
 
 fn wake_of(tag: u64, ns: u64) -> Wake
-    ensures { λ r. ⌜ r ≡ wakeOf tag ns ⌝ }
+    ensures { λ r. ⌜ r ≡ wakeTimeOf tag ns ⌝ }
 {
     if tag == 0 { Wake::Never } else { Wake::At(ns) }
 }
 
 fn run_of(tag: u64, ns: u64) -> EvalRun
-    ensures { λ r. ⌜ r ≡ runOf tag ns ⌝ }
+    ensures { λ r. ⌜ r ≡ evalRunOf tag ns ⌝ }
 {
     if tag == 0 {
         EvalRun::Nothing

@@ -26,7 +26,7 @@ use Rattle.answers.specs.Numbers.{flagNumber, outcomeNumber, numbersOf, 
 -- ---- refusals
 
 -- the log's number of a refusal and the pool's are the same
-pub log-number : (r : of-log.Refusal) → numberOf (logRefusal r) ≡ log.numberOf r
+pub log-number : (r : of-log.Refusal) → numberOf (logRefusal r) ≡ log.logNumberOf r
 log-number logged.Sizes = refl
 log-number logged.LastId = refl
 log-number logged.TooMuch = refl

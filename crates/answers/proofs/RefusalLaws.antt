@@ -17,7 +17,7 @@ use Rattle.answers.specs.declared.answer.Refusal.{Refusal}
 use Rattle.answers.specs.declared.refusals.Check.{Check}
 use Rattle.answers.specs.declared.refusals.Check.the-variants as check
 use Rattle.answers.specs.Answers.{Did, refused}
-use Rattle.answers.specs.Refusals.{Line, judged, byTable, fitsIn}
+use Rattle.answers.specs.Refusals.{RefusalLine, judged, byTable, fitsIn}
 
 module _ (s : State) (table : Check) (effect did : Did) (t : Check) (is : t ≡ table) where
   -- as the table says, t, it is refused with r
@@ -39,7 +39,8 @@ line-refuses : (b : Bool) (own : Refusal) (x y : Check) (r : Refusal) → (y ≡
 line-refuses true own x y r h e = e
 line-refuses false own x y r h e = h e
 
-pub first-refuses : (a b : List Line) (r : Refusal) → judged a ≡ check.Refuse r → judged (a ++ b) ≡ check.Refuse r
+pub first-refuses : (a b : List RefusalLine) (r : Refusal) → judged a ≡ check.Refuse r
+    → judged (a ++ b) ≡ check.Refuse r
 unfolding judged
 first-refuses [] b r says = let z : _≡_ {A = ℕ} 0 1 = ap isRefusal says in absurd (omega arith)
 first-refuses (l ∷ ls) b r says =
@@ -50,7 +51,7 @@ line-fine : (b : Bool) (own : Refusal) (x y z : Check) → (y ≡ check.Fine →
 line-fine true own x y z h e = let z : _≡_ {A = ℕ} 1 0 = ap isRefusal e in absurd (omega arith)
 line-fine false own x y z h e = h e
 
-pub first-fine : (a b : List Line) → judged a ≡ check.Fine → judged (a ++ b) ≡ judged b
+pub first-fine : (a b : List RefusalLine) → judged a ≡ check.Fine → judged (a ++ b) ≡ judged b
 unfolding judged
 first-fine [] b says = refl
 first-fine (l ∷ ls) b says =
@@ -59,7 +60,7 @@ first-fine (l ∷ ls) b says =
 -- ---- a table that refuses nothing
 
 -- no line holds
-abbrev pub Clear : List Line → Type 0
+abbrev pub Clear : List RefusalLine → Type 0
 Clear [] = 0 ≤ 0
 Clear (l ∷ ls) = (l .holds ≡ false) × Clear ls
 
@@ -68,7 +69,7 @@ line-clear : (b : Bool) (own : Refusal) (rest : Check) → pick b (check.Refuse 
 line-clear true own rest says = let z : _≡_ {A = ℕ} 1 0 = ap isRefusal says in absurd (omega arith)
 line-clear false own rest says = (refl, says)
 
-pub fine-clear : (ls : List Line) → judged ls ≡ check.Fine → Clear ls
+pub fine-clear : (ls : List RefusalLine) → judged ls ≡ check.Fine → Clear ls
 unfolding judged
 fine-clear [] says = omega arith
 fine-clear (l ∷ ls) says =

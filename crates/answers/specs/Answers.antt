@@ -57,14 +57,14 @@ unfoldable pub shown : State → Did
 shown s = record { state = s; answer = answer.Open (openIn s) }
 
 -- a message that comes is kept in the first free entry, at the end of a list
-abbrev pub messagesOf : State → Messages
-messagesOf s = record { store = s .store; links = s .links; rows = s .rows }
+abbrev pub messagesIn : State → Messages
+messagesIn s = record { store = s .store; links = s .links; rows = s .rows }
 
 abbrev pub withMessages : State → Messages → State
 withMessages s m = withRows (withLinks (withStore s (m .store)) (m .links)) (m .rows)
 
 abbrev pub kept : State → Arrival → ℕ → State
-kept s a to = withMessages s (keepOf (messagesOf s) a to)
+kept s a to = withMessages s (keepOf (messagesIn s) a to)
 
 -- ---- what the words of an answer mean: what is open is told by the pool, the lists and the rows
 

@@ -39,15 +39,15 @@ use Rattle.answers.specs.Answers.{Did, refused}
 -- ---- a table
 
 -- a line: where this holds, the call is refused with that
-pub record Line : Type 0 where
+pub record RefusalLine : Type 0 where
   pub holds : Bool
   pub refusal : Refusal
 
-abbrev pub when : Bool → Refusal → Line
+abbrev pub when : Bool → Refusal → RefusalLine
 when b r = record { holds = b; refusal = r }
 
 -- the first line that holds
-unfoldable pub judged : List Line → Check
+unfoldable pub judged : List RefusalLine → Check
 judged [] = check.Fine
 judged (l ∷ ls) = pick (l .holds) (check.Refuse (l .refusal)) (judged ls)
 
@@ -159,7 +159,7 @@ abbrev pub logSized : Lent → Bool
 logSized l = sized (length (l .bytes)) (l .size) (length (l .store)) (length (l .records)) RECORDS
 
 -- the lines that need nothing of the file ..
-unfoldable pub openRefusalsFirst : Lent → List Line
+unfoldable pub openRefusalsFirst : Lent → List RefusalLine
 openRefusalsFirst l =
     when (not (settingsFit (l .settings) (l .groupsGiven))) refusal.Setting
     ∷ when (not (tablesFit l)) refusal.Sizes
@@ -167,7 +167,7 @@ openRefusalsFirst l =
 
 -- .. and those of the log: a record has the last id, so that there is no next one; more than 256 messages are left,
 -- or one is too long
-unfoldable pub openRefusalsLogged : Lent → List Line
+unfoldable pub openRefusalsLogged : Lent → List RefusalLine
 openRefusalsLogged l =
     when (not (logSized l)) refusal.Sizes
     ∷ when (not (ltb (readFile (fileIn l) .next) (2 ^ 64))) refusal.LastId
@@ -175,13 +175,13 @@ openRefusalsLogged l =
     refusal.TooMuch
     ∷ []
 
-abbrev pub openRefusals : Lent → List Line
+abbrev pub openRefusals : Lent → List RefusalLine
 openRefusals l = openRefusalsFirst l ++ openRefusalsLogged l
 
 -- ---- admit
 
 -- the lines that need nothing of the log ..
-unfoldable pub admitRefusalsFirst : State → List ℕ → List ℕ → List Line
+unfoldable pub admitRefusalsFirst : State → List ℕ → List ℕ → List RefusalLine
 admitRefusalsFirst s name body =
     when (isFailed (s .pool .turn .disk)) refusal.StoreFailed
     ∷ when (isWaiting (s .pool .turn .disk)) refusal.OrderWaits
@@ -193,19 +193,19 @@ admitRefusalsFirst s name body =
     ∷ []
 
 -- .. and those of a message that is logged
-unfoldable pub admitRefusalsLogged : State → List ℕ → List ℕ → Caller → List Line
+unfoldable pub admitRefusalsLogged : State → List ℕ → List ℕ → Caller → List RefusalLine
 admitRefusalsLogged s name body who =
     when (isLogged who && noRowFree s) refusal.TooMany
     ∷ when (isLogged who && noIdLeft s) refusal.NoId
     ∷ when (isLogged who && noRoomLeft s name body) refusal.NoRoom
     ∷ []
 
-abbrev pub admitRefusals : State → List ℕ → List ℕ → Caller → List Line
+abbrev pub admitRefusals : State → List ℕ → List ℕ → Caller → List RefusalLine
 admitRefusals s name body who = admitRefusalsFirst s name body ++ admitRefusalsLogged s name body who
 
 -- ---- turn, reply, sync, close
 
-unfoldable pub turnRefusals : Pool → List Line
+unfoldable pub turnRefusals : Pool → List RefusalLine
 turnRefusals p =
     when (isFailed (p .turn .disk)) refusal.StoreFailed
     ∷ when (isWaiting (p .turn .disk)) refusal.OrderWaits
@@ -213,24 +213,24 @@ turnRefusals p =
     ∷ []
 
 -- of a message that was sent, if one was, with this name and body
-abbrev pub sentRefusals : Bool → Table → List ℕ → List ℕ → List Line
+abbrev pub sentRefusals : Bool → Table → List ℕ → List ℕ → List RefusalLine
 sentRefusals message t name body =
     when (message && tooLong name body) refusal.TooLong ∷ when (message && noEntryFree t) refusal.TooMany ∷ []
 
-unfoldable pub replyRefusals : State → Reply → List ℕ → List ℕ → List Line
+unfoldable pub replyRefusals : State → Reply → List ℕ → List ℕ → List RefusalLine
 replyRefusals s r name body =
     when (isFailed (s .pool .turn .disk)) refusal.StoreFailed
     ∷ when (not (fitsIn (openIn s) r)) refusal.NoFit
     ∷ sentRefusals (isMessage r) (s .links) name body
 
-unfoldable pub syncRefusals : Pool → List Line
+unfoldable pub syncRefusals : Pool → List RefusalLine
 syncRefusals p =
     when (isFailed (p .turn .disk)) refusal.StoreFailed
     ∷ when (isWaiting (p .turn .disk)) refusal.OrderWaits
     ∷ []
 
 -- as sync
-abbrev pub closeRefusals : Pool → List Line
+abbrev pub closeRefusals : Pool → List RefusalLine
 closeRefusals p = syncRefusals p
 
 -- ---- what holds of each call

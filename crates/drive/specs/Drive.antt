@@ -32,25 +32,25 @@ settingsIn s = record {
 }
 
 -- 0 nobody, any other number a caller
-unfoldable pub callerIn : ℕ → ℕ → Caller
-callerIn who id = pick (eqb who 0) caller.Nobody (caller.From (record { 0 = id }))
+unfoldable pub drivenCaller : ℕ → ℕ → Caller
+drivenCaller who id = pick (eqb who 0) caller.Nobody (caller.From (record { 0 = id }))
 
 -- the numbers of docs/PROTOCOL.md; one that stands for nothing there is the last of them
-unfoldable pub statusIn : ℕ → Status
-statusIn v =
+unfoldable pub drivenStatus : ℕ → Status
+drivenStatus v =
     pick (eqb v 0) status.Done
     (pick (eqb v 1) status.Exit
     (pick (eqb v 2) status.Preempted
     (pick (eqb v 3) status.Event (pick (eqb v 4) status.HostCall (pick (eqb v 5) status.Error status.Broke)))))
 
 -- the same; 5, a message, has texts, and is none here
-unfoldable pub replyIn : ℕ → ℕ → Reply
-replyIn k v =
+unfoldable pub drivenReply : ℕ → ℕ → Reply
+drivenReply k v =
     pick (eqb k 0) reply.No
     (pick (eqb k 1) reply.Yes
     (pick (eqb k 2) (reply.Clock v)
     (pick (eqb k 3) (reply.Count v)
-    (pick (eqb k 4) (reply.Ran (statusIn v))
+    (pick (eqb k 4) (reply.Ran (drivenStatus v))
     (pick (eqb k 6) reply.End (pick (eqb k 7) reply.Told (pick (eqb k 8) reply.Stored reply.Failed)))))))
 
 -- ---- what is shown

@@ -10,7 +10,15 @@ ghost use Rattle.answers.specs.Answers.{answerOf};
 ghost use Rattle.pool.specs.Open.{openOf};
 ghost use Rattle.pool.specs.Admit.{admitOf};
 ghost use Rattle.pool.specs.Calls.{turnOf, replyOf};
-ghost use Rattle.drive.specs.Drive.{settingsIn, callerIn, statusIn, replyIn, entryNumber, shownBy, driven};
+ghost use Rattle.drive.specs.Drive.{
+  settingsIn,
+  drivenCaller,
+  drivenStatus,
+  drivenReply,
+  entryNumber,
+  shownBy,
+  driven,
+};
 use actor::message::Caller;
 use actor::message::CallerId;
 use actor::message::MessageRow;
@@ -59,7 +67,7 @@ fn settings_in(s: &[u64; 5]) -> Settings
 
 // 0 nobody, any other number the caller with this id.
 fn caller_in(who: u64, id: u64) -> Caller
-    ensures { λ r. ⌜ r ≡ callerIn who id ⌝ }
+    ensures { λ r. ⌜ r ≡ drivenCaller who id ⌝ }
 {
     if who == 0 {
         return Caller::Nobody;
@@ -69,7 +77,7 @@ fn caller_in(who: u64, id: u64) -> Caller
 
 // The numbers of docs/PROTOCOL.md; one that stands for nothing there is the last of them.
 fn status_in(value: u64) -> Status
-    ensures { λ r. ⌜ r ≡ statusIn value ⌝ }
+    ensures { λ r. ⌜ r ≡ drivenStatus value ⌝ }
 {
     if value == 0 {
         return Status::Done;
@@ -94,7 +102,7 @@ fn status_in(value: u64) -> Status
 
 // The same; 5, a message, has texts, and is none here.
 fn reply_in(kind: u64, value: u64) -> Reply
-    ensures { λ r. ⌜ r ≡ replyIn kind value ⌝ }
+    ensures { λ r. ⌜ r ≡ drivenReply kind value ⌝ }
 {
     if kind == 0 {
         return Reply::No;
@@ -257,7 +265,7 @@ pub extern "C" fn drive_admit(
           keys = keys;
           actors = actors;
         })
-        (now (name .entry)) (now (body .entry)) (callerIn who id)))
+        (now (name .entry)) (now (body .entry)) (drivenCaller who id)))
         ⌝ }
 {
     let caller = caller_in(who, id);
@@ -363,7 +371,7 @@ pub extern "C" fn drive_reply(
           keys = now (keys .entry);
           actors = now (actors .entry);
         })
-        (replyIn kind value) [] [])
+        (drivenReply kind value) [] [])
         ⌝ }
 {
     let reply = reply_in(kind, value);

@@ -15,7 +15,7 @@ use lib.Seq.{take-all, take-take, take-append-le, take-suc-set, length-take-le}
 use Rattle.lists.specs.Links.{pick, KEYS}
 use Rattle.lists.specs.Family.{count}
 use Rattle.lists.specs.KeyLists.{blankRow, countOf, keysOf, Held, elem, movedLast, holdsOf, popFront}
-use Rattle.lists.specs.KeyLists.{popEnd, appendOf, addAbsent, squeezeOf, pushOf, withKey, firstsFrom}
+use Rattle.lists.specs.KeyLists.{popEnd, keyAppended, addAbsent, squeezeOf, pushOf, withKey, firstsFrom}
 use Rattle.lists.specs.KeyLists.{firsts, pushed}
 use Rattle.lists.proofs.Counts.{count-append, count-same}
 
@@ -94,17 +94,17 @@ pop-end-held (suc n ∷ ks) held =
     rw (ne-eqb (suc n) 0 (λ z. omega arith)) (record { sized = held .sized; few = omega (arith, held .few) })
 
 -- a key joins a list that is not full
-pub append-is : (c : List ℕ) (k : ℕ) → Held c → countOf c < 64 → keysOf (appendOf c k) ≡ keysOf c ++ (k ∷ [])
-unfolding appendOf
+pub append-is : (c : List ℕ) (k : ℕ) → Held c → countOf c < 64 → keysOf (keyAppended c k) ≡ keysOf c ++ (k ∷ [])
+unfolding keyAppended
 append-is [] k held room = absurd (omega (arith, held .sized))
 append-is (n ∷ ks) k held room = rw (lt-ltb n 64 room, add-one n) (take-suc-set ks n k (omega (arith, held .sized)))
 
-pub append-held : (c : List ℕ) (k : ℕ) → Held c → Held (appendOf c k)
-unfolding appendOf
+pub append-held : (c : List ℕ) (k : ℕ) → Held c → Held (keyAppended c k)
+unfolding keyAppended
 append-held [] k held = absurd (omega (arith, held .sized))
 append-held (n ∷ ks) k held = go (decLt n 64)
   where
-    go : Dec (n < 64) → Held (appendOf (n ∷ ks) k)
+    go : Dec (n < 64) → Held (keyAppended (n ∷ ks) k)
     go (yes room) = rw (lt-ltb n 64 room, add-one n) (record {
       sized = omega (arith, held .sized, length-set ks n k);
       few = omega arith;
@@ -234,7 +234,7 @@ module _ (c : List ℕ) (k : ℕ) (single : Single c) where
   unfolding addAbsent holdsOf withKey
   add-absent-is = go (elem k (keysOf c))
     where
-      go : (b : Bool) → keysOf (pick b c (appendOf c k)) ≡ pick b (keysOf c) (keysOf c ++ (k ∷ []))
+      go : (b : Bool) → keysOf (pick b c (keyAppended c k)) ≡ pick b (keysOf c) (keysOf c ++ (k ∷ []))
       go true = refl
       go false = append-is c k (single .held) (omega (arith, single-few c single))
 
@@ -242,7 +242,7 @@ module _ (c : List ℕ) (k : ℕ) (single : Single c) where
   unfolding addAbsent
   add-absent-held = go (holdsOf c k)
     where
-      go : (b : Bool) → Held (pick b c (appendOf c k))
+      go : (b : Bool) → Held (pick b c (keyAppended c k))
       go true = single .held
       go false = append-held c k (single .held)
 

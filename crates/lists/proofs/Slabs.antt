@@ -15,8 +15,8 @@ use Rattle.lists.specs.declared.keys.Key.{Key}
 use Rattle.lists.specs.declared.keys.Key.the-variants.{At, Nothing}
 use Rattle.lists.specs.Links.{pick}
 use Rattle.lists.specs.Family.{count}
-use Rattle.lists.specs.KeyLists.{blankRow, countOf, keysOf, Held, elem, holdsOf, popEnd, appendOf}
-use Rattle.lists.specs.Slabs.{givenOf, containsOf, vacantOf, insertOf, removeOf, liveCount, nextKey, Sound}
+use Rattle.lists.specs.KeyLists.{blankRow, countOf, keysOf, Held, elem, holdsOf, popEnd, keyAppended}
+use Rattle.lists.specs.Slabs.{givenOf, containsOf, vacantOf, insertOf, removeOf, liveCount, nextKey, SlabSound}
 use Rattle.lists.proofs.Queues.{elem-count, elem-counted, elem-last, length-keys, pop-end-held, append-is}
 use Rattle.lists.proofs.Queues.{append-held, at-most, count-joined, count-alone, count-itself}
 
@@ -36,11 +36,11 @@ elem-other j k (x ∷ xs) other = rw (elem-other j k xs other)
 
 -- ---- the row
 
-pub sound-held : (s : List ℕ) → Sound s → Held s
+pub sound-held : (s : List ℕ) → SlabSound s → Held s
 sound-held s sound = record { sized = sound .sized; few = omega (arith, sound .few, sound .fewer) }
 
 -- no actor, and no key given yet
-pub sound-blank : Sound blankRow
+pub sound-blank : SlabSound blankRow
 unfolding count
 sound-blank = record {
   sized = refl;
@@ -74,8 +74,8 @@ given-pop s = go (eqb (countOf s) 0)
     go true = refl
     go false = getD-set-other s 0 64 (countOf s - 1) 0 (λ e. omega arith)
 
-given-append : (s : List ℕ) (k : ℕ) → countOf s < 63 → givenOf (appendOf s k) ≡ givenOf s
-unfolding appendOf
+given-append : (s : List ℕ) (k : ℕ) → countOf s < 63 → givenOf (keyAppended s k) ≡ givenOf s
+unfolding keyAppended
 given-append s k few =
     rw (lt-ltb (countOf s) 64 (omega arith))
     (getD-set-other (set s (countOf s + 1) k) 0 64 (countOf s + 1) 0 (λ e. omega arith)
@@ -121,7 +121,7 @@ same-live s r k given free = rw (given, free)
 -- ---- insert
 
 pub record Inserted (s : List ℕ) (k : ℕ) : Type 0 where
-  pub sound : Sound (insertOf s)
+  pub sound : SlabSound (insertOf s)
   pub low : k < 16
   pub was-free : containsOf s k ≡ false
   pub live : containsOf (insertOf s) k ≡ true
@@ -129,7 +129,7 @@ pub record Inserted (s : List ℕ) (k : ℕ) : Type 0 where
   pub counted : liveCount (insertOf s) ≡ liveCount s + 1
 
 -- no key is free: the next that never was one
-module _ (s : List ℕ) (sound : Sound s) (none : countOf s ≡ 0) (room : givenOf s < 16) where
+module _ (s : List ℕ) (sound : SlabSound s) (none : countOf s ≡ 0) (room : givenOf s < 16) where
   abbrev more : List ℕ
   more = set s 64 (givenOf s + 1)
 
@@ -176,7 +176,7 @@ module _ (s : List ℕ) (sound : Sound s) (none : countOf s ≡ 0) (room : given
       below j other (no p) = rw (le-ltb j (givenOf s) (omega arith), le-ltb j (givenOf s + 1) (omega arith))
 
 -- the last freed key
-module _ (s : List ℕ) (sound : Sound s) (some : 0 < countOf s) where
+module _ (s : List ℕ) (sound : SlabSound s) (some : 0 < countOf s) where
   abbrev freed : ℕ
   freed = getD s (countOf s) 0
 
@@ -246,7 +246,7 @@ module _ (s : List ℕ) (sound : Sound s) (some : 0 < countOf s) where
       }
 
 -- `vacant` tells a key, and `insert` gives it to an actor
-pub inserted-live : (s : List ℕ) → Sound s → (k : ℕ) → vacantOf s ≡ At k → Inserted s k
+pub inserted-live : (s : List ℕ) → SlabSound s → (k : ℕ) → vacantOf s ≡ At k → Inserted s k
 unfolding vacantOf
 inserted-live s sound k gives = go (ℕ-discrete (countOf s) 0) (decLt (givenOf s) 16)
   where
@@ -273,16 +273,16 @@ inserted-live s sound k gives = go (ℕ-discrete (countOf s) 0) (decLt (givenOf 
 -- ---- remove
 
 pub record Removed (s : List ℕ) (k : ℕ) : Type 0 where
-  pub sound : Sound (removeOf s k)
+  pub sound : SlabSound (removeOf s k)
   pub dead : containsOf (removeOf s k) k ≡ false
   pub others : (j : ℕ) → j ≢ k → containsOf (removeOf s k) j ≡ containsOf s j
   pub counted : liveCount (removeOf s k) + 1 ≡ liveCount s
   -- the last freed key is given first
   pub next : vacantOf (removeOf s k) ≡ At k
 
-module _ (s : List ℕ) (sound : Sound s) (k : ℕ) (live : containsOf s k ≡ true) where
+module _ (s : List ℕ) (sound : SlabSound s) (k : ℕ) (live : containsOf s k ≡ true) where
   abbrev less : List ℕ
-  less = appendOf s k
+  less = keyAppended s k
 
   held : Held s
   held = sound-held s sound
@@ -347,7 +347,7 @@ module _ (s : List ℕ) (sound : Sound s) (k : ℕ) (live : containsOf s k ≡ t
   remove-form = rw live
 
   less-last : getD less (countOf s + 1) 0 ≡ k
-  unfolding appendOf
+  unfolding keyAppended
   less-last =
       rw (
         lt-ltb (countOf s) 64 (omega (arith, sound .few, sound .fewer)),
@@ -388,7 +388,7 @@ module _ (s : List ℕ) (sound : Sound s) (k : ℕ) (live : containsOf s k ≡ t
       }
 
 -- the last freed key is given first
-pub last-freed-first : (s : List ℕ) → Sound s → (k : ℕ) → containsOf s k ≡ true → vacantOf (removeOf s k) ≡ At k
+pub last-freed-first : (s : List ℕ) → SlabSound s → (k : ℕ) → containsOf s k ≡ true → vacantOf (removeOf s k) ≡ At k
 last-freed-first s sound k live = removed-dead s sound k live .next
 
 -- ---- the walk
@@ -430,5 +430,5 @@ freed-two = removeOf (removeOf (insertOf (insertOf (insertOf blankRow))) 1) 0
 
 pub row-end-11 : (vacantOf freed-two ≡ At 0) × (vacantOf (insertOf freed-two) ≡ At 1)
     × (vacantOf (insertOf (insertOf freed-two)) ≡ At 3)
-unfolding vacantOf insertOf removeOf containsOf holdsOf popEnd appendOf elem
+unfolding vacantOf insertOf removeOf containsOf holdsOf popEnd keyAppended elem
 row-end-11 = (refl, refl, refl)

@@ -61,11 +61,11 @@ popFront c = pick (eqb (countOf c) 0) c (set (movedLast c 1 0) 0 (countOf c - 1)
 unfoldable pub popEnd : List ℕ → List ℕ
 popEnd c = pick (eqb (countOf c) 0) c (set c 0 (countOf c - 1))
 
-unfoldable pub appendOf : List ℕ → ℕ → List ℕ
-appendOf c k = pick (ltb (countOf c) FULL) (set (set c (countOf c + 1) k) 0 (countOf c + 1)) c
+unfoldable pub keyAppended : List ℕ → ℕ → List ℕ
+keyAppended c k = pick (ltb (countOf c) FULL) (set (set c (countOf c + 1) k) 0 (countOf c + 1)) c
 
 unfoldable pub addAbsent : List ℕ → ℕ → List ℕ
-addAbsent c k = pick (holdsOf c k) c (appendOf c k)
+addAbsent c k = pick (holdsOf c k) c (keyAppended c k)
 
 -- each of some keys is added unless it is there
 unfoldable pub squeezeOf : List ℕ → List ℕ → List ℕ
@@ -74,7 +74,7 @@ squeezeOf c (k ∷ ks) = squeezeOf (addAbsent c k) ks
 
 -- a full list first keeps only each key's first entry; then the key is added if absent
 unfoldable pub pushOf : List ℕ → ℕ → List ℕ
-pushOf c k = pick (ltb (countOf c) FULL) (appendOf c k) (addAbsent (squeezeOf blankRow (drop 1 c)) k)
+pushOf c k = pick (ltb (countOf c) FULL) (keyAppended c k) (addAbsent (squeezeOf blankRow (drop 1 c)) k)
 
 -- ---- the same of lists of keys
 

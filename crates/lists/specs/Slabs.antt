@@ -10,7 +10,7 @@ use Rattle.lists.specs.declared.keys.Key.{Key}
 use Rattle.lists.specs.declared.keys.Key.the-variants.{At, Nothing}
 use Rattle.lists.specs.Links.{pick, KEYS}
 use Rattle.lists.specs.Family.{count}
-use Rattle.lists.specs.KeyLists.{countOf, keysOf, lastOf, holdsOf, popEnd, appendOf}
+use Rattle.lists.specs.KeyLists.{countOf, keysOf, lastOf, holdsOf, popEnd, keyAppended}
 
 abbrev pub givenOf : List ℕ → ℕ
 givenOf s = getD s 64 0
@@ -27,7 +27,7 @@ unfoldable pub insertOf : List ℕ → List ℕ
 insertOf s = pick (eqb (countOf s) 0) (pick (ltb (givenOf s) KEYS) (set s 64 (givenOf s + 1)) s) (popEnd s)
 
 unfoldable pub removeOf : List ℕ → ℕ → List ℕ
-removeOf s k = pick (containsOf s k) (appendOf s k) s
+removeOf s k = pick (containsOf s k) (keyAppended s k) s
 
 abbrev pub liveCount : List ℕ → ℕ
 liveCount s = givenOf s - countOf s
@@ -37,7 +37,7 @@ unfoldable pub nextKey : List ℕ → ℕ → ℕ → Key
 nextKey s zero k = Nothing
 nextKey s (suc n) k = pick (containsOf s k) (At k) (nextKey s n (k + 1))
 
-pub record Sound (s : List ℕ) : Type 0 where
+pub record SlabSound (s : List ℕ) : Type 0 where
   pub sized : length s ≡ 65
   pub few : givenOf s ≤ KEYS
   pub fewer : countOf s ≤ givenOf s

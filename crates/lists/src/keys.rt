@@ -8,7 +8,7 @@
 ghost use mathlib.Core.Path.{_≡_};
 ghost use lib.ListN.{set, drop};
 ghost use Rattle.lists.specs.KeyLists.{blankRow, keysAt, countOf, frontOf, lastOf, holdsOf, movedLast, popFront};
-ghost use Rattle.lists.specs.KeyLists.{popEnd, appendOf, addAbsent, squeezeOf, pushOf};
+ghost use Rattle.lists.specs.KeyLists.{popEnd, keyAppended, addAbsent, squeezeOf, pushOf};
 
 // The most keys of a list.
 pub const FULL: u8 = 64;
@@ -110,7 +110,7 @@ pub fn pop_end_at(keys: &mut [KeyRow], i: usize)
 
 // A key joins at the end; a full list stays as it is.
 pub(crate) fn append_at(keys: &mut [KeyRow], i: usize, key: u8)
-    ensures { λ r. ⌜ now (keys .exit) ≡ set (now (keys .entry)) i (appendOf (keysAt (now (keys .entry)) i) key) ⌝ }
+    ensures { λ r. ⌜ now (keys .exit) ≡ set (now (keys .entry)) i (keyAppended (keysAt (now (keys .entry)) i) key) ⌝ }
 {
     if i < keys.len() {
         let n = keys[i][0];
@@ -218,7 +218,7 @@ fn shift(keys: &mut [u8])
 
 // A key joins a row at the end; a full row stays as it is.
 fn append(keys: KeyRow, key: u8) -> KeyRow
-    ensures { λ r. ⌜ r ≡ appendOf keys key ⌝ }
+    ensures { λ r. ⌜ r ≡ keyAppended keys key ⌝ }
 {
     let n = keys[0];
     if n < FULL {

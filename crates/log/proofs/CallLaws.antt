@@ -24,9 +24,9 @@ use Rattle.log.specs.Stands.{Stands}
 use Rattle.log.specs.Opening.{insert, remove, Read, takeIn, fits, image}
 use Rattle.log.specs.Log.{Wal, turnedAway, extended, compacted, withRecord, logged, newMessage, appendRefusal}
 use Rattle.log.specs.Log.{appended, appendOf, openRows, findRow, withoutRow, keeps, markedDone, markFound}
-use Rattle.log.specs.Log.{markOf, syncOf}
-use Rattle.log.specs.Recovery.{Call, append, mark, sync, Called, byAppend, byMark, bySync, didCall, Sent}
-use Rattle.log.specs.Recovery.{appending, replacing, flushing, sent, effect}
+use Rattle.log.specs.Log.{markOf, syncLog}
+use Rattle.log.specs.Recovery.{LogCall, append, mark, sync, Called, byAppend, byMark, bySync, didCall, Sent}
+use Rattle.log.specs.Recovery.{appending, replacing, flushing, sent, callEffect}
 use Rattle.log.proofs.OpeningLaws.{readLine-record, readLine-done, insert-last, image-snoc, and-left}
 use Rattle.log.proofs.Steps.{extended-stands, logged-stands, live-small, compacted-bytes, compacted-stands}
 use Rattle.log.proofs.Steps.{known-below, without-stands}
@@ -49,19 +49,19 @@ pub data Kind (h h' : Read) (size size' : ℕ) (s : Sent) : Type 0 where
   flushes : s ≡ flushing → h' .left ≡ h .left → h' .next ≡ h .next → size' ≡ size → Kind h h' size size' s
 
 -- a call whose order goes out
-pub record Orders (w : Wal) (ms : List Message) (c : Call) (after : Wal) (o : Order) : Type 0 where
-  pub stands : Stands after (effect w c ms)
+pub record Orders (w : Wal) (ms : List Message) (c : LogCall) (after : Wal) (o : Order) : Type 0 where
+  pub stands : Stands after (callEffect w c ms)
   pub long : length (after .bytes) ≡ length (w .bytes)
   pub tail : drop (after .counters .size) (after .bytes) ≡ drop (after .counters .size) (w .bytes)
-  pub kind : Kind (held w ms) (held after (effect w c ms)) (w .counters .size) (after .counters .size)
+  pub kind : Kind (held w ms) (held after (callEffect w c ms)) (w .counters .size) (after .counters .size)
       (sent (after .bytes) o)
 
 -- a call: its order goes out, or nothing changes
-abbrev pub ActsBy : Wal → List Message → Call → Wal → Option Order → Type 0
+abbrev pub ActsBy : Wal → List Message → LogCall → Wal → Option Order → Type 0
 ActsBy w ms c after (some o) = Orders w ms c after o
 ActsBy w ms c after none = after ≡ w
 
-abbrev pub Acts : Wal → List Message → Call → Called → Type 0
+abbrev pub Acts : Wal → List Message → LogCall → Called → Type 0
 Acts w ms c did = ActsBy w ms c (did .wal) (did .order)
 
 -- a text behind the others, and the log rewritten: the bytes after it
@@ -115,7 +115,7 @@ module _ (w : Wal) (ms : List Message) (s : Stands w ms) where
         (room : w .counters .live + len ≤ length (w .bytes)) where
       append-grown : w .counters .size + len ≤ length (w .bytes) → Orders w ms (append name body) (logged w m)
           (Append (w .counters .size) (w .counters .size + len))
-      unfolding effect extended withRecord recordLine
+      unfolding callEffect extended withRecord recordLine
       append-grown h = record {
         stands = logged-stands w ms m s refl fit id few h;
         long = extended-long (withRecord w m) (recordLine m) h;
@@ -137,7 +137,7 @@ module _ (w : Wal) (ms : List Message) (s : Stands w ms) where
       new-size = rw (image-snoc, length-append) (omega (arith, s .live))
 
       append-replaced : Orders w ms (append name body) (logged (compacted w) m) (Replace (w .counters .live + len))
-      unfolding effect sent extended withRecord compacted
+      unfolding callEffect sent extended withRecord compacted
       append-replaced =
           let good = compacted-stands w ms s in
           record {
@@ -155,7 +155,7 @@ module _ (w : Wal) (ms : List Message) (s : Stands w ms) where
   unfolding appendOf appendRefusal appended
   append-acts name body = at-fit (fits (newMessage w name body)) refl
     where
-      c : Call
+      c : LogCall
       c = append name body
 
       n : Message
@@ -230,7 +230,7 @@ module _ (w : Wal) (ms : List Message) (s : Stands w ms) where
     mark-grown : without .counters .size + length (doneLine id) ≤ length (without .bytes)
         → Orders w ms (mark id) (extended without (doneLine id)) (Append (without .counters .size)
         (without .counters .size + length (doneLine id)))
-    unfolding effect extended withoutRow doneLine
+    unfolding callEffect extended withoutRow doneLine
     mark-grown h = record {
       stands = extended-stands without rest (doneLine id) standing h;
       long = extended-long without (doneLine id) h;
@@ -240,7 +240,7 @@ module _ (w : Wal) (ms : List Message) (s : Stands w ms) where
     }
 
     mark-replaced : Orders w ms (mark id) (compacted without) (Replace (without .counters .live))
-    unfolding effect sent compacted withoutRow
+    unfolding callEffect sent compacted withoutRow
     mark-replaced =
         let bytes = compacted-bytes without rest standing in
         let n : without .counters .live ≡ length (image rest) = standing .live in
@@ -309,13 +309,13 @@ module _ (w : Wal) (ms : List Message) (s : Stands w ms) where
     order = some Flush;
   }
 
-  sync-acts : Acts w ms sync (bySync w (syncOf (w .counters)))
-  unfolding syncOf effect sent
+  sync-acts : Acts w ms sync (bySync w (syncLog (w .counters)))
+  unfolding syncLog callEffect sent
   sync-acts = at (w .counters .dirty) refl
     where
-      at : (t : Bool) → w .counters .dirty ≡ t → Acts w ms sync (bySync w (syncOf (w .counters)))
+      at : (t : Bool) → w .counters .dirty ≡ t → Acts w ms sync (bySync w (syncLog (w .counters)))
       at true e =
-          let d : bySync w (syncOf (w .counters)) ≡ flushed = cc in
+          let d : bySync w (syncLog (w .counters)) ≡ flushed = cc in
           subst (Acts w ms sync) (sym d) (record {
             stands = record {
               rising = s .rising;
@@ -331,12 +331,13 @@ module _ (w : Wal) (ms : List Message) (s : Stands w ms) where
             tail = refl;
             kind = flushes refl refl refl refl;
           })
-      at false e = let d : bySync w (syncOf (w .counters))
+      at false e = let d : bySync w (syncLog (w .counters))
           ≡ record { wal = record { bytes = w .bytes; table = w .table; counters = w .counters }; order = none } =
           cc in subst (Acts w ms sync) (sym d) refl
 
 -- every call, on a log that stands for the messages
-pub acts : (compactAt : ℕ) (w : Wal) (ms : List Message) (c : Call) → Stands w ms → Acts w ms c (didCall compactAt w c)
+pub acts : (compactAt : ℕ) (w : Wal) (ms : List Message) (c : LogCall) → Stands w ms
+    → Acts w ms c (didCall compactAt w c)
 unfolding didCall
 acts compactAt w ms (append name body) s = append-acts w ms s name body
 acts compactAt w ms (mark id) s = mark-acts w ms s compactAt id

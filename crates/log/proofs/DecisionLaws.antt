@@ -20,8 +20,8 @@ use Rattle.log.specs.declared.opening.LeftRows.the-variants.{NoNext, Man
 use Rattle.log.specs.declared.opening.Decision.{Decision}
 use Rattle.log.specs.declared.opening.Decision.the-variants.{Refuse, Accept}
 use Rattle.log.specs.Opening.{readFile, allFit, refused, opened, judge, opening, image}
-use Rattle.log.specs.Opened.{Opened, sized, stored, leftRow, rowsFrom, noCounters, openedBy, openOf}
-use Rattle.log.specs.Scan.{messageOf, messagesOf, LeftIn, AllRows, Accepted, Decided, Imaged, imaged, fitLeft}
+use Rattle.log.specs.Opened.{Opened, sized, stored, leftRow, rowsFrom, noCounters, openedLogBy, openLog}
+use Rattle.log.specs.Scan.{rowMessage, rowMessages, LeftIn, AllRows, Accepted, Decided, Imaged, imaged, fitLeft}
 use Rattle.log.specs.Scan.{fromStore}
 use Rattle.log.proofs.Room.{image-short}
 use Rattle.log.proofs.OpenLaws.{Sized, sized-all}
@@ -63,15 +63,15 @@ module _ (file : List ℕ) where
     few : length (readFile file .left) ≤ 256
     few = omega (
       arith,
-      ap length (a .left-are) ∙ length-map (take count rows) (messageOf file),
+      ap length (a .left-are) ∙ length-map (take count rows) (rowMessage file),
       length-take count rows,
       a .few,
     )
 
-    pub rows-too-long : false ≡ allFit (messagesOf file (take count rows)) → opening file ≡ refused TooMuch
+    pub rows-too-long : false ≡ allFit (rowMessages file (take count rows)) → opening file ≡ refused TooMuch
     rows-too-long f = refuse-long (omega (arith, a .next-is)) few (ap allFit (a .left-are) ∙ sym f)
 
-    pub rows-accepted : true ≡ allFit (messagesOf file (take count rows)) → Accepted file count next rows
+    pub rows-accepted : true ≡ allFit (rowMessages file (take count rows)) → Accepted file count next rows
     rows-accepted f = let fit : allFit (readFile file .left) ≡ true = ap allFit (a .left-are) ∙ sym f in
         record { rows = a; fit = fit; opens = accepts (omega (arith, a .next-is)) few fit }
 
@@ -97,7 +97,7 @@ opened-shape : (log store : List ℕ) (table left : List (List ℕ)) (ms : List 
         counters = record { next = next; live = size; size = size; dirty = false; count = count };
         answer = Ordered (Replace size);
       };
-    }) (openedBy log store table left (record { left = ms; next = next }))
+    }) (openedLogBy log store table left (record { left = ms; next = next }))
 opened-shape log store table left ms next count size log' store' table' left' l p b q z c = rw (l, p, b, q, z, c) refl
 
 module _ (log : List ℕ) (n : ℕ) (store : List ℕ) (table left rows : List (List ℕ)) (count next : ℕ)
@@ -107,13 +107,13 @@ module _ (log : List ℕ) (n : ℕ) (store : List ℕ) (table left rows : List (
   lent = sized-all (length log) n (length store) (length table) (length left) s
 
   abbrev ms : List Message
-  ms = messagesOf (take n log) (take count rows)
+  ms = rowMessages (take n log) (take count rows)
 
   same : readFile (take n log) .left ≡ ms
   same = a .rows .left-are
 
   count-is : length ms ≡ count
-  count-is = length-map (take count rows) (messageOf (take n log))
+  count-is = length-map (take count rows) (rowMessage (take n log))
       ∙ length-take-le count rows (omega (arith, wide, a .rows .few))
 
   pub fit : allFit ms ≡ true
@@ -175,7 +175,7 @@ module _ (log : List ℕ) (n : ℕ) (store : List ℕ) (table left rows : List (
             counters = record { next = next; live = size; size = size; dirty = false; count = count };
             answer = Ordered (Replace size);
           };
-        }) (openedBy log store table left (readFile (take n log)))
+        }) (openedLogBy log store table left (readFile (take n log)))
     opened-is log' table' size i =
         let im : _≡_ {A = Imaged} (record { log = log'; table = table'; size = size }) (imaged log table ms) = i
         ∙ ap (imaged log table) back in
@@ -183,29 +183,30 @@ module _ (log : List ℕ) (n : ℕ) (store : List ℕ) (table left rows : List (
         let b : table' ≡ write table 0 (rowsFrom 0 ms) = ap (λ x. x .table) im in
         let z : size ≡ length (image ms) = ap (λ x. x .size) im in
         opened-shape log store table left ms next count size log' store' table' left' l p b q z (sym count-is)
-        ∙ (ap (λ k. openedBy log store table left (record { left = ms; next = k })) (a .rows .next-is)
-        ∙ ap (λ l. openedBy log store table left (record { left = l; next = readFile (take n log) .next })) (sym same))
+        ∙ (ap (λ k. openedLogBy log store table left (record { left = ms; next = k })) (a .rows .next-is)
+        ∙ ap (λ l. openedLogBy log store table left (record { left = l; next = readFile (take n log) .next }))
+        (sym same))
 
 -- a refused one
 pub open-wrong : (log : List ℕ) (n : ℕ) (store : List ℕ) (table left : List (List ℕ)) (step : Answered)
     → sized (length log) n (length store) (length table) (length left) ≡ false → step
     ≡ record { counters = noCounters; answer = Refused Sizes }
     → _≡_ {A = Opened} (record { log = log; store = store; table = table; left = left; step = step })
-    (openOf log n store table left)
-unfolding openOf
+    (openLog log n store table left)
+unfolding openLog
 open-wrong log n store table left step s e = cc
 
 pub open-refused : (log : List ℕ) (n : ℕ) (store : List ℕ) (table left : List (List ℕ)) (step : Answered) (r : Refusal)
     → sized (length log) n (length store) (length table) (length left) ≡ true → opening (take n log) ≡ refused r
     → step ≡ record { counters = noCounters; answer = Refused r }
     → _≡_ {A = Opened} (record { log = log; store = store; table = table; left = left; step = step })
-    (openOf log n store table left)
-unfolding openOf
+    (openLog log n store table left)
+unfolding openLog
 open-refused log n store table left step r s o e = cc
 
 pub open-yes : (log : List ℕ) (n : ℕ) (store : List ℕ) (table left : List (List ℕ))
     → sized (length log) n (length store) (length table) (length left) ≡ true → opening (take n log)
     ≡ opened (readFile (take n log))
-    → openedBy log store table left (readFile (take n log)) ≡ openOf log n store table left
-unfolding openOf
+    → openedLogBy log store table left (readFile (take n log)) ≡ openLog log n store table left
+unfolding openLog
 open-yes log n store table left s o = cc

@@ -9,7 +9,7 @@ use borrow.Rule.Slice.PartMut.{putMid}
 use lib.Dec.{leb}
 use lib.ListN.{length, take, drop, length-take, length-drop}
 use Rattle.text.specs.Format.{unescape, lines}
-use Rattle.text.specs.Line.{Line, nameOf, bodyOf, nameField, bodyField, firstOf, readLine, lineAt}
+use Rattle.text.specs.Line.{Line, nameOf, bodyOf, nameField, bodyField, firstText, readLine, lineAt}
 use Rattle.text.specs.Bytes.{write}
 use Rattle.text.specs.Answers.{Filled, filled}
 use Rattle.text.specs.declared.escape.Measure.{Measure}
@@ -17,20 +17,20 @@ use Rattle.text.proofs.LineLaws.{name-read, body-read}
 use Rattle.text.proofs.AnswerLaws.{filled-part, filled-answer}
 use Rattle.text.proofs.WriteLaws.{length-write}
 use Rattle.log.specs.declared.opening.Lengths.{Lengths}
-use Rattle.log.specs.Scan.{fitLine, lenOf, lengthsOf}
+use Rattle.log.specs.Scan.{fitLine, measuredLen, lengthsOf}
 use Rattle.log.proofs.OpeningLaws.{and-left, and-right}
 
 -- a field of the line at a place, unescaped
-field-at : (P : Line → List ℕ) (file line field : List ℕ) (at : ℕ) → line ≡ firstOf (lines (drop at file))
+field-at : (P : Line → List ℕ) (file line field : List ℕ) (at : ℕ) → line ≡ firstText (lines (drop at file))
     → unescape field ≡ P (readLine line) → unescape field ≡ P (lineAt file at)
 unfolding lineAt
 field-at P file line field at e f = f ∙ ap (λ l. P (readLine l)) e
 
-pub name-at : (file line field : List ℕ) (at : ℕ) → line ≡ firstOf (lines (drop at file)) → field ≡ nameField line
+pub name-at : (file line field : List ℕ) (at : ℕ) → line ≡ firstText (lines (drop at file)) → field ≡ nameField line
     → unescape field ≡ nameOf (lineAt file at)
 name-at file line field at e f = field-at nameOf file line field at e (ap unescape f ∙ name-read line)
 
-pub body-at : (file line field : List ℕ) (at : ℕ) → line ≡ firstOf (lines (drop at file)) → field ≡ bodyField line
+pub body-at : (file line field : List ℕ) (at : ℕ) → line ≡ firstText (lines (drop at file)) → field ≡ bodyField line
     → unescape field ≡ bodyOf (lineAt file at)
 body-at file line field at e f = field-at bodyOf file line field at e (ap unescape f ∙ body-read line)
 
@@ -63,11 +63,11 @@ module _ (d : List ℕ) (a : ℕ) (text field last : List ℕ) (r : Measure) (h 
   pub put-bytes : putMid a (length d - a) d last ≡ write d a text
   put-bytes = filled-part d a text last r h f′
 
-  pub put-length : (n : ℕ) → n ≡ lenOf r → n ≡ length text
+  pub put-length : (n : ℕ) → n ≡ measuredLen r → n ≡ length text
   put-length n q =
       let room : length text ≤ length (take (length d - a) (drop a d)) = simp (length-take, length-drop) (omega arith)
       in
-      q ∙ ap lenOf (filled-answer (take (length d - a) (drop a d)) text last r room f′)
+      q ∙ ap measuredLen (filled-answer (take (length d - a) (drop a d)) text last r room f′)
 
 -- a name and a body put into an entry, one after the other
 pub both-fields : (store named full : List ℕ) (base : ℕ) (name body field₁ field₂ last₁ last₂ : List ℕ)
@@ -78,7 +78,7 @@ pub both-fields : (store named full : List ℕ) (base : ℕ) (name body field₁
     → full ≡ putMid (base + 32) (length named - (base + 32)) named last₂
     → _≡_ {A = Filled} (record { bytes = last₂; answer = r₂ })
     (filled (take (length named - (base + 32)) (drop (base + 32) named)) (unescape field₂))
-    → n₁ ≡ lenOf r₁ → n₂ ≡ lenOf r₂
+    → n₁ ≡ measuredLen r₁ → n₂ ≡ measuredLen r₂
     → (_≡_ {A = Lengths} (record { name = n₁; body = n₂ }) (lengthsOf name body))
     × (full ≡ write (write store base name) (base + 32) body)
 both-fields store named full base name body field₁ field₂ last₁ last₂ r₁ r₂ n₁ n₂ h a b e f p x q y l m =

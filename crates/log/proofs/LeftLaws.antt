@@ -9,7 +9,7 @@ use lib.Seq.{length-take-le, take-append-add, take-append-le}
 use Rattle.text.specs.Format.{Message, lines}
 use Rattle.log.specs.declared.opening.Pass.{Pass}
 use Rattle.log.specs.Opening.{Rising, readFile, nothingRead}
-use Rattle.log.specs.Scan.{messageOf, messagesOf, Window, Passed}
+use Rattle.log.specs.Scan.{rowMessage, rowMessages, Window, Passed}
 use Rattle.log.proofs.OpeningLaws.{Rising-low, Rising-le, readLines-in-order}
 use Rattle.log.proofs.ScanLaws.{map-append}
 
@@ -41,8 +41,8 @@ join (m ∷ x) y a b c r s = (r .0, join x y (suc (m .id)) b c (r .1) s)
 -- the rows so far are the messages left with ids below lo
 pub record Below (file : List ℕ) (lo : ℕ) (these : List (List ℕ)) : Type 0 where
   pub above : List Message
-  pub are : readFile file .left ≡ messagesOf file these ++ above
-  pub low : Rising 0 (messagesOf file these) lo
+  pub are : readFile file .left ≡ rowMessages file these ++ above
+  pub low : Rising 0 (rowMessages file these) lo
   pub top : ℕ
   pub high : Rising lo above top
 
@@ -62,46 +62,47 @@ below-begin file = record {
 
 module _ (file : List ℕ) (lo hi : ℕ) (these ws : List (List ℕ)) (p : Below file lo these) (w : Window file lo hi ws)
   where
-    same : w .below ≡ messagesOf file these
-    same = parted (w .below) (messagesOf file these) (messagesOf file ws ++ w .above) (p .above) 0 lo (2 ^ 64) (p .top)
+    same : w .below ≡ rowMessages file these
+    same = parted (w .below) (rowMessages file these) (rowMessages file ws ++ w .above) (p .above) 0 lo (2 ^ 64)
+        (p .top)
         (w .low) (p .low)
-        (join (messagesOf file ws) (w .above) lo hi (2 ^ 64) (w .mid) (w .high)) (p .high) (sym (w .are) ∙ p .are)
+        (join (rowMessages file ws) (w .above) lo hi (2 ^ 64) (w .mid) (w .high)) (p .high) (sym (w .are) ∙ p .are)
 
-    all-left : readFile file .left ≡ messagesOf file (these ++ ws) ++ w .above
-    all-left = w .are ∙ (ap (λ x. x ++ (messagesOf file ws ++ w .above)) same
-        ∙ (sym (append-assoc (messagesOf file these) (messagesOf file ws) (w .above))
+    all-left : readFile file .left ≡ rowMessages file (these ++ ws) ++ w .above
+    all-left = w .are ∙ (ap (λ x. x ++ (rowMessages file ws ++ w .above)) same
+        ∙ (sym (append-assoc (rowMessages file these) (rowMessages file ws) (w .above))
         ∙ ap (λ x. x ++ w .above) (sym (map-append file these ws))))
 
     pub below-more : (all : List (List ℕ)) → all ≡ these ++ ws → Below file hi all
     below-more all e = subst (Below file hi) (sym e) (record {
       above = w .above;
       are = all-left;
-      low = subst (λ x. Rising 0 x hi) (sym (map-append file these ws)) (join (messagesOf file these)
-          (messagesOf file ws) 0 lo hi (p .low) (w .mid));
+      low = subst (λ x. Rising 0 x hi) (sym (map-append file these ws)) (join (rowMessages file these)
+          (rowMessages file ws) 0 lo hi (p .low) (w .mid));
       top = 2 ^ 64;
       high = w .high;
     })
 
     pub left-many : length these + length ws ≤ length (readFile file .left)
     left-many =
-        let a : length (messagesOf file these) ≡ length these = length-map these (messageOf file) in
-        let b : length (messagesOf file ws) ≡ length ws = length-map ws (messageOf file) in
+        let a : length (rowMessages file these) ≡ length these = length-map these (rowMessage file) in
+        let b : length (rowMessages file ws) ≡ length ws = length-map ws (rowMessage file) in
         rw (w .are, same) (simp length-append (omega arith))
 
 pub left-all : (file : List ℕ) (hi : ℕ) (these : List (List ℕ)) → Below file hi these → readFile file .next ≤ hi
-    → readFile file .left ≡ messagesOf file these
+    → readFile file .left ≡ rowMessages file these
 left-all file hi these p h = p .are
-    ∙ (ap (λ y. messagesOf file these ++ y) (none (p .above) (p .high) (subst (λ x. Rising 0 x (readFile file .next))
-    (p .are) (in-order file))) ∙ append-nil (messagesOf file these))
+    ∙ (ap (λ y. rowMessages file these ++ y) (none (p .above) (p .high) (subst (λ x. Rising 0 x (readFile file .next))
+    (p .are) (in-order file))) ∙ append-nil (rowMessages file these))
   where
     after : (x : List Message) (m : Message) (ms : List Message) (a c : ℕ) → Rising a (x ++ m ∷ ms) c → suc (m .id) ≤ c
     after [] m ms a c r = Rising-le ms (suc (m .id)) c (r .1)
     after (k ∷ x) m ms a c r = after x m ms (suc (k .id)) c (r .1)
 
-    none : (y : List Message) → Rising hi y (p .top) → Rising 0 (messagesOf file these ++ y) (readFile file .next) → y
+    none : (y : List Message) → Rising hi y (p .top) → Rising 0 (rowMessages file these ++ y) (readFile file .next) → y
         ≡ []
     none [] s r = refl
-    none (m ∷ y) s r = absurd (omega (arith, s .0, after (messagesOf file these) m y 0 (readFile file .next) r))
+    none (m ∷ y) s r = absurd (omega (arith, s .0, after (rowMessages file these) m y 0 (readFile file .next) r))
 
 -- the rows of a pass that went into the part of the table behind those that are there
 pub rows-behind : (table : List (List ℕ)) (count n : ℕ) (last : List (List ℕ)) → count ≤ length table → length last

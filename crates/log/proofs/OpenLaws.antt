@@ -15,8 +15,8 @@ use Rattle.log.specs.declared.Order.the-variants.{Replace}
 use Rattle.log.specs.Stands.{Stands, Tabled}
 use Rattle.log.specs.Opening.{Read, nothingRead, readFile, opened, opening, image}
 use Rattle.log.specs.Log.{Wal}
-use Rattle.log.specs.Opened.{sized, rowsFrom, openedBy, openOf}
-use Rattle.log.specs.Recovery.{sent, replacing, walOf}
+use Rattle.log.specs.Opened.{sized, rowsFrom, openedLogBy, openLog}
+use Rattle.log.specs.Recovery.{sent, replacing, openedWal}
 use Rattle.log.proofs.OpeningLaws.{readLines-in-order, and-left, and-right, judge-opened}
 use Rattle.log.proofs.Room.{image-short}
 use Rattle.log.proofs.TabledLaws.{small-few, tabled-image, rows-from}
@@ -66,8 +66,8 @@ sized-true log n store table left s =
 -- what opening does with a file that it accepts
 pub open-accepts : (log : List ℕ) (n : ℕ) (store : List ℕ) (table left : List (List ℕ)) (r : Read)
     → sized (length log) n (length store) (length table) (length left) ≡ true → opening (take n log) ≡ opened r
-    → openOf log n store table left ≡ openedBy log store table left r
-unfolding openOf
+    → openLog log n store table left ≡ openedLogBy log store table left r
+unfolding openLog
 open-accepts log n store table left r s e = cc
 
 module _ (log : List ℕ) (n : ℕ) (store : List ℕ) (table left : List (List ℕ)) (r : Read) (s : sized (length log) n
@@ -83,7 +83,7 @@ module _ (log : List ℕ) (n : ℕ) (store : List ℕ) (table left : List (List 
       omega (arith, rw (g .same) at (image-short (take n log)), length-take-le n log (lent .file), lent .file)
 
   abbrev after : Wal
-  after = walOf (openedBy log store table left r)
+  after = openedWal (openedLogBy log store table left r)
 
   pub opened-long : length (after .bytes) ≡ length log
   opened-long = length-write log 0 (image (r .left)) (omega (arith, image-fits))

@@ -15,7 +15,7 @@ use Rattle.text.proofs.NextLaws.{found, no-line, next-at-none}
 use Rattle.log.specs.declared.opening.Passing.{Passing}
 use Rattle.log.specs.declared.opening.Taken.{Taken}
 use Rattle.log.specs.declared.opening.Taken.the-variants.{Next, Over}
-use Rattle.log.specs.Scan.{passRows, going, begun, CanTake, TookNextLine, Scanned}
+use Rattle.log.specs.Scan.{passRows, going, passBegun, CanTake, TookNextLine, Scanned}
 use Rattle.log.specs.Opening.{readFile}
 use Rattle.log.proofs.ScanLaws.{rows-rise, Tracked, tracked-begin, tracked-end, tracked-line, nextLines}
 use Rattle.log.proofs.ScanLaws.{next-file, next-none, next-line, next-over}
@@ -38,7 +38,7 @@ abbrev pub left : List ℕ → ℕ → Passing → ℕ
 left file at p = length file - at + bit (p .on)
 
 pub begins : (file : List ℕ) (lo : ℕ) (rows : List (List ℕ)) → 0 < length rows → lo < 2 ^ 64 - 1
-    → Inv file lo 0 begun rows
+    → Inv file lo 0 passBegun rows
 begins file lo rows some low = (
   omega arith,
   some,

@@ -16,12 +16,14 @@ use Rattle.log.specs.declared.Order.{Order}
 use Rattle.log.specs.declared.Refusal.{Refusal}
 use Rattle.log.specs.Opening.{Read, Opening, refused, opened, opening, image}
 use Rattle.log.specs.Log.{Wal, openRows, newMessage, appendRefusal, appended, appendJudged, appendOf, searchRow}
-use Rattle.log.specs.Log.{withoutRow, keeps, markedDone, markFound, markOf, syncOf}
-use Rattle.log.specs.Opened.{Opened, sized, openedBy, openJudged, openOf}
-use Rattle.log.specs.Recovery.{Call, append, mark, sync, ordered, orderedDue, bySync, didCall, Cut, Status}
-use Rattle.log.specs.Recovery.{settled, waits, lost, World, issue, issued, called, Event, call, stored, failed}
-use Rattle.log.specs.Recovery.{step, run, begin, storedOrder, failedOrder, firmMoment, confirm, replacing}
-use Rattle.log.specs.Recovery.{Recovers, Recoverable, TailKept, TailsKept}
+use Rattle.log.specs.Log.{withoutRow, keeps, markedDone, markFound, markOf, syncLog}
+use Rattle.log.specs.Opened.{Opened, sized, openedLogBy, openJudged, openLog}
+use Rattle.log.specs.Recovery.{LogCall, append, mark, sync, orderOfAnswer, orderedDue, bySync, didCall, Cut}
+use Rattle.log.specs.Recovery.{Status}
+use Rattle.log.specs.Recovery.{settled, waits, lost, LogWorld, issue, issued, called, Event, call, stored, failed}
+use Rattle.log.specs.Recovery.{stepLog, runLog, beginLog, storedOrder, failedOrder, firmMoment, confirm}
+use Rattle.log.specs.Recovery.{replacing}
+use Rattle.log.specs.Recovery.{Recovers, Recoverable, TailKept, TailKeptThrough}
 use Rattle.log.specs.Stands.{Stands, Standing}
 use Rattle.log.proofs.OpenLaws.{sized-all, sized-true, open-accepts, image-fits, opened-long, opened-stands}
 use Rattle.log.proofs.OpenLaws.{opened-sent}
@@ -33,12 +35,12 @@ use Rattle.log.proofs.CallLaws.{ActsBy, acts}
 -- the accepted opening
 module _ (log : List ℕ) (n : ℕ) (store : List ℕ) (table left : List (List ℕ)) (r : Read) (s : sized (length log) n
     (length store) (length table) (length left) ≡ true) (ok : opening (take n log) ≡ opened r) where
-  abbrev start : World
-  start = begin (openedBy log store table left r) (take n log) (r .left)
+  abbrev start : LogWorld
+  start = beginLog (openedLogBy log store table left r) (take n log) (r .left)
 
   start-reads : (found : List ℕ) → Cut (take n log) [] found ⊎ (found ≡ image (r .left)) → ReadBack (length log) found
       (r .left ∷ [])
-  unfolding begin
+  unfolding beginLog
   start-reads found (inl c) =
       let lent = sized-all (length log) n (length store) (length table) (length left) s in
       let e : found ≡ take n log = cc (c .1, take-nil {A = ℕ} (c .0), append-nil (take n log)) in
@@ -55,7 +57,7 @@ module _ (log : List ℕ) (n : ℕ) (store : List ℕ) (table left : List (List 
       left r s ok) found e
 
   start-sound : Sound (length log) start
-  unfolding begin storedOrder failedOrder firmMoment confirm
+  unfolding beginLog storedOrder failedOrder firmMoment confirm
   start-sound =
       let stands = opened-stands log n store table left r s ok in
       waiting (replacing (image (r .left))) (ap waits (opened-sent log n store table left r s ok))
@@ -93,13 +95,14 @@ next-opening long file moments least most b = record {
 pub recovery : (compactAt : ℕ) (log : List ℕ) (n : ℕ) (store : List ℕ) (table left : List (List ℕ)) (r : Read)
     → sized (length log) n (length store) (length table) (length left) ≡ true → opening (take n log) ≡ opened r
     → (events : List Event)
-    → Recoverable (length log) (run compactAt (begin (openOf log n store table left) (take n log) (r .left)) events)
+    → Recoverable (length log) (runLog compactAt (beginLog (openLog log n store table left) (take n log) (r .left))
+    events)
 recovery compactAt log n store table left r s ok events =
     let lent = sized-all (length log) n (length store) (length table) (length left) s in
-    subst (λ o. Recoverable (length log) (run compactAt (begin o (take n log) (r .left)) events))
+    subst (λ o. Recoverable (length log) (runLog compactAt (beginLog o (take n log) (r .left)) events))
     (sym (open-accepts log n store table left r s ok))
     (λ file p. next-opening (length log) file _ (lent .least) (lent .most)
-    (sound-reads (length log) (run compactAt (start log n store table left r s ok) events)
+    (sound-reads (length log) (runLog compactAt (start log n store table left r s ok) events)
     (run-sound (length log) compactAt events (start log n store table left r s ok) (start-sound log n store table
     left r s ok)) file p))
 
@@ -108,19 +111,19 @@ recovery compactAt log n store table left r s ok events =
 pub standing : (compactAt : ℕ) (log : List ℕ) (n : ℕ) (store : List ℕ) (table left : List (List ℕ)) (r : Read)
     → sized (length log) n (length store) (length table) (length left) ≡ true → opening (take n log) ≡ opened r
     → (events : List Event)
-    → Standing (length log) (run compactAt (begin (openOf log n store table left) (take n log) (r .left)) events)
+    → Standing (length log) (runLog compactAt (beginLog (openLog log n store table left) (take n log) (r .left)) events)
 standing compactAt log n store table left r s ok events =
-    subst (λ o. Standing (length log) (run compactAt (begin o (take n log) (r .left)) events))
+    subst (λ o. Standing (length log) (runLog compactAt (beginLog o (take n log) (r .left)) events))
     (sym (open-accepts log n store table left r s ok))
-    (sound-stands (length log) (run compactAt (start log n store table left r s ok) events)
+    (sound-stands (length log) (runLog compactAt (start log n store table left r s ok) events)
     (run-sound (length log) compactAt events (start log n store table left r s ok) (start-sound log n store table
     left r s ok)))
 
 -- The bytes at and after the new size keep their value from before the call: of an opening, accepted or turned away ..
 pub open-tail : (log : List ℕ) (n : ℕ) (store : List ℕ) (table left : List (List ℕ))
-    → drop (openOf log n store table left .step .counters .size) (openOf log n store table left .log)
-    ≡ drop (openOf log n store table left .step .counters .size) log
-unfolding openOf
+    → drop (openLog log n store table left .step .counters .size) (openLog log n store table left .log)
+    ≡ drop (openLog log n store table left .step .counters .size) log
+unfolding openLog
 open-tail log n store table left = at-sizes (sized (length log) n (length store) (length table) (length left)) refl
   where
     Kept : Opened → Type 0
@@ -133,12 +136,12 @@ open-tail log n store table left = at-sizes (sized (length log) n (length store)
         (omega (arith, image-fits log n store table left r s e))
 
     at-sizes : (b : Bool) → sized (length log) n (length store) (length table) (length left) ≡ b
-        → Kept (openOf log n store table left)
-    at-sizes true e = rw (e, openOf) (at-file e (opening (take n log)) refl)
-    at-sizes false e = rw (e, openOf) refl
+        → Kept (openLog log n store table left)
+    at-sizes true e = rw (e, openLog) (at-file e (opening (take n log)) refl)
+    at-sizes false e = rw (e, openLog) refl
 
 -- .. and of a call on a log that stands for the messages logged and not done.
-pub call-tail : (compactAt : ℕ) (w : Wal) (ms : List Message) (c : Call) → Stands w ms
+pub call-tail : (compactAt : ℕ) (w : Wal) (ms : List Message) (c : LogCall) → Stands w ms
     → TailKept w (didCall compactAt w c .wal)
 call-tail compactAt w ms c s = by (didCall compactAt w c .wal) (didCall compactAt w c .order) (acts compactAt w ms c s)
   where
@@ -147,15 +150,15 @@ call-tail compactAt w ms c s = by (didCall compactAt w c .wal) (didCall compactA
     by after none x = ap (λ v. drop (after .counters .size) (v .bytes)) x
 
 -- one event
-issued-tail : (compactAt : ℕ) (w : World) (c : Call) (wal : Wal) (o : Option Order) → TailKept (w .wal) wal
+issued-tail : (compactAt : ℕ) (w : LogWorld) (c : LogCall) (wal : Wal) (o : Option Order) → TailKept (w .wal) wal
     → TailKept (w .wal) (issued w c wal o .wal)
 unfolding issue
 issued-tail compactAt w c wal (some o) t = t
 issued-tail compactAt w c wal none t = t
 
-step-tail : (compactAt : ℕ) (q : Status) (w : World) (e : Event) → Stands (w .wal) (w .now)
-    → TailKept (w .wal) (step compactAt q w e .wal)
-unfolding step called storedOrder failedOrder
+step-tail : (compactAt : ℕ) (q : Status) (w : LogWorld) (e : Event) → Stands (w .wal) (w .now)
+    → TailKept (w .wal) (stepLog compactAt q w e .wal)
+unfolding stepLog called storedOrder failedOrder
 step-tail compactAt settled w (call c) s =
     issued-tail compactAt w c (didCall compactAt (w .wal) c .wal) (didCall compactAt (w .wal) c .order)
     (call-tail compactAt (w .wal) (w .now) c s)
@@ -166,40 +169,41 @@ step-tail compactAt (waits o) w stored s = refl
 step-tail compactAt (waits o) w failed s = refl
 step-tail compactAt (lost o) w e s = refl
 
-steps-tail : (long compactAt : ℕ) (es : List Event) (w : World) → Sound long w → TailsKept compactAt w es
+steps-tail : (long compactAt : ℕ) (es : List Event) (w : LogWorld) → Sound long w → TailKeptThrough compactAt w es
 steps-tail long compactAt [] w s = tt
 steps-tail long compactAt (e ∷ es) w s = (
   step-tail compactAt (w .disk .status) w e (sound-stands long w s .stands),
   steps-tail long compactAt es
-      (step compactAt (w .disk .status) w e) (step-sound long compactAt w e s),
+      (stepLog compactAt (w .disk .status) w e) (step-sound long compactAt w e s),
 )
 
 -- So in every run from an accepted opening, at every event of it.
 pub tails-kept : (compactAt : ℕ) (log : List ℕ) (n : ℕ) (store : List ℕ) (table left : List (List ℕ)) (r : Read)
     → sized (length log) n (length store) (length table) (length left) ≡ true → opening (take n log) ≡ opened r
     → (events : List Event)
-    → TailsKept compactAt (begin (openOf log n store table left) (take n log) (r .left)) events
+    → TailKeptThrough compactAt (beginLog (openLog log n store table left) (take n log) (r .left)) events
 tails-kept compactAt log n store table left r s ok events =
-    subst (λ o. TailsKept compactAt (begin o (take n log) (r .left)) events)
+    subst (λ o. TailKeptThrough compactAt (beginLog o (take n log) (r .left)) events)
     (sym (open-accepts log n store table left r s ok))
     (steps-tail (length log) compactAt events (start log n store table left r s ok) (start-sound log n store table left
     r s ok))
 
 -- A call that orders nothing, since it is turned away or has nothing to do, changes nothing, on any log.
-pub call-idle : (compactAt : ℕ) (w : Wal) (c : Call) → didCall compactAt w c .order ≡ none → didCall compactAt w c .wal
+pub call-idle : (compactAt : ℕ) (w : Wal) (c : LogCall) → didCall compactAt w c .order ≡ none
+    → didCall compactAt w c .wal
     ≡ w
-unfolding didCall appendOf markOf appended markedDone syncOf
+unfolding didCall appendOf markOf appended markedDone syncLog
 call-idle compactAt w (append name body) = judged (appendRefusal w (newMessage w name body))
   where
     m : Message
     m = newMessage w name body
 
     put : (t : Bool) → leb (w .counters .size + length (recordLine m)) (length (w .bytes)) ≡ t
-        → ordered (appended w m .answer) ≡ none → appended w m .wal ≡ w
+        → orderOfAnswer (appended w m .answer) ≡ none → appended w m .wal ≡ w
     put true e q = let z : _≡_ {A = ℕ} 0 1 = cc in absurd (omega arith)
     put false e q = let z : _≡_ {A = ℕ} 0 1 = cc in absurd (omega arith)
 
-    judged : (x : Option Refusal) → ordered (appendJudged w m x .answer) ≡ none → appendJudged w m x .wal ≡ w
+    judged : (x : Option Refusal) → orderOfAnswer (appendJudged w m x .answer) ≡ none → appendJudged w m x .wal ≡ w
     judged none q = put (leb (w .counters .size + length (recordLine m)) (length (w .bytes))) refl q
     judged (some r) q = refl
 call-idle compactAt w (mark id) = found (searchRow id (openRows w))
@@ -214,7 +218,7 @@ call-idle compactAt w (mark id) = found (searchRow id (openRows w))
     found (some i) q = let z : _≡_ {A = ℕ} 0 1 = done (withoutRow w i) _ refl q in absurd (omega arith)
 call-idle compactAt w sync = by (w .counters .dirty) refl
   where
-    by : (t : Bool) → w .counters .dirty ≡ t → orderedDue (syncOf (w .counters) .due) ≡ none
-        → bySync w (syncOf (w .counters)) .wal ≡ w
+    by : (t : Bool) → w .counters .dirty ≡ t → orderedDue (syncLog (w .counters) .due) ≡ none
+        → bySync w (syncLog (w .counters)) .wal ≡ w
     by true e q = let z : _≡_ {A = ℕ} 0 1 = cc in absurd (omega arith)
     by false e q = ap (λ s. bySync w s .wal) (sym (sync-clean (w .counters) e))

@@ -15,9 +15,10 @@ use Rattle.log.specs.declared.Order.{Order}
 use Rattle.log.specs.Stands.{Small, Stands, Standing}
 use Rattle.log.specs.Opening.{Rising, Read, takeIn, readLines, nothingRead, readFile, opened, opening, image}
 use Rattle.log.specs.Log.{Wal}
-use Rattle.log.specs.Recovery.{Call, didCall, Sent, appending, replacing, flushing, sent, settled, waits, lost}
-use Rattle.log.specs.Recovery.{Disk, Cut, confirm, firmMoment, World, effect, issue, issued, called, storedOrder}
-use Rattle.log.specs.Recovery.{failedOrder, Event, call, stored, failed, step, run, Possible}
+use Rattle.log.specs.Recovery.{LogCall, didCall, Sent, appending, replacing, flushing, sent, settled, waits, lost}
+use Rattle.log.specs.Recovery.{Disk, Cut, confirm, firmMoment, LogWorld, callEffect, issue, issued, called}
+use Rattle.log.specs.Recovery.{storedOrder}
+use Rattle.log.specs.Recovery.{failedOrder, Event, call, stored, failed, stepLog, runLog, Possible}
 use Rattle.log.proofs.Steps.{live-small}
 use Rattle.log.proofs.OpeningLaws.{joined, FreeAll, read-joined, joined-snoc, FreeAll-snoc, readLines-append}
 use Rattle.log.proofs.OpeningLaws.{lefts, lefts-snoc, Accepted, Accepted-snoc, take-lines, judge-good, texts}
@@ -40,7 +41,7 @@ pub record ReadBack (long : ℕ) (file : List ℕ) (moments : List (List Message
   pub accepted : opening file ≡ opened found
   pub among : List·Memᴰ (found .left) moments
 
-abbrev pub ReadsBack : ℕ → World → Type 0
+abbrev pub ReadsBack : ℕ → LogWorld → Type 0
 ReadsBack long w = (file : List ℕ) → Possible (w .disk) file → ReadBack long file (drop (w .firm) (w .moments))
 
 -- what is on the disk, `size` bytes in all, is read as the messages of the moments since the last confirmed flush or
@@ -189,21 +190,21 @@ module _ (long : ℕ) where
       (whole-image disk h' fit short file e)
 
   -- between two events: the log stands for the messages of the last moment, and so does the disk
-  pub record Steady (w : World) : Type 0 where
+  pub record Steady (w : LogWorld) : Type 0 where
     pub stands : Stands (w .wal) (w .now)
     pub bytes : length (w .wal .bytes) ≡ long
     pub onDisk : Stored (w .disk) (drop (w .firm) (w .moments)) (held (w .wal) (w .now)) (w .wal .counters .size)
     pub firm : w .firm ≤ length (w .moments)
 
   -- no order waits; or one does, and all is well whether it is confirmed or not; or one failed
-  pub data Sound (w : World) : Type 0 where
+  pub data Sound (w : LogWorld) : Type 0 where
     steady : Steady w → Sound w
     waiting : (s : Sent) → w .disk .status ≡ waits s → Steady (storedOrder w s) → ReadsBack long (failedOrder w s)
         → Sound w
     ended : (s : Sent) → w .disk .status ≡ lost s → Stands (w .wal) (w .now) → length (w .wal .bytes) ≡ long
         → ReadsBack long w → Sound w
 
-  module _ (w : World) (st : Steady w) (after : Wal) (now : List Message) (stands : Stands after now)
+  module _ (w : LogWorld) (st : Steady w) (after : Wal) (now : List Message) (stands : Stands after now)
       (same : length (after .bytes) ≡ length (w .wal .bytes)) where
     abbrev pub recent : List (List Message)
     recent = drop (w .firm) (w .moments)
@@ -278,7 +279,7 @@ module _ (long : ℕ) where
     issue-sound s (flushes e m k n) = rw e (issue-flush m k n)
 
   -- one event, and then a list of them
-  unmoved : (w : World) (wal : Wal) → Steady w → wal ≡ w .wal
+  unmoved : (w : LogWorld) (wal : Wal) → Steady w → wal ≡ w .wal
       → Sound (record { wal = wal; disk = w .disk; moments = w .moments; now = w .now; firm = w .firm })
   unmoved w wal st e = steady (record {
     stands = subst (λ v. Stands v (w .now)) (sym e) (st .stands);
@@ -288,43 +289,44 @@ module _ (long : ℕ) where
     firm = st .firm;
   })
 
-  pub issued-sound : (w : World) (c : Call) → Steady w → (wal : Wal) (a : Option Order)
+  pub issued-sound : (w : LogWorld) (c : LogCall) → Steady w → (wal : Wal) (a : Option Order)
       → ActsBy (w .wal) (w .now) c wal a → Sound (issued w c wal a)
-  issued-sound w c st wal (some o) x = issue-sound w st wal (effect (w .wal) c (w .now)) (x .stands) (x .long)
+  issued-sound w c st wal (some o) x = issue-sound w st wal (callEffect (w .wal) c (w .now)) (x .stands) (x .long)
       (sent (wal .bytes) o) (x .kind)
   issued-sound w c st wal none x = unmoved w wal st x
 
-  step-settled : (compactAt : ℕ) (w : World) (e : Event) → Steady w → Sound (step compactAt settled w e)
-  unfolding step called
+  step-settled : (compactAt : ℕ) (w : LogWorld) (e : Event) → Steady w → Sound (stepLog compactAt settled w e)
+  unfolding stepLog called
   step-settled compactAt w (call c) st =
       let did = didCall compactAt (w .wal) c in
       issued-sound w c st (did .wal) (did .order) (acts compactAt (w .wal) (w .now) c (st .stands))
   step-settled compactAt w stored st = steady st
   step-settled compactAt w failed st = steady st
 
-  step-waits : (compactAt : ℕ) (w : World) (s : Sent) (e : Event) → w .disk .status ≡ waits s
-      → Steady (storedOrder w s) → ReadsBack long (failedOrder w s) → Sound (step compactAt (waits s) w e)
-  unfolding step failedOrder storedOrder
+  step-waits : (compactAt : ℕ) (w : LogWorld) (s : Sent) (e : Event) → w .disk .status ≡ waits s
+      → Steady (storedOrder w s) → ReadsBack long (failedOrder w s) → Sound (stepLog compactAt (waits s) w e)
+  unfolding stepLog failedOrder storedOrder
   step-waits compactAt w s (call c) q y n = waiting s q y n
   step-waits compactAt w s stored q y n = steady y
   step-waits compactAt w s failed q y n = ended s refl (y .stands) (y .bytes) n
 
   -- `rw` would rewrite the world itself, a record of its fields: so the family is written
-  pub step-sound : (compactAt : ℕ) (w : World) (e : Event) → Sound w → Sound (step compactAt (w .disk .status) w e)
-  unfolding step
-  step-sound compactAt w e (steady st) = subst (λ q. Sound (step compactAt q w e)) (sym (st .onDisk .settles))
+  pub step-sound : (compactAt : ℕ) (w : LogWorld) (e : Event) → Sound w
+      → Sound (stepLog compactAt (w .disk .status) w e)
+  unfolding stepLog
+  step-sound compactAt w e (steady st) = subst (λ q. Sound (stepLog compactAt q w e)) (sym (st .onDisk .settles))
       (step-settled compactAt w e st)
-  step-sound compactAt w e (waiting s q y n) = subst (λ q. Sound (step compactAt q w e)) (sym q)
+  step-sound compactAt w e (waiting s q y n) = subst (λ q. Sound (stepLog compactAt q w e)) (sym q)
       (step-waits compactAt w s e q y n)
-  step-sound compactAt w e (ended s q g b n) = subst (λ q. Sound (step compactAt q w e)) (sym q) (ended s q g b n)
+  step-sound compactAt w e (ended s q g b n) = subst (λ q. Sound (stepLog compactAt q w e)) (sym q) (ended s q g b n)
 
-  pub run-sound : (compactAt : ℕ) (es : List Event) (w : World) → Sound w → Sound (run compactAt w es)
-  unfolding run
+  pub run-sound : (compactAt : ℕ) (es : List Event) (w : LogWorld) → Sound w → Sound (runLog compactAt w es)
+  unfolding runLog
   run-sound compactAt [] w s = s
-  run-sound compactAt (e ∷ es) w s = run-sound compactAt es (step compactAt (w .disk .status) w e)
+  run-sound compactAt (e ∷ es) w s = run-sound compactAt es (stepLog compactAt (w .disk .status) w e)
       (step-sound compactAt w e s)
 
-  pub sound-reads : (w : World) → Sound w → ReadsBack long w
+  pub sound-reads : (w : LogWorld) → Sound w → ReadsBack long w
   unfolding failedOrder
   sound-reads w (steady st) file p =
       stored-cut (w .disk) (drop (w .firm) (w .moments)) (held (w .wal) (w .now)) (w .wal .counters .size)
@@ -332,7 +334,7 @@ module _ (long : ℕ) where
   sound-reads w (waiting s e y n) file p = n file (rw e at p)
   sound-reads w (ended s e g b n) file p = n file p
 
-  pub sound-stands : (w : World) → Sound w → Standing long w
+  pub sound-stands : (w : LogWorld) → Sound w → Standing long w
   unfolding storedOrder
   sound-stands w (steady st) = record {
     stands = st .stands;

@@ -12,7 +12,7 @@ use Rattle.log.specs.RowEnds
 
 pub row-ends : allTrue rowEnds ≡ true
 unfolding RowEnds.allTrue RowEnds.rowEnds RowEnds.sameBytes RowEnds.ids RowEnds.leaves RowEnds.message RowEnds.rowName
-    RowEnds.emptyLog RowEnds.after RowEnds.sizeAfter RowEnds.two RowEnds.doneThree RowEnds.tornOne
+    RowEnds.emptyLog RowEnds.walAfter RowEnds.sizeAfter RowEnds.two RowEnds.doneThree RowEnds.tornOne
     Format.escapeByte Format.escape Format.escaped Format.unescape Format.digits Format.printId Format.decimal
     Format.below64 Format.readDigits Format.readId Format.recordText Format.line Format.recordLine Format.doneLine
     Format.joinHead Format.split Format.allButLast Format.lines Format.fields
@@ -21,13 +21,13 @@ unfolding RowEnds.allTrue RowEnds.rowEnds RowEnds.sameBytes RowEnds.ids RowEnds.
     Opening.judge Opening.opening Opening.image
     Log.extended Log.movable Log.compactedBytes Log.compactedRows Log.compacted Log.withRecord Log.appendRefusal
     Log.appended
-    Log.appendOf Log.halved Log.searchRow Log.withoutRow Log.keeps Log.markedDone Log.markOf Log.syncOf
+    Log.appendOf Log.halved Log.searchRow Log.withoutRow Log.keeps Log.markedDone Log.markOf Log.syncLog
     Recovery.didCall
 row-ends = refl
 
 pub refusals-hold : allTrue refusals ≡ true
-unfolding RowEnds.allTrue RowEnds.refusals RowEnds.refusedBy RowEnds.answeredBy RowEnds.message RowEnds.rowName
-    RowEnds.emptyLog RowEnds.fullLog RowEnds.after RowEnds.two RowEnds.records
+unfolding RowEnds.allTrue RowEnds.refusals RowEnds.refusedBy RowEnds.turnedAwayBy RowEnds.message RowEnds.rowName
+    RowEnds.emptyLog RowEnds.fullLog RowEnds.walAfter RowEnds.two RowEnds.records
     Format.escapeByte Format.escape Format.escaped Format.unescape Format.digits Format.printId Format.decimal
     Format.below64 Format.readDigits Format.readId Format.recordText Format.line Format.recordLine Format.doneLine
     Format.joinHead Format.split Format.allButLast Format.lines Format.fields
@@ -36,7 +36,7 @@ unfolding RowEnds.allTrue RowEnds.refusals RowEnds.refusedBy RowEnds.answeredBy 
     Opening.judge Opening.opening Opening.image
     Log.extended Log.movable Log.compactedBytes Log.compactedRows Log.compacted Log.withRecord Log.appendRefusal
     Log.appended
-    Log.appendOf Log.halved Log.searchRow Log.withoutRow Log.keeps Log.markedDone Log.markOf Log.syncOf
+    Log.appendOf Log.halved Log.searchRow Log.withoutRow Log.keeps Log.markedDone Log.markOf Log.syncLog
     Recovery.didCall
 refusals-hold = refl
 

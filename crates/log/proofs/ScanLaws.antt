@@ -8,48 +8,48 @@ use borrow.Author.Tests.{lt-ltb, le-ltb, ne-eqb}
 use lib.Dec.{eqb, ltb}
 use lib.ListN.{length, drop}
 use Rattle.text.specs.Format.{Message, lines}
-use Rattle.text.specs.Line.{Line, put, done, other, readLine, firstOf, lineAt}
+use Rattle.text.specs.Line.{Line, put, done, other, readLine, firstText, lineAt}
 use Rattle.log.specs.declared.opening.Pass.{Pass}
 use Rattle.log.specs.Opening.{insert, remove, Rising, Read, readLines, readFile, takeIn, nothingRead}
 use Rattle.log.specs.Log.{row, rowId}
-use Rattle.log.specs.Scan.{messageOf, messagesOf, RowsRise, insertRow, removeRow, Took, beneath, beyond, set-in}
+use Rattle.log.specs.Scan.{rowMessage, rowMessages, RowsRise, insertRow, removeRow, Took, beneath, beyond, set-in}
 use Rattle.log.specs.Scan.{evicted, passRows, TookNext, LastId, Window}
 use Rattle.log.proofs.OpeningLaws.{Rising-low, Rising-le, Rising-insert, Rising-remove}
 
-pub rows-rise : (file : List ℕ) (rs : List (List ℕ)) (low high : ℕ) → Rising low (messagesOf file rs) high
+pub rows-rise : (file : List ℕ) (rs : List (List ℕ)) (low high : ℕ) → Rising low (rowMessages file rs) high
     → RowsRise low rs high
 rows-rise file [] low high r = r
 rows-rise file (x ∷ rs) low high r = (r .0, rows-rise file rs (suc (rowId x)) high (r .1))
 
 -- rows as messages
-pub map-insert : (file : List ℕ) (e : List ℕ) (es : List (List ℕ)) → messagesOf file (insertRow e es)
-    ≡ insert (messageOf file e) (messagesOf file es)
+pub map-insert : (file : List ℕ) (e : List ℕ) (es : List (List ℕ)) → rowMessages file (insertRow e es)
+    ≡ insert (rowMessage file e) (rowMessages file es)
 unfolding insertRow insert
 map-insert file e [] = refl
 map-insert file e (x ∷ xs) = at (ltb (rowId e) (rowId x)) refl (eqb (rowId e) (rowId x)) refl (map-insert file e xs)
   where
     at : (p : Bool) → ltb (rowId e) (rowId x) ≡ p → (q : Bool) → eqb (rowId e) (rowId x) ≡ q
-        → messagesOf file (insertRow e xs) ≡ insert (messageOf file e) (messagesOf file xs)
-        → messagesOf file (insertRow e (x ∷ xs)) ≡ insert (messageOf file e) (messagesOf file (x ∷ xs))
+        → rowMessages file (insertRow e xs) ≡ insert (rowMessage file e) (rowMessages file xs)
+        → rowMessages file (insertRow e (x ∷ xs)) ≡ insert (rowMessage file e) (rowMessages file (x ∷ xs))
     at true f q g ih = rw (f, insertRow, insert) refl
     at false f true g ih = rw (f, insertRow, insert) (rw g refl)
-    at false f false g ih = rw (f, insertRow, insert) (rw g (ap (λ r. messageOf file x ∷ r) ih))
+    at false f false g ih = rw (f, insertRow, insert) (rw g (ap (λ r. rowMessage file x ∷ r) ih))
 
-pub map-remove : (file : List ℕ) (id : ℕ) (es : List (List ℕ)) → messagesOf file (removeRow id es)
-    ≡ remove id (messagesOf file es)
+pub map-remove : (file : List ℕ) (id : ℕ) (es : List (List ℕ)) → rowMessages file (removeRow id es)
+    ≡ remove id (rowMessages file es)
 unfolding removeRow remove
 map-remove file id [] = refl
 map-remove file id (x ∷ xs) = at (eqb (rowId x) id) refl (map-remove file id xs)
   where
-    at : (p : Bool) → eqb (rowId x) id ≡ p → messagesOf file (removeRow id xs) ≡ remove id (messagesOf file xs)
-        → messagesOf file (removeRow id (x ∷ xs)) ≡ remove id (messagesOf file (x ∷ xs))
+    at : (p : Bool) → eqb (rowId x) id ≡ p → rowMessages file (removeRow id xs) ≡ remove id (rowMessages file xs)
+        → rowMessages file (removeRow id (x ∷ xs)) ≡ remove id (rowMessages file (x ∷ xs))
     at true f ih = rw (f, removeRow, remove) ih
-    at false f ih = rw (f, removeRow, remove) (ap (λ r. messageOf file x ∷ r) ih)
+    at false f ih = rw (f, removeRow, remove) (ap (λ r. rowMessage file x ∷ r) ih)
 
-pub map-append : (file : List ℕ) (x y : List (List ℕ)) → messagesOf file (x ++ y) ≡ messagesOf file x ++ messagesOf
+pub map-append : (file : List ℕ) (x y : List (List ℕ)) → rowMessages file (x ++ y) ≡ rowMessages file x ++ rowMessages
     file y
 map-append file [] y = refl
-map-append file (e ∷ x) y = ap (λ r. messageOf file e ∷ r) (map-append file x y)
+map-append file (e ∷ x) y = ap (λ r. rowMessage file e ∷ r) (map-append file x y)
 
 -- insert and remove in a part
 pub insert-front : (m : Message) (x y : List Message) (b top : ℕ) → Rising b y top → m .id < b → insert m (x ++ y)
@@ -110,9 +110,9 @@ pub record Tracked (file : List ℕ) (lo hi : ℕ) (these : List (List ℕ)) (re
   pub goes : readLines read rest ≡ readFile file
   pub below : List Message
   pub above : List Message
-  pub are : read .left ≡ below ++ (messagesOf file these ++ above)
+  pub are : read .left ≡ below ++ (rowMessages file these ++ above)
   pub low : Rising 0 below lo
-  pub mid : Rising lo (messagesOf file these) hi
+  pub mid : Rising lo (rowMessages file these) hi
   pub high : Rising hi above (2 ^ 64)
   pub wide : lo < hi
 
@@ -149,7 +149,7 @@ one-more : (r : Read) (l : List ℕ) (ls : List (List ℕ)) (k : Line) → readL
 unfolding readLines
 one-more r l ls k e = ap (λ j. readLines (takeIn r j) ls) e
 
-is-message : (file : List ℕ) (at : ℕ) (m : Message) → lineAt file at ≡ put m → messageOf file (row (m .id) at 0) ≡ m
+is-message : (file : List ℕ) (at : ℕ) (m : Message) → lineAt file at ≡ put m → rowMessage file (row (m .id) at 0) ≡ m
 is-message file at m e = rw e refl
 
 module _ {file : List ℕ} {lo hi : ℕ} {these : List (List ℕ)} {l : List ℕ} {ls : List (List ℕ)}
@@ -177,11 +177,11 @@ module _ {file : List ℕ} {lo hi : ℕ} {these : List (List ℕ)} {l : List ℕ
         goes = sym (one-more (w .read) l ls (done id) e) ∙ w .goes;
         below = remove id (w .below);
         above = remove id (w .above);
-        are = ap (remove id) (w .are) ∙ (remove-append id (w .below) (messagesOf file these ++ w .above)
-            ∙ ap (λ y. remove id (w .below) ++ y) (remove-append id (messagesOf file these) (w .above)
+        are = ap (remove id) (w .are) ∙ (remove-append id (w .below) (rowMessages file these ++ w .above)
+            ∙ ap (λ y. remove id (w .below) ++ y) (remove-append id (rowMessages file these) (w .above)
             ∙ ap (λ y. y ++ remove id (w .above)) (sym (map-remove file id these))));
         low = Rising-remove id (w .below) 0 lo (w .low);
-        mid = subst (λ y. Rising lo y hi) (sym (map-remove file id these)) (Rising-remove id (messagesOf file these) lo
+        mid = subst (λ y. Rising lo y hi) (sym (map-remove file id these)) (Rising-remove id (rowMessages file these) lo
             hi (w .mid));
         high = Rising-remove id (w .above) hi (2 ^ 64) (w .high);
         wide = w .wide;
@@ -195,12 +195,12 @@ module _ {file : List ℕ} {lo hi : ℕ} {these : List (List ℕ)} {l : List ℕ
     unfolding after
     onward = sym (one-more (w .read) l ls (put m) e) ∙ w .goes
 
-    after-left : after .left ≡ insert m (w .below ++ (messagesOf file these ++ w .above))
+    after-left : after .left ≡ insert m (w .below ++ (rowMessages file these ++ w .above))
     unfolding takeIn after
     after-left = ap (insert m) (w .are)
 
-    Rising-both : Rising lo (messagesOf file these ++ w .above) (2 ^ 64)
-    Rising-both = join (messagesOf file these) lo (w .mid)
+    Rising-both : Rising lo (rowMessages file these ++ w .above) (2 ^ 64)
+    Rising-both = join (rowMessages file these) lo (w .mid)
       where
         join : (x : List Message) (b : ℕ) → Rising b x hi → Rising b (x ++ w .above) (2 ^ 64)
         join [] b r = Rising-low (w .above) hi b (2 ^ 64) r (w .high)
@@ -212,7 +212,7 @@ module _ {file : List ℕ} {lo hi : ℕ} {these : List (List ℕ)} {l : List ℕ
       goes = onward;
       below = insert m (w .below);
       above = w .above;
-      are = after-left ∙ insert-front m (w .below) (messagesOf file these ++ w .above) lo (2 ^ 64) Rising-both h;
+      are = after-left ∙ insert-front m (w .below) (rowMessages file these ++ w .above) lo (2 ^ 64) Rising-both h;
       low = Rising-set m (w .below) 0 lo (omega arith) h (w .low);
       mid = w .mid;
       high = w .high;
@@ -225,8 +225,8 @@ module _ {file : List ℕ} {lo hi : ℕ} {these : List (List ℕ)} {l : List ℕ
       goes = onward;
       below = w .below;
       above = insert m (w .above);
-      are = after-left ∙ (insert-back m (w .below) (messagesOf file these ++ w .above) 0 lo (w .low)
-          (omega (arith, w .wide)) ∙ ap (λ y. w .below ++ y) (insert-back m (messagesOf file these) (w .above) lo hi
+      are = after-left ∙ (insert-back m (w .below) (rowMessages file these ++ w .above) 0 lo (w .low)
+          (omega (arith, w .wide)) ∙ ap (λ y. w .below ++ y) (insert-back m (rowMessages file these) (w .above) lo hi
           (w .mid) h));
       low = w .low;
       mid = w .mid;
@@ -238,16 +238,16 @@ module _ {file : List ℕ} {lo hi : ℕ} {these : List (List ℕ)} {l : List ℕ
       abbrev new : List ℕ
       new = row (m .id) at 0
 
-      inserted : messagesOf file (insertRow new these) ≡ insert m (messagesOf file these)
-      inserted = map-insert file new these ∙ ap (λ n. insert n (messagesOf file these)) (is-message file at m g)
+      inserted : rowMessages file (insertRow new these) ≡ insert m (rowMessages file these)
+      inserted = map-insert file new these ∙ ap (λ n. insert n (rowMessages file these)) (is-message file at m g)
 
-      now-left : after .left ≡ w .below ++ (messagesOf file (insertRow new these) ++ w .above)
-      now-left = after-left ∙ (insert-back m (w .below) (messagesOf file these ++ w .above) 0 lo (w .low) a
-          ∙ ap (λ y. w .below ++ y) (insert-front m (messagesOf file these) (w .above) hi (2 ^ 64) (w .high) b
+      now-left : after .left ≡ w .below ++ (rowMessages file (insertRow new these) ++ w .above)
+      now-left = after-left ∙ (insert-back m (w .below) (rowMessages file these ++ w .above) 0 lo (w .low) a
+          ∙ ap (λ y. w .below ++ y) (insert-front m (rowMessages file these) (w .above) hi (2 ^ 64) (w .high) b
           ∙ ap (λ y. y ++ w .above) (sym inserted)))
 
-      now-mid : Rising lo (messagesOf file (insertRow new these)) hi
-      now-mid = subst (λ y. Rising lo y hi) (sym inserted) (Rising-set m (messagesOf file these) lo hi a b (w .mid))
+      now-mid : Rising lo (rowMessages file (insertRow new these)) hi
+      now-mid = subst (λ y. Rising lo y hi) (sym inserted) (Rising-set m (rowMessages file these) lo hi a b (w .mid))
 
       put-within : Tracked file lo hi (insertRow new these) ls
       put-within = record {
@@ -266,24 +266,24 @@ module _ {file : List ℕ} {lo hi : ℕ} {these : List (List ℕ)} {l : List ℕ
       put-evicted : (y : List ℕ) (these' : List (List ℕ)) → insertRow new these ≡ these' ++ (y ∷ [])
           → 0 < length these' → Tracked file lo (rowId y) these' ls
       put-evicted y these' q h =
-          let split : messagesOf file (insertRow new these) ≡ messagesOf file these' ++ (messageOf file y ∷ []) =
-          ap (messagesOf file) q ∙ map-append file these' (y ∷ []) in
-          let s = Rising-split (messagesOf file these') (messageOf file y) lo hi (subst (λ z. Rising lo z hi) split
+          let split : rowMessages file (insertRow new these) ≡ rowMessages file these' ++ (rowMessage file y ∷ []) =
+          ap (rowMessages file) q ∙ map-append file these' (y ∷ []) in
+          let s = Rising-split (rowMessages file these') (rowMessage file y) lo hi (subst (λ z. Rising lo z hi) split
           now-mid) in
           record {
             read = after;
             goes = onward;
             below = w .below;
-            above = messageOf file y ∷ w .above;
+            above = rowMessage file y ∷ w .above;
             are = now-left ∙ ap (λ z. w .below ++ z) (ap (λ z. z ++ w .above) split
-                ∙ append-assoc (messagesOf file these') (messageOf file y ∷ []) (w .above));
+                ∙ append-assoc (rowMessages file these') (rowMessage file y ∷ []) (w .above));
             low = w .low;
             mid = s .0;
             high = (omega arith, Rising-low (w .above) hi (suc (rowId y)) (2 ^ 64) (s .1) (w .high));
-            wide = Rising-more (messagesOf file these') lo (rowId y) (map-some these' h) (s .0);
+            wide = Rising-more (rowMessages file these') lo (rowId y) (map-some these' h) (s .0);
           }
         where
-          map-some : (x : List (List ℕ)) → 0 < length x → 0 < length (messagesOf file x)
+          map-some : (x : List (List ℕ)) → 0 < length x → 0 < length (rowMessages file x)
           map-some [] k = absurd (omega arith)
           map-some (x ∷ xs) k = omega arith
 
@@ -304,7 +304,7 @@ tracked-line file lo p table at l ls q table' w₀ e t = by (readLine l) refl t
         (subst (λ y. Tracked file lo (p .hi) y ls) (sym b) v)
 
     here : (m : Message) → readLine l ≡ put m → lineAt file at ≡ put m
-    here m k = ap (λ x. readLine (firstOf x)) e ∙ k
+    here m k = ap (λ x. readLine (firstText x)) e ∙ k
 
     record-in : (m : Message) → readLine l ≡ put m → m .id < 2 ^ 64 → Took lo (p .hi) (passRows p table)
         (row (m .id) at 0) (q .hi) (passRows q table') → Tracked file lo (q .hi) (passRows q table') ls

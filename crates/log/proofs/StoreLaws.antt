@@ -20,24 +20,24 @@ use Rattle.text.proofs.AnswerLaws.{filled-part, filled-answer}
 use Rattle.log.specs.Opening.{fits, allFit, image}
 use Rattle.log.specs.Log.{row, rowAt}
 use Rattle.log.specs.Opened.{storedAt, stored, leftRow, rowsFrom}
-use Rattle.log.specs.Scan.{messageOf, messagesOf, fitLine, fitLeft, fromStore, Imaged, imaged, lenOf}
+use Rattle.log.specs.Scan.{rowMessage, rowMessages, fitLine, fitLeft, fromStore, Imaged, imaged, measuredLen}
 use Rattle.log.proofs.OpeningLaws.{and-left, and-right}
 
 -- the limits, row by row
 module _ (file : List ℕ) (rs : List (List ℕ)) where
   pub fit-next : (r : List ℕ) (more : List (List ℕ)) → rs ≡ r ∷ more → fitLine (lineAt file (rowAt r)) ≡ true
-      → allFit (messagesOf file rs) ≡ allFit (messagesOf file more)
+      → allFit (rowMessages file rs) ≡ allFit (rowMessages file more)
   unfolding allFit fits fitLine
-  fit-next r more e f = ap (λ l. allFit (messagesOf file l)) e ∙ ap (λ b. b && allFit (messagesOf file more)) f
+  fit-next r more e f = ap (λ l. allFit (rowMessages file l)) e ∙ ap (λ b. b && allFit (rowMessages file more)) f
 
   pub fit-stop : (r : List ℕ) (more : List (List ℕ)) → rs ≡ r ∷ more → fitLine (lineAt file (rowAt r)) ≡ false
-      → allFit (messagesOf file rs) ≡ false
+      → allFit (rowMessages file rs) ≡ false
   unfolding allFit fits fitLine
-  fit-stop r more e f = ap (λ l. allFit (messagesOf file l)) e ∙ ap (λ b. b && allFit (messagesOf file more)) f
+  fit-stop r more e f = ap (λ l. allFit (rowMessages file l)) e ∙ ap (λ b. b && allFit (rowMessages file more)) f
 
-  pub fit-end : rs ≡ [] → allFit (messagesOf file rs) ≡ true
+  pub fit-end : rs ≡ [] → allFit (rowMessages file rs) ≡ true
   unfolding allFit
-  fit-end e = ap (λ l. allFit (messagesOf file l)) e
+  fit-end e = ap (λ l. allFit (rowMessages file l)) e
 
 -- what the first of messages that fit says
 pub record FitFirst (m : Message) (ms : List Message) : Type 0 where
@@ -152,47 +152,47 @@ pub record Storing (file : List ℕ) (rows : List (List ℕ)) (count : ℕ) (sto
   pub long : length store ≡ length store₀
   pub many : length left ≡ length left₀
   pub within : i ≤ count
-  pub entries : stored i (messagesOf file (drop i (take count rows))) store
-      ≡ stored 0 (messagesOf file (take count rows)) store₀
-  pub table : write left i (map leftRow (messagesOf file (drop i (take count rows))))
-      ≡ write left₀ 0 (map leftRow (messagesOf file (take count rows)))
-  pub fit : allFit (messagesOf file (drop i (take count rows))) ≡ true
+  pub entries : stored i (rowMessages file (drop i (take count rows))) store
+      ≡ stored 0 (rowMessages file (take count rows)) store₀
+  pub table : write left i (map leftRow (rowMessages file (drop i (take count rows))))
+      ≡ write left₀ 0 (map leftRow (rowMessages file (take count rows)))
+  pub fit : allFit (rowMessages file (drop i (take count rows))) ≡ true
 
 module _ {file : List ℕ} {rows : List (List ℕ)} {count : ℕ} {store₀ : List ℕ} {left₀ : List (List ℕ)} {store : List ℕ}
     {left : List (List ℕ)} {i : ℕ} (s : Storing file rows count store₀ left₀ store left i) where
-  pub storing-ends : drop i (take count rows) ≡ [] → (store ≡ stored 0 (messagesOf file (take count rows)) store₀)
-      × (left ≡ write left₀ 0 (map leftRow (messagesOf file (take count rows))))
+  pub storing-ends : drop i (take count rows) ≡ [] → (store ≡ stored 0 (rowMessages file (take count rows)) store₀)
+      × (left ≡ write left₀ 0 (map leftRow (rowMessages file (take count rows))))
   unfolding stored
   storing-ends e = (
-    sym (ap (λ l. stored i (messagesOf file l) store) e) ∙ s .entries,
-    sym (ap (λ l. write left i (map leftRow (messagesOf file l))) e ∙ write-none left i) ∙ s .table,
+    sym (ap (λ l. stored i (rowMessages file l) store) e) ∙ s .entries,
+    sym (ap (λ l. write left i (map leftRow (rowMessages file l))) e ∙ write-none left i) ∙ s .table,
   )
 
   module _ (r : List ℕ) (h : i < count) (l : i < length left) (e : drop i (take count rows)
       ≡ r ∷ drop (i + 1) (take count rows)) where
-    pub storing-fits : FitFirst (messageOf file r) (messagesOf file (drop (i + 1) (take count rows)))
-    storing-fits = fit-first (messageOf file r) (messagesOf file (drop (i + 1) (take count rows)))
-        (ap (λ x. allFit (messagesOf file x)) (sym e) ∙ s .fit)
+    pub storing-fits : FitFirst (rowMessage file r) (rowMessages file (drop (i + 1) (take count rows)))
+    storing-fits = fit-first (rowMessage file r) (rowMessages file (drop (i + 1) (take count rows)))
+        (ap (λ x. allFit (rowMessages file x)) (sym e) ∙ s .fit)
 
     pub storing-line : fitLine (lineAt file (rowAt r)) ≡ true
     unfolding fitLine fits
     storing-line = storing-fits .first
 
-    pub storing-more : (store' : List ℕ) → 160 * i + 160 ≤ length store → store' ≡ storedAt i (messageOf file r) store
-        → (left' : List (List ℕ)) → left' ≡ set left i (leftRow (messageOf file r)) → Storing file rows count store₀
+    pub storing-more : (store' : List ℕ) → 160 * i + 160 ≤ length store → store' ≡ storedAt i (rowMessage file r) store
+        → (left' : List (List ℕ)) → left' ≡ set left i (leftRow (rowMessage file r)) → Storing file rows count store₀
         left₀ store' left' (i + 1)
     unfolding stored
     storing-more store' room p left' q =
-        let m = messageOf file r in
-        let more = messagesOf file (drop (i + 1) (take count rows)) in
+        let m = rowMessage file r in
+        let more = rowMessages file (drop (i + 1) (take count rows)) in
         record {
           long = ap length p ∙ (at-long i m store (storing-fits .name) (storing-fits .body) room ∙ s .long);
           many = ap length q ∙ (length-set left i (leftRow m) ∙ s .many);
           within = omega arith;
           entries = ap (λ k. stored k more store') (add-one i) ∙ (ap (stored (suc i) more) p
-              ∙ (ap (λ x. stored i (messagesOf file x) store) (sym e) ∙ s .entries));
+              ∙ (ap (λ x. stored i (rowMessages file x) store) (sym e) ∙ s .entries));
           table = ap (λ x. write x (i + 1) (map leftRow more)) q ∙ (write-cons left i (leftRow m) (map leftRow more) l
-              ∙ (ap (λ x. write left i (map leftRow (messagesOf file x))) (sym e) ∙ s .table));
+              ∙ (ap (λ x. write left i (map leftRow (rowMessages file x))) (sym e) ∙ s .table));
           fit = storing-fits .others;
         }
 
@@ -285,7 +285,8 @@ module _ {log₀ : List ℕ} {table₀ : List (List ℕ)} {store : List ℕ} {le
     split = ap (λ y. length (image y)) here ∙ length-append (recordLine m) (image rest)
 
     module _ (last : List ℕ) (r : Measure) (f : _≡_ {A = Filled} (record { bytes = last; answer = r })
-        (filled (take (length log - at) (drop at log)) (recordLine (slicedOf i x store)))) (n : ℕ) (q : n ≡ lenOf r)
+        (filled (take (length log - at) (drop at log)) (recordLine (slicedOf i x store)))) (n : ℕ) (q : n ≡
+        measuredLen r)
       where
         filled-here : _≡_ {A = Filled} (record { bytes = last; answer = r })
             (filled (take (length log - at) (drop at log)) (recordLine m))
@@ -298,7 +299,8 @@ module _ {log₀ : List ℕ} {table₀ : List (List ℕ)} {store : List ℕ} {le
         record-length =
             let room : length (recordLine m) ≤ length (take (length log - at) (drop at log)) =
             simp (length-take, length-drop) (omega (arith, fits-here)) in
-            q ∙ ap lenOf (filled-answer (take (length log - at) (drop at log)) (recordLine m) last r room filled-here)
+            q ∙ ap measuredLen (filled-answer (take (length log - at) (drop at log)) (recordLine m) last r room
+            filled-here)
 
         pub size-fits : at + n ≤ length log
         size-fits = omega (arith, fits-here, record-length)

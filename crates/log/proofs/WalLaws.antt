@@ -20,7 +20,7 @@ use Rattle.log.specs.declared.table.Found.the-variants.{At, Missing}
 use Rattle.log.specs.Log.{row, Wal, state, openRows, DidAppend, DidMark, turnedAway, extended, compactedBytes}
 use Rattle.log.specs.Log.{compactedRows}
 use Rattle.log.specs.Log.{compacted, withRecord, logged, newMessage, appendRefusal, appended, appendOf}
-use Rattle.log.specs.Log.{searchRow, withoutRow, keeps, markedDone, markOf, syncOf}
+use Rattle.log.specs.Log.{searchRow, withoutRow, keeps, markedDone, markOf, syncLog}
 use Rattle.log.specs.Table.{foundOf}
 use Rattle.log.specs.Opening.{fits}
 use Rattle.log.proofs.OpeningLaws.{and-left}
@@ -219,11 +219,11 @@ pub sync-dirty : (c : Counters) → c .dirty ≡ true
         count = c .count;
       };
       due = due.Ordered Flush;
-    }) (syncOf c)
-unfolding syncOf
+    }) (syncLog c)
+unfolding syncLog
 sync-dirty c e = rw e refl
 
 pub sync-clean : (c : Counters) → c .dirty ≡ false → _≡_ {A = AnsweredDue} (record { counters = c; due = due.Nothing })
-    (syncOf c)
-unfolding syncOf
+    (syncLog c)
+unfolding syncLog
 sync-clean c e = cc

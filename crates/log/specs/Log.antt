@@ -21,14 +21,14 @@ use Rattle.log.specs.declared.AnsweredDue.{AnsweredDue}
 use Rattle.log.specs.Opening.{fits}
 
 -- the number of each refusal (docs/RULES.md, 8; a full table: 256 messages are logged and live)
-abbrev pub numberOf : Refusal → ℕ
-numberOf Sizes = 2
-numberOf LastId = 3
-numberOf TooMuch = 4
-numberOf TooLong = 5
-numberOf Full = 8
-numberOf NoId = 9
-numberOf NoRoom = 10
+abbrev pub logNumberOf : Refusal → ℕ
+logNumberOf Sizes = 2
+logNumberOf LastId = 3
+logNumberOf TooMuch = 4
+logNumberOf TooLong = 5
+logNumberOf Full = 8
+logNumberOf NoId = 9
+logNumberOf NoRoom = 10
 
 -- a row of the table of open records: the id, where its record begins in the log, and the record's length
 abbrev pub row : ℕ → ℕ → ℕ → List ℕ
@@ -259,8 +259,8 @@ unfoldable pub markOf : ℕ → Wal → ℕ → DidMark
 markOf compactAt w id = markFound compactAt w id (searchRow id (openRows w))
 
 -- Sync: a flush is ordered only where a record was appended since the last one
-unfoldable pub syncOf : Counters → AnsweredDue
-syncOf c = elim (c .dirty) [
+unfoldable pub syncLog : Counters → AnsweredDue
+syncLog c = elim (c .dirty) [
   | true ↦ record {
     counters = record { next = c .next; live = c .live; size = c .size; dirty = false; count = c .count };
     due = due.Ordered Flush;

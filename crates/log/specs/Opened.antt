@@ -62,8 +62,8 @@ closedBy log store table left r = record {
 
 -- accepted: the messages left stand in the store in id order, the log is written anew from them, and the order is a
 -- replace
-abbrev pub openedBy : List ℕ → List ℕ → List (List ℕ) → List (List ℕ) → Read → Opened
-openedBy log store table left r = record {
+abbrev pub openedLogBy : List ℕ → List ℕ → List (List ℕ) → List (List ℕ) → Read → Opened
+openedLogBy log store table left r = record {
   log = write log 0 (image (r .left));
   store = stored 0 (r .left) store;
   table = write table 0 (rowsFrom 0 (r .left));
@@ -82,11 +82,11 @@ openedBy log store table left r = record {
 
 abbrev pub openJudged : List ℕ → List ℕ → List (List ℕ) → List (List ℕ) → Opening → Opened
 openJudged log store table left (refused r) = closedBy log store table left r
-openJudged log store table left (opened r) = openedBy log store table left r
+openJudged log store table left (opened r) = openedLogBy log store table left r
 
 -- Opening: the file is the first n bytes of the log
-unfoldable pub openOf : List ℕ → ℕ → List ℕ → List (List ℕ) → List (List ℕ) → Opened
-openOf log n store table left = elim (sized (length log) n (length store) (length table) (length left)) [
+unfoldable pub openLog : List ℕ → ℕ → List ℕ → List (List ℕ) → List (List ℕ) → Opened
+openLog log n store table left = elim (sized (length log) n (length store) (length table) (length left)) [
   | false ↦ closedBy log store table left Sizes
   | true ↦ openJudged log store table left (opening (take n log))
 ]

@@ -16,19 +16,19 @@ use Rattle.log.specs.declared.Due.{Due}
 use Rattle.log.specs.declared.Due.the-variants as due
 use Rattle.log.specs.declared.AnsweredDue.{AnsweredDue}
 use Rattle.log.specs.Opening.{Read, remove, RECORDS, STORE}
-use Rattle.log.specs.Log.{Wal, DidAppend, DidMark, newMessage, appendOf, markOf, syncOf}
-use Rattle.log.specs.Opened.{Opened, openedBy, openOf}
+use Rattle.log.specs.Log.{Wal, DidAppend, DidMark, newMessage, appendOf, markOf, syncLog}
+use Rattle.log.specs.Opened.{Opened, openedLogBy, openLog}
 
 -- the calls: log a message, mark an id done, sync
-pub data Call : Type 0 where
-  append : List ℕ → List ℕ → Call
-  mark : ℕ → Call
-  sync : Call
+pub data LogCall : Type 0 where
+  append : List ℕ → List ℕ → LogCall
+  mark : ℕ → LogCall
+  sync : LogCall
 
 -- the order of an answer, and the order that is due, if any
-abbrev pub ordered : Answer → Option Order
-ordered (Ordered o) = some o
-ordered (Refused r) = none
+abbrev pub orderOfAnswer : Answer → Option Order
+orderOfAnswer (Ordered o) = some o
+orderOfAnswer (Refused r) = none
 
 abbrev pub orderedDue : Due → Option Order
 orderedDue (due.Ordered o) = some o
@@ -40,7 +40,7 @@ pub record Called : Type 0 where
   pub order : Option Order
 
 abbrev pub byAppend : DidAppend → Called
-byAppend d = record { wal = d .wal; order = ordered (d .answer) }
+byAppend d = record { wal = d .wal; order = orderOfAnswer (d .answer) }
 
 abbrev pub byMark : DidMark → Called
 byMark d = record { wal = d .wal; order = orderedDue (d .due) }
@@ -50,10 +50,10 @@ bySync w s =
     record { wal = record { bytes = w .bytes; table = w .table; counters = s .counters }; order = orderedDue (s .due) }
 
 -- what a call makes of the log, whatever its arguments
-unfoldable pub didCall : ℕ → Wal → Call → Called
+unfoldable pub didCall : ℕ → Wal → LogCall → Called
 didCall compactAt w (append name body) = byAppend (appendOf w name body)
 didCall compactAt w (mark id) = byMark (markOf compactAt w id)
-didCall compactAt w sync = bySync w (syncOf (w .counters))
+didCall compactAt w sync = bySync w (syncLog (w .counters))
 
 -- an order with its bytes, taken from the log as it stands when the order goes out
 pub data Sent : Type 0 where
@@ -114,7 +114,7 @@ firmMoment flushing old last = last
 -- Moments: the messages logged and not done at the opening, and after each order that went out since. now: those of
 -- the last moment.
 -- firm: the place in `moments` of the last confirmed flush or replace; without one, of the opening.
-pub record World : Type 0 where
+pub record LogWorld : Type 0 where
   pub wal : Wal
   pub disk : Disk
   pub moments : List (List Message)
@@ -124,13 +124,13 @@ pub record World : Type 0 where
 -- what a call whose order goes out does to the messages logged and not done: a new record adds its message, with the
 -- name and body given and the next id;
 -- a mark takes its message off; any other order changes nothing
-unfoldable pub effect : Wal → Call → List Message → List Message
-effect w (append name body) now = now ++ (newMessage w name body ∷ [])
-effect w (mark id) now = remove id now
-effect w sync now = now
+unfoldable pub callEffect : Wal → LogCall → List Message → List Message
+callEffect w (append name body) now = now ++ (newMessage w name body ∷ [])
+callEffect w (mark id) now = remove id now
+callEffect w sync now = now
 
 -- an order goes out: one more moment
-unfoldable pub issue : World → Wal → List Message → Sent → World
+unfoldable pub issue : LogWorld → Wal → List Message → Sent → LogWorld
 issue w wal now s = record {
   wal = wal;
   disk = record { sure = w .disk .sure; since = w .disk .since; status = waits s };
@@ -139,15 +139,15 @@ issue w wal now s = record {
   firm = w .firm;
 }
 
-abbrev pub issued : World → Call → Wal → Option Order → World
-issued w c wal (some o) = issue w wal (effect (w .wal) c (w .now)) (sent (wal .bytes) o)
+abbrev pub issued : LogWorld → LogCall → Wal → Option Order → LogWorld
+issued w c wal (some o) = issue w wal (callEffect (w .wal) c (w .now)) (sent (wal .bytes) o)
 issued w c wal none = record { wal = wal; disk = w .disk; moments = w .moments; now = w .now; firm = w .firm }
 
-unfoldable pub called : World → Call → Called → World
+unfoldable pub called : LogWorld → LogCall → Called → LogWorld
 called w c did = issued w c (did .wal) (did .order)
 
 -- the order is answered: stored, or failed
-unfoldable pub storedOrder : World → Sent → World
+unfoldable pub storedOrder : LogWorld → Sent → LogWorld
 storedOrder w s = record {
   wal = w .wal;
   disk = confirm s (w .disk);
@@ -156,7 +156,7 @@ storedOrder w s = record {
   firm = firmMoment s (w .firm) (length (w .moments) - 1);
 }
 
-unfoldable pub failedOrder : World → Sent → World
+unfoldable pub failedOrder : LogWorld → Sent → LogWorld
 failedOrder w s = record {
   wal = w .wal;
   disk = record { sure = w .disk .sure; since = w .disk .since; status = lost s };
@@ -167,26 +167,26 @@ failedOrder w s = record {
 
 -- a call, or the disk's answer to the order that waits
 pub data Event : Type 0 where
-  call : Call → Event
+  call : LogCall → Event
   stored : Event
   failed : Event
 
 -- a call is turned away while an order waits and after one failed; an answer, where no order waits
-unfoldable pub step : ℕ → Status → World → Event → World
-step compactAt settled w (call c) = called w c (didCall compactAt (w .wal) c)
-step compactAt settled w stored = w
-step compactAt settled w failed = w
-step compactAt (waits s) w (call c) = w
-step compactAt (waits s) w stored = storedOrder w s
-step compactAt (waits s) w failed = failedOrder w s
-step compactAt (lost s) w e = w
+unfoldable pub stepLog : ℕ → Status → LogWorld → Event → LogWorld
+stepLog compactAt settled w (call c) = called w c (didCall compactAt (w .wal) c)
+stepLog compactAt settled w stored = w
+stepLog compactAt settled w failed = w
+stepLog compactAt (waits s) w (call c) = w
+stepLog compactAt (waits s) w stored = storedOrder w s
+stepLog compactAt (waits s) w failed = failedOrder w s
+stepLog compactAt (lost s) w e = w
 
-unfoldable pub run : ℕ → World → List Event → World
-run compactAt w [] = w
-run compactAt w (e ∷ es) = run compactAt (step compactAt (w .disk .status) w e) es
+unfoldable pub runLog : ℕ → LogWorld → List Event → LogWorld
+runLog compactAt w [] = w
+runLog compactAt w (e ∷ es) = runLog compactAt (stepLog compactAt (w .disk .status) w e) es
 
-abbrev pub walOf : Opened → Wal
-walOf o = record { bytes = o .log; table = o .table; counters = o .step .counters }
+abbrev pub openedWal : Opened → Wal
+openedWal o = record { bytes = o .log; table = o .table; counters = o .step .counters }
 
 -- the accepted opening of a file, which left these messages, with its replace not yet answered; the file given counts
 -- as confirmed
@@ -194,9 +194,9 @@ abbrev pub statusOf : List ℕ → Answer → Status
 statusOf bytes (Ordered o) = waits (sent bytes o)
 statusOf bytes (Refused r) = settled
 
-unfoldable pub begin : Opened → List ℕ → List Message → World
-begin o file left = record {
-  wal = walOf o;
+unfoldable pub beginLog : Opened → List ℕ → List Message → LogWorld
+beginLog o file left = record {
+  wal = openedWal o;
   disk = record { sure = file; since = []; status = statusOf (o .log) (o .step .answer) };
   moments = left ∷ [];
   now = left;
@@ -212,10 +212,10 @@ pub record Recovers (long : ℕ) (file : List ℕ) (moments : List (List Message
   pub among : List·Memᴰ (found .left) moments
   pub accepted : (log store : List ℕ) (table left : List (List ℕ)) → length log ≡ long → take (length file) log ≡ file
       → length store ≡ STORE → length table ≡ RECORDS → length left ≡ RECORDS
-      → openOf log (length file) store table left ≡ openedBy log store table left found
+      → openLog log (length file) store table left ≡ openedLogBy log store table left found
 
 -- whatever file a cut may leave, the next opening finds a moment no earlier than the last confirmed flush or replace
-abbrev pub Recoverable : ℕ → World → Type 0
+abbrev pub Recoverable : ℕ → LogWorld → Type 0
 Recoverable long w = (file : List ℕ) → Possible (w .disk) file → Recovers long file (drop (w .firm) (w .moments))
 
 -- the bytes at and after the size that a step reaches have their value from before it ..
@@ -223,8 +223,8 @@ abbrev pub TailKept : Wal → Wal → Type 0
 TailKept before after = drop (after .counters .size) (after .bytes) ≡ drop (after .counters .size) (before .bytes)
 
 -- .. and so in every step of a run
-abbrev pub TailsKept : ℕ → World → List Event → Type 0
-TailsKept compactAt w [] = Unit {0}
-TailsKept compactAt w (e ∷ es) =
-    TailKept (w .wal) (step compactAt (w .disk .status) w e .wal)
-    × TailsKept compactAt (step compactAt (w .disk .status) w e) es
+abbrev pub TailKeptThrough : ℕ → LogWorld → List Event → Type 0
+TailKeptThrough compactAt w [] = Unit {0}
+TailKeptThrough compactAt w (e ∷ es) =
+    TailKept (w .wal) (stepLog compactAt (w .disk .status) w e .wal)
+    × TailKeptThrough compactAt (stepLog compactAt (w .disk .status) w e) es

@@ -9,8 +9,8 @@ use Rattle.text.specs.Format.{TAB, Message, recordLine, line, unescape}
 use Rattle.log.specs.declared.Answer.{Answer}
 use Rattle.log.specs.declared.Answer.the-variants.{Ordered, Refused}
 use Rattle.log.specs.Opening.{Opening, refused, opened, opening, image}
-use Rattle.log.specs.Log.{Wal, numberOf, appendOf}
-use Rattle.log.specs.Recovery.{Call, append, mark, didCall}
+use Rattle.log.specs.Log.{Wal, logNumberOf, appendOf}
+use Rattle.log.specs.Recovery.{LogCall, append, mark, didCall}
 
 unfoldable pub sameBytes : List ℕ → List ℕ → Bool
 sameBytes [] [] = true
@@ -28,12 +28,12 @@ leaves (refused r) is next new = false
 leaves (opened r) is next new = sameBytes (ids (r .left)) is && eqb (r .next) next && sameBytes (image (r .left)) new
 
 unfoldable pub refusedBy : Opening → ℕ → Bool
-refusedBy (refused r) n = eqb (numberOf r) n
+refusedBy (refused r) n = eqb (logNumberOf r) n
 refusedBy (opened r) n = false
 
-unfoldable pub answeredBy : Answer → ℕ → Bool
-answeredBy (Ordered o) n = false
-answeredBy (Refused r) n = eqb (numberOf r) n
+unfoldable pub turnedAwayBy : Answer → ℕ → Bool
+turnedAwayBy (Ordered o) n = false
+turnedAwayBy (Refused r) n = eqb (logNumberOf r) n
 
 unfoldable pub message : ℕ → List ℕ → List ℕ → Message
 message id name body = record { id = id; name = name; body = body }
@@ -50,15 +50,15 @@ emptyLog l next = record {
   counters = record { next = next; live = 0; size = 0; dirty = false; count = 0 };
 }
 
-unfoldable pub after : ℕ → Wal → List Call → Wal
-after compactAt w [] = w
-after compactAt w (c ∷ cs) = after compactAt (didCall compactAt w c .wal) cs
+unfoldable pub walAfter : ℕ → Wal → List LogCall → Wal
+walAfter compactAt w [] = w
+walAfter compactAt w (c ∷ cs) = walAfter compactAt (didCall compactAt w c .wal) cs
 
-unfoldable pub sizeAfter : ℕ → ℕ → List Call → ℕ
-sizeAfter l compactAt calls = after compactAt (emptyLog l 0) calls .counters .size
+unfoldable pub sizeAfter : ℕ → ℕ → List LogCall → ℕ
+sizeAfter l compactAt calls = walAfter compactAt (emptyLog l 0) calls .counters .size
 
 -- two records of 8 bytes, ids 0 and 1
-unfoldable pub two : List Call
+unfoldable pub two : List LogCall
 two = append rowName (120 ∷ []) ∷ append rowName (121 ∷ []) ∷ []
 
 unfoldable pub records : ℕ → ℕ → List ℕ
@@ -114,12 +114,12 @@ unfoldable pub refusals : List Bool
 refusals =
     refusedBy (opening (recordLine (message 18446744073709551615 (97 ∷ []) (98 ∷ [])))) 3 ∷
     refusedBy (opening (records 257 0)) 4 ∷
-    answeredBy (appendOf (emptyLog 64 0) (replicate 33 97) [] .answer) 5 ∷
-    answeredBy (appendOf (emptyLog 64 0) [] (replicate 129 97) .answer) 5 ∷
-    answeredBy (appendOf fullLog (replicate 33 97) [] .answer) 5 ∷
-    answeredBy (appendOf fullLog [] [] .answer) 8 ∷
-    answeredBy (appendOf (emptyLog 64 18446744073709551615) [] [] .answer) 9 ∷
-    answeredBy (appendOf (after 64 (emptyLog 16 0) two) rowName (122 ∷ []) .answer) 10 ∷
+    turnedAwayBy (appendOf (emptyLog 64 0) (replicate 33 97) [] .answer) 5 ∷
+    turnedAwayBy (appendOf (emptyLog 64 0) [] (replicate 129 97) .answer) 5 ∷
+    turnedAwayBy (appendOf fullLog (replicate 33 97) [] .answer) 5 ∷
+    turnedAwayBy (appendOf fullLog [] [] .answer) 8 ∷
+    turnedAwayBy (appendOf (emptyLog 64 18446744073709551615) [] [] .answer) 9 ∷
+    turnedAwayBy (appendOf (walAfter 64 (emptyLog 16 0) two) rowName (122 ∷ []) .answer) 10 ∷
     []
 
 -- a record's line with its id in some spelling

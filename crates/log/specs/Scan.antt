@@ -29,12 +29,12 @@ use Rattle.log.specs.Opened.{rowsFrom}
 use Rattle.text.specs.declared.escape.Measure.the-variants as measure
 
 -- the message of a row: its id, with the name and body of the line where it begins
-abbrev pub messageOf : List ℕ → List ℕ → Message
-messageOf file r =
+abbrev pub rowMessage : List ℕ → List ℕ → Message
+rowMessage file r =
     record { id = rowId r; name = nameOf (lineAt file (rowAt r)); body = bodyOf (lineAt file (rowAt r)) }
 
-abbrev pub messagesOf : List ℕ → List (List ℕ) → List Message
-messagesOf file rs = map (messageOf file) rs
+abbrev pub rowMessages : List ℕ → List (List ℕ) → List Message
+rowMessages file rs = map (rowMessage file) rs
 
 -- the rows' ids rise from `low`, and stay below `high`
 abbrev pub RowsRise : ℕ → List (List ℕ) → ℕ → Type 0
@@ -96,8 +96,8 @@ TookLine lo p table l at (Next q) table' = (q .count ≤ length table') × TookN
 TookLine lo p table l at Over table' = LastId l
 
 -- a pass that has read nothing yet, and whether one goes on after a line
-abbrev pub begun : Passing
-begun = record { taken = Next (record { count = 0; hi = 18446744073709551615; next = 0 }); on = true }
+abbrev pub passBegun : Passing
+passBegun = record { taken = Next (record { count = 0; hi = 18446744073709551615; next = 0 }); on = true }
 
 abbrev pub going : Taken → Bool
 going (Next p) = true
@@ -123,9 +123,9 @@ TookNextLine lo file table Over End r table' = (r .taken ≡ Over) × (r .on ≡
 pub record Window (file : List ℕ) (lo hi : ℕ) (these : List (List ℕ)) : Type 0 where
   pub below : List Message
   pub above : List Message
-  pub are : readFile file .left ≡ below ++ (messagesOf file these ++ above)
+  pub are : readFile file .left ≡ below ++ (rowMessages file these ++ above)
   pub low : Rising 0 below lo
-  pub mid : Rising lo (messagesOf file these) hi
+  pub mid : Rising lo (rowMessages file these) hi
   pub high : Rising hi above (2 ^ 64)
   pub wide : lo < hi
 
@@ -143,7 +143,7 @@ Scanned file lo Over table = 2 ^ 64 ≤ readFile file .next
 pub record AllRows (file : List ℕ) (count next : ℕ) (table : List (List ℕ)) : Type 0 where
   pub few : count ≤ RECORDS
   pub next-is : next ≡ readFile file .next
-  pub left-are : readFile file .left ≡ messagesOf file (take count table)
+  pub left-are : readFile file .left ≡ rowMessages file (take count table)
 
 abbrev pub LeftIn : List ℕ → LeftRows → List (List ℕ) → Type 0
 LeftIn file NoNext table = 2 ^ 64 ≤ readFile file .next
@@ -190,9 +190,9 @@ imaged log table ms =
     record { log = write log 0 (image ms); table = write table 0 (rowsFrom 0 ms); size = length (image ms) }
 
 -- a measured length, 0 where there is none
-abbrev pub lenOf : Measure → ℕ
-lenOf (measure.Len n) = n
-lenOf measure.Over = 0
+abbrev pub measuredLen : Measure → ℕ
+measuredLen (measure.Len n) = n
+measuredLen measure.Over = 0
 
 -- the lengths of a name and a body
 abbrev pub lengthsOf : List ℕ → List ℕ → Lengths

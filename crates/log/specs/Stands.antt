@@ -9,7 +9,7 @@ use Rattle.text.specs.Format.{Message, recordLine}
 use Rattle.text.specs.Bytes.{part}
 use Rattle.log.specs.Opening.{allFit, Rising, image, RECORDS}
 use Rattle.log.specs.Log.{row, rowAt, Wal, openRows}
-use Rattle.log.specs.Recovery.{World}
+use Rattle.log.specs.Recovery.{LogWorld}
 
 -- few enough and short enough
 abbrev pub Small : List Message → Type 0
@@ -38,7 +38,7 @@ pub record Stands (w : Wal) (ms : List Message) : Type 0 where
 
 -- what holds after every list of calls: the state stands for the messages of the last moment, in a log of its first
 -- length, and the open records' length is at most the file's
-pub record Standing (long : ℕ) (w : World) : Type 0 where
+pub record Standing (long : ℕ) (w : LogWorld) : Type 0 where
   pub stands : Stands (w .wal) (w .now)
   pub bytes : length (w .wal .bytes) ≡ long
   pub live : w .wal .counters .live ≤ w .wal .counters .size

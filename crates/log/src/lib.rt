@@ -9,7 +9,7 @@
 // (proofs/Recovery): after any list of calls with any arguments, wherever the power fails, the next opening hands back
 // exactly the messages of one moment no earlier than the last confirmed flush or replace.
 ghost use mathlib.Core.Path.{_≡_};
-ghost use Rattle.log.specs.Log.{numberOf};
+ghost use Rattle.log.specs.Log.{logNumberOf};
 
 pub mod opening; // opening.rt: a file read, decided on and written anew
 pub mod table; // table.rt: rows of the table of open records
@@ -90,7 +90,7 @@ pub struct AnsweredDue {
 
 // The number of a refusal.
 pub fn number(r: Refusal) -> u64
-    ensures { λ n. ⌜ n ≡ numberOf r ⌝ }
+    ensures { λ n. ⌜ n ≡ logNumberOf r ⌝ }
 {
     match r {
         Refusal::Sizes => 2,

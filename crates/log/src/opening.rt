@@ -8,9 +8,9 @@ ghost use lib.ListN.{length, take};
 ghost use Rattle.text.specs.Bytes.{write};
 ghost use Rattle.text.specs.Line.{readLine, nameOf, bodyOf, lineAt};
 ghost use Rattle.log.specs.Opening.{readFile, allFit, image};
-ghost use Rattle.log.specs.Opened.{sized, stored, leftRow, noCounters, openedBy, openOf};
-ghost use Rattle.log.specs.Scan.{messagesOf, RowsRise, PlaceOf, holds, lenOf, Took, passRows, removeRow};
-ghost use Rattle.log.specs.Scan.{TookLine, CanTake, TookNextLine, going, begun, Scanned, LeftIn, Accepted};
+ghost use Rattle.log.specs.Opened.{sized, stored, leftRow, noCounters, openedLogBy, openLog};
+ghost use Rattle.log.specs.Scan.{rowMessages, RowsRise, PlaceOf, holds, measuredLen, Took, passRows, removeRow};
+ghost use Rattle.log.specs.Scan.{TookLine, CanTake, TookNextLine, going, passBegun, Scanned, LeftIn, Accepted};
 ghost use Rattle.log.specs.Scan.{Decided, fitLine, fitLeft, fromStore, imaged, lengthsOf};
 ghost use Rattle.log.specs.Log.{row};
 ghost use Rattle.log.specs.declared.Answer.the-variants.{Refused};
@@ -231,7 +231,7 @@ fn pass_line(rows: &mut [RecordRow], p: Pass, lo: u64, line: &[u8], at: usize) -
 
 // A pass that has read nothing yet.
 fn begin() -> Passing
-    ensures { λ r. ⌜ r ≡ begun ⌝ }
+    ensures { λ r. ⌜ r ≡ passBegun ⌝ }
 {
     let none = Pass {
         count: 0,
@@ -330,7 +330,7 @@ fn row_fits(file: &[u8], at: usize) -> bool
 
 fn rows_fit(file: &[u8], rows: &[RecordRow], count: usize) -> bool
     requires { ⌜ count ≤ length (now rows) ⌝ }
-    ensures { λ r. ⌜ r ≡ allFit (messagesOf (now (file .entry)) (take count (now (rows .entry)))) ⌝ }
+    ensures { λ r. ⌜ r ≡ allFit (rowMessages (now (file .entry)) (take count (now (rows .entry)))) ⌝ }
 {
     let mut i: usize = 0;
     while i < count {
@@ -362,7 +362,7 @@ fn decide(rows: &mut [RecordRow], file: &[u8]) -> Decision
 }
 
 fn len_of(m: Measure) -> usize
-    ensures { λ r. ⌜ r ≡ lenOf m ⌝ }
+    ensures { λ r. ⌜ r ≡ measuredLen m ⌝ }
 {
     match m {
         Measure::Len(n) => n,
@@ -392,12 +392,12 @@ fn store_rows(file: &[u8], rows: &[RecordRow], count: usize, store: &mut [u8], l
         × (count ≤ length (now rows))
         × (length (now store) ≡ 40960)
         × (length (now left) ≡ 256)
-        × (allFit (messagesOf (now file) (take count (now rows))) ≡ true) ⌝ }
+        × (allFit (rowMessages (now file) (take count (now rows))) ≡ true) ⌝ }
     ensures store { λ r. ⌜ now (store .exit)
-        ≡ stored 0 (messagesOf (now (file .entry)) (take count (now (rows .entry)))) (now (store .entry)) ⌝ }
+        ≡ stored 0 (rowMessages (now (file .entry)) (take count (now (rows .entry)))) (now (store .entry)) ⌝ }
     ensures left { λ r. ⌜ now (left .exit)
         ≡ write (now (left .entry)) 0
-        (map leftRow (messagesOf (now (file .entry)) (take count (now (rows .entry))))) ⌝ }
+        (map leftRow (rowMessages (now (file .entry)) (take count (now (rows .entry))))) ⌝ }
 {
     let mut i: usize = 0;
     while i < count {
@@ -501,7 +501,7 @@ fn accept(
       left = now (left .exit);
       step = r;
     }
-        ≡ openedBy (now (log .entry)) (now (store .entry)) (now (records .entry)) (now (left .entry))
+        ≡ openedLogBy (now (log .entry)) (now (store .entry)) (now (records .entry)) (now (left .entry))
         (readFile (take n (now (log .entry)))) ⌝ }
 {
     store_rows(&log[..n], rows, count, store, left);
@@ -535,7 +535,7 @@ pub fn open_log(
       left = now (left .exit);
       step = r;
     }
-        ≡ openOf (now (log .entry)) n (now (store .entry)) (now (records .entry)) (now (left .entry)) ⌝ }
+        ≡ openLog (now (log .entry)) n (now (store .entry)) (now (records .entry)) (now (left .entry)) ⌝ }
 {
     if sizes_fit(log.len(), n, store.len(), records.len(), left.len()) {
         let mut rows = [[0u64; 3]; RECORDS + 1];

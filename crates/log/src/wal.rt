@@ -9,7 +9,7 @@ ghost use lib.ListN.{length, take, getD};
 ghost use Rattle.text.specs.Bytes.{write, part};
 ghost use Rattle.log.specs.Log.{state, rowLen, compactedBytes, compactedRows, CanAppend, newMessage, logged};
 ghost use Rattle.log.specs.Log.{appended};
-ghost use Rattle.log.specs.Log.{appendOf, withoutRow, keeps, markedDone, markOf, syncOf};
+ghost use Rattle.log.specs.Log.{appendOf, withoutRow, keeps, markedDone, markOf, syncLog};
 ghost use Rattle.log.specs.declared.Answer.the-variants.{Refused};
 use crate::Answer;
 use crate::Answered;
@@ -364,7 +364,7 @@ pub fn mark(
 
 // Sync, by value.
 fn sync_step(counters: Counters) -> AnsweredDue
-    ensures { λ r. ⌜ r ≡ syncOf counters ⌝ }
+    ensures { λ r. ⌜ r ≡ syncLog counters ⌝ }
 {
     if counters.dirty {
         let clean = Counters {
@@ -387,7 +387,7 @@ fn sync_step(counters: Counters) -> AnsweredDue
 
 // Orders a flush, where a record was appended since the last one.
 pub fn sync(counters: &mut Counters) -> Due
-    ensures { λ d. ⌜ record { counters = now (counters .exit); due = d } ≡ syncOf (now (counters .entry)) ⌝ }
+    ensures { λ d. ⌜ record { counters = now (counters .exit); due = d } ≡ syncLog (now (counters .entry)) ⌝ }
 {
     let s = sync_step(*counters);
     *counters = s.counters;

@@ -23,36 +23,36 @@ use Rattle.actor.specs.declared.message.Logged.the-variants as id
 use Rattle.turn.specs.declared.state.OrderFor.the-variants as orderFor
 use Rattle.turn.specs.State.{State, walOf, withPool, withLog, withDisk, diskFor}
 use Rattle.turn.specs.Words.{isDue}
-use Rattle.turn.specs.Logged.{answerBy}
+use Rattle.turn.specs.Logged.{appendAnswer}
 use Rattle.answers.specs.declared.answer.Refusal.{Refusal}
 use Rattle.answers.specs.declared.refusals.Check.the-variants as check
 use Rattle.actor.specs.Entry.{Messages, keepOf}
-use Rattle.answers.specs.Answers.{Did, logRefusal, refused, shown, messagesOf, withMessages, kept}
+use Rattle.answers.specs.Answers.{Did, logRefusal, refused, shown, messagesIn, withMessages, kept}
 use Rattle.answers.specs.Refusals.{judged, byTable, tooLong, admitRefusalsFirst}
 use Rattle.answers.specs.Refusals.{admitRefusalsLogged}
 use Rattle.answers.proofs.RefusalLaws.{first-refuses, first-fine, fine-clear}
-use Rattle.pool.specs.Admit.{nextId, loggedIn, loggedBy, admitLogged, admitCalled, admitOf}
+use Rattle.pool.specs.Admit.{nextId, recordedIn, recordedBy, admitLogged, admitCalled, admitOf}
 
 -- ---- by what the log answered
 
 -- an order is due: the message is in the inbox, with its record ordered
 logged-ordered : (s : State) (name body : List ℕ) (d : DidAppend) (o : Due) (r : of-log.Refusal)
-    → d .answer ≡ answerBy o r → isDue o ≡ true
+    → d .answer ≡ appendAnswer o r → isDue o ≡ true
     → shown
     (kept
     (withLog (withPool s (withDisk (s .pool) (d .wal .counters) (diskFor o orderFor.Record))) (d .wal .bytes)
     (d .wal .table))
     (record { name = name; body = body; caller = caller.Nobody; id = id.As (nextId s) })
     INBOX)
-    ≡ loggedBy s name body d
-unfolding loggedBy isDue answerBy
-logged-ordered s name body d (due.Ordered o) r is ordered = ap (loggedIn s name body d) (sym is)
+    ≡ recordedBy s name body d
+unfolding recordedBy isDue appendAnswer
+logged-ordered s name body d (due.Ordered o) r is ordered = ap (recordedIn s name body d) (sym is)
 logged-ordered s name body d due.Nothing r is ordered = absurd (false≢true ordered)
 
 pub logged-kept : (s : State) (name body : List ℕ) (d : DidAppend) (o : Due) (r : of-log.Refusal) (m : Messages)
-    → d .answer ≡ answerBy o r → isDue o ≡ true
+    → d .answer ≡ appendAnswer o r → isDue o ≡ true
     → m
-    ≡ keepOf (messagesOf s)
+    ≡ keepOf (messagesIn s)
     (record { name = name; body = body; caller = caller.Nobody; id = id.As (nextId s) })
     INBOX
     → shown
@@ -60,7 +60,7 @@ pub logged-kept : (s : State) (name body : List ℕ) (d : DidAppend) (o : Due) (
     (withLog (withPool s (withDisk (s .pool) (d .wal .counters) (diskFor o orderFor.Record))) (d .wal .bytes)
     (d .wal .table))
     m)
-    ≡ loggedBy s name body d
+    ≡ recordedBy s name body d
 logged-kept s name body d o r m is ordered keeps =
     ap
     (λ (x : Messages). shown
@@ -73,11 +73,11 @@ logged-kept s name body d o r m is ordered keeps =
 
 -- none is due: it is refused
 pub logged-refused : (s : State) (name body : List ℕ) (d : DidAppend) (o : Due) (r : of-log.Refusal)
-    → d .answer ≡ answerBy o r → isDue o ≡ false
-    → refused (withLog s (d .wal .bytes) (d .wal .table)) (logRefusal r) ≡ loggedBy s name body d
-unfolding loggedBy isDue answerBy
+    → d .answer ≡ appendAnswer o r → isDue o ≡ false
+    → refused (withLog s (d .wal .bytes) (d .wal .table)) (logRefusal r) ≡ recordedBy s name body d
+unfolding recordedBy isDue appendAnswer
 logged-refused s name body d (due.Ordered o) r is none = absurd (false≢true (sym none))
-logged-refused s name body d due.Nothing r is none = ap (loggedIn s name body d) (sym is)
+logged-refused s name body d due.Nothing r is none = ap (recordedIn s name body d) (sym is)
 
 -- ---- by the table
 
@@ -101,9 +101,9 @@ module _ (s : State) (name body : List ℕ) (short : fits (newMessage (walOf s) 
   -- the log refuses: so does the admission
   log-refuses : (r : of-log.Refusal) → appendRefusal (walOf s) (newMessage (walOf s) name body) ≡ some r
       → admitLogged s name body ≡ refused s (logRefusal r)
-  unfolding admitLogged loggedBy appendOf
+  unfolding admitLogged recordedBy appendOf
   log-refuses r says =
-      ap (λ (x : Option of-log.Refusal). loggedBy s name body
+      ap (λ (x : Option of-log.Refusal). recordedBy s name body
       (appendJudged (walOf s) (newMessage (walOf s) name body) x)) says
 
   says-full : hasRow ≡ false → appendRefusal (walOf s) (newMessage (walOf s) name body) ≡ some logged.Full

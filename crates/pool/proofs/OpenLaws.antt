@@ -17,7 +17,7 @@ use Rattle.actor.specs.declared.question.Question.the-variants as question
 use Rattle.actor.specs.declared.question.Asked.the-variants as asked
 use Rattle.points.specs.declared.at.At.{At}
 use Rattle.settings.specs.Ranges.{groupsFrom}
-use Rattle.settings.specs.Tables.{Placed, putLeft}
+use Rattle.settings.specs.Tables.{LeftPlaced, putLeft}
 use Rattle.turn.specs.declared.state.OrderFor.{OrderFor}
 use Rattle.turn.specs.declared.state.OrderFor.the-variants as orderFor
 use Rattle.turn.specs.declared.state.Disk.{Disk}
@@ -31,18 +31,18 @@ use Rattle.answers.specs.declared.refusals.Check.the-variants as check
 use Rattle.answers.specs.Answers.{Did, logRefusal, refused}
 use Rattle.answers.specs.Refusals.{Lent, fileIn, logSized, judged, byTable, openRefusalsFirst, openRefusalsLogged}
 use Rattle.answers.proofs.RefusalLaws.{first-refuses, first-fine}
-use Rattle.pool.specs.Open.{limitsFrom, Tables, Found, Filled, filledBy, noLeft, unopened, openedBy}
+use Rattle.pool.specs.Open.{limitsFrom, Tables, Found, PoolFilled, filledBy, noLeft, unopened, openedBy}
 use Rattle.pool.specs.Open.{openEffect, openOf}
 
 -- the tables filled one by one, with the pool and the answer
 pub filled : (f : Found) (o : Order) (t : Tables) (groups links rows keys : Table) (p : Pool) (a : Answer)
     → groups ≡ groupsFrom (f .settings .«max_actors») (t .groups) (f .given)
-    → _≡_ {A = Placed} (record { links = links; rows = rows })
+    → _≡_ {A = LeftPlaced} (record { links = links; rows = rows })
     (putLeft (startFrom 0 (length (t .links))) (t .rows) (f .left) 0 (f .counters .count))
     → keys ≡ replicate (length (t .keys)) blankRow
     → p ≡ newPool (limitsFrom (f .settings) (length (f .given))) (f .counters) (disk.Waits o orderFor.Nothing)
     → a ≡ answer.Open (asked.Open (question.Store o))
-    → _≡_ {A = Filled}
+    → _≡_ {A = PoolFilled}
     (record { groups = groups; links = links; rows = rows; keys = keys; pool = p; answer = a })
     (filledBy f o t)
 unfolding filledBy
@@ -57,8 +57,8 @@ store-open d a links rows o w is = rw is
 
 sizes-refuse : (bytes : List ℕ) (n : ℕ) (store : List ℕ) (records left : Table)
     → log.sized (length bytes) n (length store) (length records) (length left) ≡ false
-    → log.openOf bytes n store records left ≡ log.closedBy bytes store records left logged.Sizes
-unfolding log.openOf
+    → log.openLog bytes n store records left ≡ log.closedBy bytes store records left logged.Sizes
+unfolding log.openLog
 sizes-refuse bytes n store records left sized = cc (sized)
 
 -- what the table says of the file is what the log answers
@@ -73,7 +73,7 @@ module _ (l : Lent) where
   fewLeft = leb (length (readFile (fileIn l) .left)) 256 && allFit (readFile (fileIn l) .left)
 
   abbrev logOpened : log.Opened
-  logOpened = log.openOf (l .bytes) (l .size) (l .store) (l .records) noLeft
+  logOpened = log.openLog (l .bytes) (l .size) (l .store) (l .records) noLeft
 
   -- the log refuses: so does the opening
   log-refuses : (r : of-log.Refusal) → logOpened ≡ log.closedBy (l .bytes) (l .store) (l .records) noLeft r
@@ -83,7 +83,7 @@ module _ (l : Lent) where
 
   file-refuses : (r : of-log.Refusal) → logSized l ≡ true → opening (fileIn l) ≡ of-file.refused r
       → logOpened ≡ log.closedBy (l .bytes) (l .store) (l .records) noLeft r
-  unfolding log.openOf
+  unfolding log.openLog
   file-refuses r sized says = cc (sized, says)
 
   says-not-sized : logSized l ≡ false

@@ -16,7 +16,7 @@ use Rattle.answers.specs.declared.refusals.Check.the-variants as check
 use Rattle.answers.specs.Answers.{Did, shown}
 use Rattle.answers.specs.Refusals.{judged, inTurn, isMessage, turnRefusals}
 use Rattle.pool.specs.declared.calls.StoredIn.the-variants as stored
-use Rattle.pool.specs.Calls.{begunOf, turnOf, storedIn, storedOf, failedOf, collectSend, resumeIn, resumeAt}
+use Rattle.pool.specs.Calls.{begunTurn, turnOf, storedIn, storedOf, failedOf, collectSend, resumeIn, resumeAt}
 use Rattle.pool.specs.Calls.{resumedOf}
 use Rattle.pool.specs.Calls.{replyEffect}
 use Rattle.pool.specs.Run.{runOf}
@@ -24,7 +24,7 @@ use Rattle.pool.specs.Run.{runOf}
 -- ---- a turn begins, or goes on once its order is stored
 
 pub turn-runs : (s : State) (p : Pool) (did : Did) → judged (turnRefusals (s .pool)) ≡ check.Fine
-    → p ≡ begunOf (s .pool) → did ≡ runOf (withPool s p) → did ≡ turnOf s
+    → p ≡ begunTurn (s .pool) → did ≡ runOf (withPool s p) → did ≡ turnOf s
 unfolding turnOf
 turn-runs s p did fine begun runs = rw fine (runs ∙ ap (λ (q : Pool). runOf (withPool s q)) begun)
 

@@ -30,11 +30,11 @@ module _ (s : State) (n : Counters) (o : Due) where
   stays (due.Ordered x) none = absurd (false≢true (sym none))
   stays due.Nothing none = refl
 
-  pub sync-due : isDue o ≡ true → stepped ≡ log.syncOf (s .pool .turn .counters)
+  pub sync-due : isDue o ≡ true → stepped ≡ log.syncLog (s .pool .turn .counters)
       → shown (withPool s (withDisk (s .pool) n (diskFor o orderFor.Nothing))) ≡ syncDid s
   unfolding syncEffect
   sync-due ordered did = ap (λ (p : Pool). shown (withPool s p)) (waits o ordered) ∙ ap showing did
 
-  pub sync-none : isDue o ≡ false → stepped ≡ log.syncOf (s .pool .turn .counters) → shown s ≡ syncDid s
+  pub sync-none : isDue o ≡ false → stepped ≡ log.syncLog (s .pool .turn .counters) → shown s ≡ syncDid s
   unfolding syncEffect
   sync-none none did = ap (λ (p : Pool). shown (withPool s p)) (stays o none) ∙ ap showing did

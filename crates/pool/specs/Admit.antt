@@ -29,20 +29,20 @@ recorded s d o =
     (d .wal .table)
 
 -- by what the log answered: in the inbox, with its record ordered; or refused
-abbrev pub loggedIn : State → List ℕ → List ℕ → log.DidAppend → of-log.Answer → Did
-loggedIn s name body d (logged.Ordered o) =
+abbrev pub recordedIn : State → List ℕ → List ℕ → log.DidAppend → of-log.Answer → Did
+recordedIn s name body d (logged.Ordered o) =
     shown
     (kept (recorded s d o)
     (record { name = name; body = body; caller = caller.Nobody; id = id.As (nextId s) })
     INBOX)
-loggedIn s name body d (logged.Refused r) = refused (withLog s (d .wal .bytes) (d .wal .table)) (logRefusal r)
+recordedIn s name body d (logged.Refused r) = refused (withLog s (d .wal .bytes) (d .wal .table)) (logRefusal r)
 
-unfoldable pub loggedBy : State → List ℕ → List ℕ → log.DidAppend → Did
-loggedBy s name body d = loggedIn s name body d (d .answer)
+unfoldable pub recordedBy : State → List ℕ → List ℕ → log.DidAppend → Did
+recordedBy s name body d = recordedIn s name body d (d .answer)
 
 -- nobody waits: the message is logged
 unfoldable pub admitLogged : State → List ℕ → List ℕ → Did
-admitLogged s name body = loggedBy s name body (appendOf (walOf s) name body)
+admitLogged s name body = recordedBy s name body (appendOf (walOf s) name body)
 
 -- a caller waits: it is not
 unfoldable pub admitCalled : State → List ℕ → List ℕ → CallerId → Did

@@ -32,11 +32,11 @@ abbrev pub firstPoint : Bool → At
 firstPoint true = at.Runs (point.Intake ENTRIES)
 firstPoint false = at.Runs (point.Seed 0)
 
-abbrev pub begunOf : Pool → Pool
-begunOf p = begunAt p (firstPoint (p .seeded))
+abbrev pub begunTurn : Pool → Pool
+begunTurn p = begunAt p (firstPoint (p .seeded))
 
 unfoldable pub turnOf : State → Did
-turnOf s = byTable s (judged (turnRefusals (s .pool))) (runOf (withPool s (begunOf (s .pool))))
+turnOf s = byTable s (judged (turnRefusals (s .pool))) (runOf (withPool s (begunTurn (s .pool))))
 
 -- ---- reply
 
@@ -105,7 +105,7 @@ unfoldable pub syncedBy : Pool → AnsweredDue → Pool
 syncedBy p d = syncedIn p d (d .due)
 
 unfoldable pub syncEffect : Pool → Pool
-syncEffect p = syncedBy p (log.syncOf (p .turn .counters))
+syncEffect p = syncedBy p (log.syncLog (p .turn .counters))
 
 abbrev pub syncDid : State → Did
 syncDid s = shown (withPool s (syncEffect (s .pool)))

@@ -15,7 +15,7 @@ use Rattle.actor.specs.declared.question.Question.the-variants as question
 use Rattle.actor.specs.declared.question.Asked.the-variants as asked
 use Rattle.settings.specs.declared.ranges.Settings.{Settings}
 use Rattle.settings.specs.Ranges.{groupsFrom}
-use Rattle.settings.specs.Tables.{Placed, putLeft}
+use Rattle.settings.specs.Tables.{LeftPlaced, putLeft}
 use Rattle.turn.specs.declared.state.OrderFor.the-variants as orderFor
 use Rattle.turn.specs.declared.state.Disk.the-variants as disk
 use Rattle.turn.specs.declared.state.Limits.{Limits}
@@ -55,7 +55,7 @@ pub record Found : Type 0 where
   pub counters : Counters
 
 -- the tables filled, with the pool and the answer
-pub record Filled : Type 0 where
+pub record PoolFilled : Type 0 where
   pub groups : Table
   pub links : Table
   pub rows : Table
@@ -64,7 +64,7 @@ pub record Filled : Type 0 where
   pub answer : Answer
 
 -- the order of the replace waits, and is shown
-abbrev pub filledWith : Found → Order → Tables → Placed → Filled
+abbrev pub filledWith : Found → Order → Tables → LeftPlaced → PoolFilled
 filledWith f o t p = record {
   groups = groupsFrom (f .settings .«max_actors») (t .groups) (f .given);
   links = p .links;
@@ -74,7 +74,7 @@ filledWith f o t p = record {
   answer = answer.Open (asked.Open (question.Store o));
 }
 
-unfoldable pub filledBy : Found → Order → Tables → Filled
+unfoldable pub filledBy : Found → Order → Tables → PoolFilled
 filledBy f o t =
     filledWith f o t (putLeft (startFrom 0 (length (t .links))) (t .rows) (f .left) 0 (f .counters .count))
 
@@ -109,7 +109,7 @@ unopened l = record {
   actors = l .actors;
 }
 
-abbrev pub openedWith : Lent → log.Opened → Filled → Did
+abbrev pub openedWith : Lent → log.Opened → PoolFilled → Did
 openedWith l o f = record {
   state = record {
     pool = f .pool;
@@ -149,7 +149,7 @@ openedBy l o = openedIn l o (o .step .answer)
 
 -- the log is opened: the file is the first bytes of the lent log
 unfoldable pub openEffect : Lent → Did
-openEffect l = openedBy l (log.openOf (l .bytes) (l .size) (l .store) (l .records) noLeft)
+openEffect l = openedBy l (log.openLog (l .bytes) (l .size) (l .store) (l .records) noLeft)
 
 unfoldable pub openOf : Lent → Did
 openOf l = byTable (unopened l) (judged (openRefusals l)) (openEffect l)

@@ -6,7 +6,7 @@ ghost use Rattle.lists.specs.Links.{Table};
 ghost use Rattle.points.specs.Words.{atOf};
 ghost use Rattle.turn.specs.Words.{poolOf};
 ghost use Rattle.answers.specs.Answers.{answerOf};
-ghost use Rattle.pool.specs.Calls.{firstPoint, begunOf, turnOf, storedIn, storedOf, failedOf, collectSend};
+ghost use Rattle.pool.specs.Calls.{firstPoint, begunTurn, turnOf, storedIn, storedOf, failedOf, collectSend};
 ghost use Rattle.pool.specs.Calls.{resumeAt};
 ghost use Rattle.pool.specs.Calls.{resumedOf, replyOf, syncDid, syncOf};
 ghost use Rattle.pool.specs.Calls.{closeOf};
@@ -53,7 +53,7 @@ fn first_point(seeded: bool) -> Where
 
 // A turn begins.
 fn begin(pool: &mut PoolCells)
-    ensures { λ r. ⌜ poolOf (now (pool .exit)) ≡ begunOf (poolOf (now (pool .entry))) ⌝ }
+    ensures { λ r. ⌜ poolOf (now (pool .exit)) ≡ begunTurn (poolOf (now (pool .entry))) ⌝ }
 {
     let seeded = state::seeded(pool);
     let at = first_point(seeded);

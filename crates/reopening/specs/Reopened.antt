@@ -3,8 +3,8 @@ use mathlib.Core.Path.{_≡_}
 use mathlib.Core.List.{List, [], _∷_}
 use Prim.Native.Nat.{ℕ}
 use lib.ListN.{length, replicate}
-use Rattle.log.specs.Log.{numberOf}
-use Rattle.log.specs.Opened.{Opened, openOf}
+use Rattle.log.specs.Log.{logNumberOf}
+use Rattle.log.specs.Opened.{Opened, openLog}
 use Rattle.log.specs.declared.Order.the-variants.{Append, Replace, Flush}
 use Rattle.log.specs.declared.Answer.{Answer}
 use Rattle.reopening.specs.declared.Reopened.{Reopened}
@@ -13,11 +13,11 @@ use Rattle.log.specs.declared.Answer.the-variants as answer
 use Rattle.log.specs.Opening.{RECORDS, STORE}
 
 -- the length of the new log, or the number of the refusal; opening orders nothing but a replace
-abbrev pub answerOf : Answer → Reopened
-answerOf (answer.Ordered (Append a b)) = Log 0
-answerOf (answer.Ordered (Replace n)) = Log n
-answerOf (answer.Ordered Flush) = Log 0
-answerOf (answer.Refused r) = Refused (numberOf r)
+abbrev pub reopenedBy : Answer → Reopened
+reopenedBy (answer.Ordered (Append a b)) = Log 0
+reopenedBy (answer.Ordered (Replace n)) = Log n
+reopenedBy (answer.Ordered Flush) = Log 0
+reopenedBy (answer.Refused r) = Refused (logNumberOf r)
 
 pub record Reopening : Type 0 where
   pub log : List ℕ
@@ -26,10 +26,10 @@ pub record Reopening : Type 0 where
 -- opening with a store and tables that hold zeros
 unfoldable pub freshly : List ℕ → ℕ → Opened
 freshly log n =
-    openOf log n (replicate STORE 0) (replicate RECORDS (0 ∷ 0 ∷ 0 ∷ [])) (replicate RECORDS (0 ∷ 0 ∷ 0 ∷ []))
+    openLog log n (replicate STORE 0) (replicate RECORDS (0 ∷ 0 ∷ 0 ∷ [])) (replicate RECORDS (0 ∷ 0 ∷ 0 ∷ []))
 
 abbrev pub reopenOf : List ℕ → ℕ → Reopening
-reopenOf log n = record { log = freshly log n .log; answer = answerOf (freshly log n .step .answer) }
+reopenOf log n = record { log = freshly log n .log; answer = reopenedBy (freshly log n .step .answer) }
 
 -- an answer that opening gives of a log of 65,536 bytes, whatever was read into it
 pub record OfSomeFile (r : Reopened) : Type 0 where

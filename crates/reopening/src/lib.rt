@@ -3,7 +3,7 @@
 // `reopen` is that on a slice (specs/Reopened); `reopen_fd` reads the file from a descriptor and prints the outcome.
 ghost use mathlib.Core.Path.{_≡_};
 ghost use lib.ListN.{length};
-ghost use Rattle.reopening.specs.Reopened.{reopenOf, answerOf, OfSomeFile};
+ghost use Rattle.reopening.specs.Reopened.{reopenOf, reopenedBy, OfSomeFile};
 use libc::STDOUT_FILENO;
 use log::Answer;
 use log::Order;
@@ -18,7 +18,7 @@ pub enum Reopened {
 }
 
 fn answered(a: Answer) -> Reopened
-    ensures { λ r. ⌜ r ≡ answerOf a ⌝ }
+    ensures { λ r. ⌜ r ≡ reopenedBy a ⌝ }
 {
     match a {
         Answer::Ordered(o) => match o {

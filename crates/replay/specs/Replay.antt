@@ -46,9 +46,9 @@ pub data Calls : Type 0 where
   malformed : Calls
   next : Call → Calls → Calls
 
-abbrev pub endOf : CallRead → ℕ
-endOf call.Malformed = 0
-endOf (call.Next c) = c .end
+abbrev pub callEnd : CallRead → ℕ
+callEnd call.Malformed = 0
+callEnd (call.Next c) = c .end
 
 abbrev pub follows : List ℕ → CallRead → Calls → Calls
 follows s call.Malformed rest = malformed
@@ -57,7 +57,7 @@ follows s (call.Next c) rest = next (decoded s c) rest
 -- the calls from p on: at most so many, which is enough where it is at least the number of bytes from p on
 unfoldable pub callsAt : ℕ → List ℕ → ℕ → Calls
 callsAt zero s p = ended
-callsAt (suc most) s p = pick (ltb p (length s)) (follows s (callAt s p) (callsAt most s (endOf (callAt s p)))) ended
+callsAt (suc most) s p = pick (ltb p (length s)) (follows s (callAt s p) (callsAt most s (callEnd (callAt s p)))) ended
 
 -- ---- a list of calls
 

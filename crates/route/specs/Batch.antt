@@ -39,7 +39,7 @@ abbrev pub routedOf : words.Routed → Routed
 routedOf w = record { at = atOf (w .at); queued = w .queued }
 
 -- what routing changes, and where the turn stands then
-pub record Sent : Type 0 where
+pub record RoutedTables : Type 0 where
   pub links : Table
   pub keys : Table
   pub actors : Table
@@ -62,12 +62,12 @@ unfoldable pub undeliverable : Table → Table → ℕ → Linked
 undeliverable t rows left = record { links = overFirst t rows BATCH; at = at.Runs (point.Route (left - 1)) }
 
 -- it is over, and what routing changes else is as it was
-abbrev pub lostTo : Linked → TurnTables → Sent
+abbrev pub lostTo : Linked → TurnTables → RoutedTables
 lostTo l x =
     record { links = l .links; keys = x .keys; actors = x .actors; routed = routedTo (l .at) (x .queued) }
 
 -- nothing changes, and the turn stands there
-abbrev pub sameTo : TurnTables → At → Sent
+abbrev pub sameTo : TurnTables → At → RoutedTables
 sameTo x a = record { links = x .links; keys = x .keys; actors = x .actors; routed = routedTo a (x .queued) }
 
 -- ---- delivery
@@ -81,7 +81,7 @@ unfoldable pub deliverTo : Table → ℕ → ℕ → Mailed
 deliverTo t slot queued =
     mailed (moveFirst t BATCH (mailboxOf slot)) (queuedAfter t (moveFirst t BATCH (mailboxOf slot)) slot queued)
 
-abbrev pub deliveredBy : Mailed → Keyed → ℕ → Sent
+abbrev pub deliveredBy : Mailed → Keyed → ℕ → RoutedTables
 deliveredBy m k left =
     record {
       links = m .links;
@@ -91,43 +91,43 @@ deliveredBy m k left =
     }
 
 -- to the mailbox of an actor, which is woken
-unfoldable pub deliver : TurnTables → ℕ → ℕ → ℕ → Sent
+unfoldable pub deliver : TurnTables → ℕ → ℕ → ℕ → RoutedTables
 deliver x g k left =
     deliveredBy (deliverTo (x .links) (slotAt g k) (x .queued)) (wakeAt (x .keys) (x .actors) g k) left
 
 -- to an actor, where there is one; else it is over
-unfoldable pub deliverKey : Table → TurnTables → ℕ → Key → ℕ → Sent
+unfoldable pub deliverKey : Table → TurnTables → ℕ → Key → ℕ → RoutedTables
 deliverKey rows x g (key.At k) left = deliver x g k left
 deliverKey rows x g key.Nothing left = lostTo (undeliverable (x .links) rows left) x
 
 -- ---- pick
 
 -- to the least loaded
-unfoldable pub routeLeast : Table → TurnTables → ℕ → ℕ → Sent
+unfoldable pub routeLeast : Table → TurnTables → ℕ → ℕ → RoutedTables
 routeLeast rows x g left = deliverKey rows x g (leastOf (x .keys) (x .links) g) left
 
 -- to the actor that was spawned; where none was, to the least loaded
-abbrev pub spawnedSent : Table → TurnTables → ℕ → ℕ → Key → Sent
+abbrev pub spawnedSent : Table → TurnTables → ℕ → ℕ → Key → RoutedTables
 spawnedSent rows x g left (key.At k) = deliver x g k left
 spawnedSent rows x g left key.Nothing = routeLeast rows x g left
 
-abbrev pub spawnSent : Table → Mailed → ℕ → ℕ → Spawned → Sent
+abbrev pub spawnSent : Table → Mailed → ℕ → ℕ → Spawned → RoutedTables
 spawnSent rows m g left s = spawnedSent rows (turnTables (m .links) (s .keys) (s .actors) (m .queued)) g left (s .key)
 
 -- an actor is spawned for it
-unfoldable pub routeSpawned : Table → TurnTables → ℕ → Bool → ℕ → Sent
+unfoldable pub routeSpawned : Table → TurnTables → ℕ → Bool → ℕ → RoutedTables
 routeSpawned rows x g eval left =
     spawnSent rows (mailed (x .links) (x .queued)) g left (spawnOf (x .keys) (x .actors) g eval)
 
 -- a spawn under the ceiling, for which a fixed group is asked Boot, else the least loaded
-unfoldable pub routeNew : Table → Table → TurnTables → ℕ → ℕ → Sent
+unfoldable pub routeNew : Table → Table → TurnTables → ℕ → ℕ → RoutedTables
 routeNew groups rows x g left =
     pick (ltb (liveLen (x .keys) g) (groupAt groups g .ceiling))
     (pick (groupAt groups g .eval) (routeSpawned rows x g true left) (sameTo x (at.Asks (asks.RouteBoot g left))))
     (routeLeast rows x g left)
 
 -- an idle one, where there is one, else that
-abbrev pub idleElse : TurnTables → ℕ → ℕ → Key → Sent → Sent
+abbrev pub idleElse : TurnTables → ℕ → ℕ → Key → RoutedTables → RoutedTables
 idleElse x g left (key.At k) other = deliver x g k left
 idleElse x g left key.Nothing other = other
 
@@ -136,43 +136,43 @@ abbrev pub idlePopped : TurnTables → ℕ → TurnTables
 idlePopped x g = turnTables (x .links) (popIdleOf (x .keys) (x .actors) g .keys) (x .actors) (x .queued)
 
 -- an idle one, else a spawn under the ceiling, else the least loaded
-unfoldable pub pickOf : Table → Table → TurnTables → ℕ → ℕ → Sent
+unfoldable pub pickOf : Table → Table → TurnTables → ℕ → ℕ → RoutedTables
 pickOf groups rows x g left =
     idleElse (idlePopped x g) g left (popIdleOf (x .keys) (x .actors) g .key)
     (routeNew groups rows (idlePopped x g) g left)
 
 -- to its group; with no group of its name it is over
-abbrev pub routeNamed : Table → Table → TurnTables → ℕ → Named → Sent
+abbrev pub routeNamed : Table → Table → TurnTables → ℕ → Named → RoutedTables
 routeNamed groups rows x left (named.Group g) = pickOf groups rows x g left
 routeNamed groups rows x left named.Nothing = lostTo (undeliverable (x .links) rows left) x
 
 -- the group is the one of the name that the message has in the store
-unfoldable pub routeOne : Programs → Table → TurnTables → ℕ → ℕ → Sent
+unfoldable pub routeOne : Programs → Table → TurnTables → ℕ → ℕ → RoutedTables
 routeOne p rows x entry left =
     routeNamed (p .groups) rows x left
     (byName (p .groups) (p .store) entry (messageAt rows entry .«name_len») (p .count))
 
 -- ---- the batch's first message, or the tick where none is left
 
-abbrev pub clockNext : TurnTables → Sent
+abbrev pub clockNext : TurnTables → RoutedTables
 clockNext x = sameTo x (at.Asks asks.TickClock)
 
-abbrev pub routeFirst : Programs → Table → TurnTables → ℕ → Found → Sent
+abbrev pub routeFirst : Programs → Table → TurnTables → ℕ → Found → RoutedTables
 routeFirst p rows x left (found.Entry e) = routeOne p rows x e left
 routeFirst p rows x left found.Nothing = clockNext x
 
-unfoldable pub routeOf : Programs → Table → TurnTables → ℕ → Sent
+unfoldable pub routeOf : Programs → Table → TurnTables → ℕ → RoutedTables
 routeOf p rows x left = pick (eqb left 0) (clockNext x) (routeFirst p rows x left (firstOf (x .links) BATCH))
 
 -- Boot yes: spawn, and deliver to it; no: the least loaded
-unfoldable pub routeBooted : Table → TurnTables → ℕ → ℕ → Bool → Sent
+unfoldable pub routeBooted : Table → TurnTables → ℕ → ℕ → Bool → RoutedTables
 routeBooted rows x g left true = routeSpawned rows x g false left
 routeBooted rows x g left false = routeLeast rows x g left
 
-abbrev pub routeBy : Table → TurnTables → ℕ → ℕ → YesIn → Sent
+abbrev pub routeBy : Table → TurnTables → ℕ → ℕ → YesIn → RoutedTables
 routeBy rows x g left yes.Yes = routeBooted rows x g left true
 routeBy rows x g left yes.No = routeBooted rows x g left false
 routeBy rows x g left yes.Other = sameTo x (at.Asks (asks.RouteBoot g left))
 
-unfoldable pub routeReply : Table → TurnTables → ℕ → ℕ → Reply → Sent
+unfoldable pub routeReply : Table → TurnTables → ℕ → ℕ → Reply → RoutedTables
 routeReply rows x g left r = routeBy rows x g left (yesIn r)

@@ -12,7 +12,7 @@ use lib.Seq.{drop-cons, take-suc-set, drop-set-lt, take-all}
 use Rattle.lists.specs.Links.{pick, Table, FREE, moveFirst, PENDING}
 use Rattle.actor.specs.Messages.{putMessage}
 use Rattle.settings.specs.Ranges.{allBytes, rowFits, rowsFit, poolRow, groupsFrom}
-use Rattle.settings.specs.Tables.{leftRow, leftMessage, putLeft}
+use Rattle.settings.specs.Tables.{leftAt, leftMessage, putLeft}
 
 -- one element more of a list, as the code counts
 more : {A : Type 0} (l : List A) (i : ℕ) (d : A) → i < length l → drop i l ≡ getD l i d ∷ drop (i + 1) l
@@ -88,7 +88,7 @@ blank-end t row n i long out within below =
 
 module _ (t rows left : Table) (i n : ℕ) where
   pub left-more : i < n → putLeft t rows left i (n - i) ≡ putLeft (moveFirst t FREE PENDING)
-      (putMessage rows i (leftMessage (leftRow left i))) left (i + 1) (n - (i + 1))
+      (putMessage rows i (leftMessage (leftAt left i))) left (i + 1) (n - (i + 1))
   unfolding putLeft
   left-more inside = let some : n - i ≡ suc (n - (i + 1)) = omega arith in rw (some, add-one)
 

@@ -8,13 +8,13 @@ use Rattle.actor.specs.declared.message.Logged.the-variants as logged
 use Rattle.actor.specs.declared.message.Message.{Message}
 use Rattle.actor.specs.Messages.{putMessage}
 
-pub record Placed : Type 0 where
+pub record LeftPlaced : Type 0 where
   pub links : Table
   pub rows : Table
 
 -- row i of what the log left: the id, and the lengths of name and body
-abbrev pub leftRow : Table → ℕ → List ℕ
-leftRow left i = getD left i (0 ∷ 0 ∷ 0 ∷ [])
+abbrev pub leftAt : Table → ℕ → List ℕ
+leftAt left i = getD left i (0 ∷ 0 ∷ 0 ∷ [])
 
 -- attempts 0, nobody waits for it
 abbrev pub leftMessage : List ℕ → Message
@@ -28,7 +28,7 @@ leftMessage row = record {
 }
 
 -- n of them, from the i-th on
-unfoldable pub putLeft : Table → Table → Table → ℕ → ℕ → Placed
+unfoldable pub putLeft : Table → Table → Table → ℕ → ℕ → LeftPlaced
 putLeft t rows left i zero = record { links = t; rows = rows }
-putLeft t rows left i (suc n) = putLeft (moveFirst t FREE PENDING) (putMessage rows i (leftMessage (leftRow left i)))
+putLeft t rows left i (suc n) = putLeft (moveFirst t FREE PENDING) (putMessage rows i (leftMessage (leftAt left i)))
     left (suc i) n

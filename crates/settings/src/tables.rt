@@ -3,7 +3,7 @@ ghost use mathlib.Core.Path.{_≡_};
 ghost use lib.ListN.{length, replicate};
 ghost use Rattle.lists.specs.KeyLists.{blankRow};
 ghost use Rattle.actor.specs.Messages.{putMessage};
-ghost use Rattle.settings.specs.Tables.{leftRow, leftMessage, putLeft};
+ghost use Rattle.settings.specs.Tables.{leftAt, leftMessage, putLeft};
 use actor::message;
 use actor::message::Caller;
 use actor::message::Logged;
@@ -26,7 +26,7 @@ pub fn blank_keys(keys: &mut [KeyRow])
 
 // A row of what the log left, past the table's end an empty one: id, the lengths of name and body.
 fn left_row(left: &[LeftRow], i: usize) -> LeftRow
-    ensures { λ r. ⌜ r ≡ leftRow (now (left .entry)) i ⌝ }
+    ensures { λ r. ⌜ r ≡ leftAt (now (left .entry)) i ⌝ }
 {
     if i < left.len() { left[i] } else { [0, 0, 0] }
 }

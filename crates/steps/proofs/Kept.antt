@@ -421,7 +421,7 @@ module _ (slot : ℕ) (slot-is : slot < 128) where
       outcome.StuckHostCall)
 
   module _ (t rows l : Table) (q : ℕ) (good : Good t) (limit : Limit) where
-    by-clock : (r : ClockIn) → EvalKept t q (two.clockBy (stepTables t rows l) slot r)
+    by-clock : (r : ClockIn) → EvalKept t q (two.evalClockBy (stepTables t rows l) slot r)
     by-clock (clock.Of ns) = clocked-kept t rows l q ns good
     by-clock clock.Other = same-kept t q good
 
@@ -434,17 +434,18 @@ module _ (slot : ℕ) (slot-is : slot < 128) where
     by-start (clock.Of ns) = started-kept t l q good limit ns
     by-start clock.Other = same-kept t q good
 
-    by-run-eval : (start : Bool) (r : RanIn) → EvalKept t q (two.runBy (stepTables t rows l) slot start r)
+    by-run-eval : (start : Bool) (r : RanIn) → EvalKept t q (two.evalRunBy (stepTables t rows l) slot start r)
     by-run-eval start (ran.Of s) = ran-eval-kept t rows l q good s
     by-run-eval start ran.Other = same-kept t q good
 
-    by-dispatch-eval : (r : CountIn) → EvalKept t q (two.dispatchBy (stepTables t rows l) slot r)
+    by-dispatch-eval : (r : CountIn) → EvalKept t q (two.evalDispatchBy (stepTables t rows l) slot r)
     by-dispatch-eval (count.Of n) = dispatched-eval-kept t rows l q n good
     by-dispatch-eval count.Other = same-kept t q good
 
     -- every transition of an eval actor
     pub step-eval-kept : (a : EvalAsk) (r : Reply) → EvalKept t q (two.stepEval (stepTables t rows l) slot limit a r)
-    unfolding two.stepEval two.clockReply two.bootReply two.startReply two.runReply two.dispatchReply two.tellReply
+    unfolding two.stepEval two.evalClockReply two.bootReply two.startReply two.evalRunReply two.evalDispatchReply
+        two.tellReply
     step-eval-kept eval.Clock r = by-clock (clockIn r)
     step-eval-kept eval.Boot r = by-boot (yesIn r)
     step-eval-kept eval.StartClock r = by-start (clockIn r)

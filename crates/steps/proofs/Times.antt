@@ -17,7 +17,7 @@ use Rattle.steps.specs.declared.eval.Limit.{Limit}
 use Rattle.actor.specs.Messages.{messageAt}
 use Rattle.actor.specs.Actors.{actorOf, actorOnto, actorCells, actorAt, putActor, deadlineOf}
 use Rattle.steps.specs.Steps.{callerFirst}
-use Rattle.steps.specs.StepEval.{deadlineFrom, evalTell, evalFinish, evalClocked, evalStarted, clockReply}
+use Rattle.steps.specs.StepEval.{deadlineFrom, evalTell, evalFinish, evalClocked, evalStarted, evalClockReply}
 use Rattle.steps.specs.StepEval.{startReply, stepEval}
 use Rattle.log.specs.RowEnds.{allTrue}
 use Rattle.log.specs.RowEnds as Log
@@ -55,7 +55,7 @@ deadline-exact c limit low day = (exact, omega (arith, exact, whole-fits (limit 
 -- ---- row end 8
 
 deadlines-hold : allTrue deadlines ≡ true
-unfolding allTrue deadlines begun asked stepEval startReply evalStarted clockReply evalClocked evalFinish evalTell
+unfolding allTrue deadlines begun asked stepEval startReply evalStarted evalClockReply evalClocked evalFinish evalTell
     deadlineFrom capped moveFirst startFrom leaveOf joinEnd setEnds setNext linkAt handOf mailboxOf callerFirst
     messageAt putActor actorAt actorOf actorOnto actorCells
 deadlines-hold = refl

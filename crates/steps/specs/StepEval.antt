@@ -154,9 +154,9 @@ evalDispatched x slot n =
 abbrev pub still : Table → Table → EvalAsk → EvalBoth
 still t l a = record { links = t; actors = l; next = next.Asks a }
 
-abbrev pub clockBy : StepTables → ℕ → ClockIn → EvalBoth
-clockBy x slot (clock.Of ns) = evalClocked x slot ns
-clockBy x slot clock.Other = still (x .links) (x .actors) ask.Clock
+abbrev pub evalClockBy : StepTables → ℕ → ClockIn → EvalBoth
+evalClockBy x slot (clock.Of ns) = evalClocked x slot ns
+evalClockBy x slot clock.Other = still (x .links) (x .actors) ask.Clock
 
 abbrev pub bootBy : StepTables → ℕ → YesIn → EvalBoth
 bootBy x slot yes.Yes = evalBooted x slot true
@@ -167,16 +167,16 @@ abbrev pub startBy : Table → Table → ℕ → Limit → ClockIn → EvalBoth
 startBy t l slot limit (clock.Of ns) = evalStarted t l slot limit ns
 startBy t l slot limit clock.Other = still t l ask.StartClock
 
-abbrev pub runBy : StepTables → ℕ → Bool → RanIn → EvalBoth
-runBy x slot start (ran.Of s) = evalRan x slot s
-runBy x slot start ran.Other = still (x .links) (x .actors) (ask.Run start)
+abbrev pub evalRunBy : StepTables → ℕ → Bool → RanIn → EvalBoth
+evalRunBy x slot start (ran.Of s) = evalRan x slot s
+evalRunBy x slot start ran.Other = still (x .links) (x .actors) (ask.Run start)
 
-abbrev pub dispatchBy : StepTables → ℕ → CountIn → EvalBoth
-dispatchBy x slot (count.Of n) = evalDispatched x slot n
-dispatchBy x slot count.Other = still (x .links) (x .actors) ask.Dispatch
+abbrev pub evalDispatchBy : StepTables → ℕ → CountIn → EvalBoth
+evalDispatchBy x slot (count.Of n) = evalDispatched x slot n
+evalDispatchBy x slot count.Other = still (x .links) (x .actors) ask.Dispatch
 
-unfoldable pub clockReply : StepTables → ℕ → Reply → EvalBoth
-clockReply x slot r = clockBy x slot (clockIn r)
+unfoldable pub evalClockReply : StepTables → ℕ → Reply → EvalBoth
+evalClockReply x slot r = evalClockBy x slot (clockIn r)
 
 unfoldable pub bootReply : StepTables → ℕ → Reply → EvalBoth
 bootReply x slot r = bootBy x slot (yesIn r)
@@ -184,22 +184,22 @@ bootReply x slot r = bootBy x slot (yesIn r)
 unfoldable pub startReply : Table → Table → ℕ → Limit → Reply → EvalBoth
 startReply t l slot limit r = startBy t l slot limit (clockIn r)
 
-unfoldable pub runReply : StepTables → ℕ → Bool → Reply → EvalBoth
-runReply x slot start r = runBy x slot start (ranIn r)
+unfoldable pub evalRunReply : StepTables → ℕ → Bool → Reply → EvalBoth
+evalRunReply x slot start r = evalRunBy x slot start (ranIn r)
 
-unfoldable pub dispatchReply : StepTables → ℕ → Reply → EvalBoth
-dispatchReply x slot r = dispatchBy x slot (countIn r)
+unfoldable pub evalDispatchReply : StepTables → ℕ → Reply → EvalBoth
+evalDispatchReply x slot r = evalDispatchBy x slot (countIn r)
 
 -- a message is over once its caller was told
 unfoldable pub tellReply : StepTables → ℕ → Outcome → Reply → EvalBoth
 tellReply x slot o r = pick (isTold r) (evalOver x slot) (still (x .links) (x .actors) (ask.Tell o))
 
 unfoldable pub stepEval : StepTables → ℕ → Limit → EvalAsk → Reply → EvalBoth
-stepEval x slot limit ask.Clock r = clockReply x slot r
+stepEval x slot limit ask.Clock r = evalClockReply x slot r
 stepEval x slot limit ask.Boot r = bootReply x slot r
 stepEval x slot limit ask.StartClock r = startReply (x .links) (x .actors) slot limit r
-stepEval x slot limit (ask.Run start) r = runReply x slot start r
-stepEval x slot limit ask.Dispatch r = dispatchReply x slot r
+stepEval x slot limit (ask.Run start) r = evalRunReply x slot start r
+stepEval x slot limit ask.Dispatch r = evalDispatchReply x slot r
 stepEval x slot limit (ask.Tell o) r = tellReply x slot o r
 
 -- ---- the question that is open, as it is shown; Run shows the message of a start, which is the program

@@ -85,14 +85,14 @@ fixedNextOf w =
 
 -- ---- an eval actor's step; only Tell has an outcome
 
-abbrev pub outcomeNumber : Outcome → ℕ
-outcomeNumber outcome.Ran = 0
-outcomeNumber outcome.Unbooted = 1
-outcomeNumber outcome.Broke = 2
-outcomeNumber outcome.Raised = 3
-outcomeNumber outcome.Late = 4
-outcomeNumber outcome.StuckHostCall = 5
-outcomeNumber outcome.StuckReceive = 6
+abbrev pub outcomeCell : Outcome → ℕ
+outcomeCell outcome.Ran = 0
+outcomeCell outcome.Unbooted = 1
+outcomeCell outcome.Broke = 2
+outcomeCell outcome.Raised = 3
+outcomeCell outcome.Late = 4
+outcomeCell outcome.StuckHostCall = 5
+outcomeCell outcome.StuckReceive = 6
 
 unfoldable pub outcomeOf : ℕ → Outcome
 outcomeOf n =

@@ -13,11 +13,11 @@ ghost use Rattle.steps.specs.StepEval.{
   evalStarted,
   evalRan,
   evalDispatched,
-  clockReply,
+  evalClockReply,
   bootReply,
   startReply,
-  runReply,
-  dispatchReply,
+  evalRunReply,
+  evalDispatchReply,
   tellReply,
   stepEval,
   evalShown,
@@ -25,7 +25,7 @@ ghost use Rattle.steps.specs.StepEval.{
   evalAsks,
   evalStepOf,
 };
-ghost use Rattle.steps.specs.Words.{parkedOf, evalNumber, evalKindOf, outcomeNumber, outcomeOf};
+ghost use Rattle.steps.specs.Words.{parkedOf, evalNumber, evalKindOf, outcomeCell, outcomeOf};
 ghost use Rattle.steps.specs.Words.{evalAskOf, evalNextOf};
 ghost use Rattle.steps.specs.Steps.{stepTables};
 use crate::step;
@@ -155,7 +155,7 @@ pub fn kind_of(ask: u64) -> EvalKind
 
 // The number of an outcome.
 fn outcome_number(o: Outcome) -> u64
-    ensures { λ r. ⌜ r ≡ outcomeNumber o ⌝ }
+    ensures { λ r. ⌜ r ≡ outcomeCell o ⌝ }
 {
     match o {
         Outcome::Ran => 0,
@@ -499,7 +499,7 @@ fn clock_reply(
 ) -> EvalWords
     ensures { λ r.
         ⌜ record { links = now (links .exit); actors = now (actors .exit); next = evalNextOf r }
-        ≡ clockReply (stepTables (now (links .entry)) (now (rows .entry)) (now (actors .entry))) slot reply ⌝ }
+        ≡ evalClockReply (stepTables (now (links .entry)) (now (rows .entry)) (now (actors .entry))) slot reply ⌝ }
 {
     let came = question::clock_in(reply);
     match came {
@@ -558,7 +558,7 @@ fn run_reply(
 ) -> EvalWords
     ensures { λ r.
         ⌜ record { links = now (links .exit); actors = now (actors .exit); next = evalNextOf r }
-        ≡ runReply (stepTables (now (links .entry)) (now (rows .entry)) (now (actors .entry))) slot start reply ⌝ }
+        ≡ evalRunReply (stepTables (now (links .entry)) (now (rows .entry)) (now (actors .entry))) slot start reply ⌝ }
 {
     let came = question::ran_in(reply);
     match came {
@@ -577,7 +577,7 @@ fn dispatch_reply(
 ) -> EvalWords
     ensures { λ r.
         ⌜ record { links = now (links .exit); actors = now (actors .exit); next = evalNextOf r }
-        ≡ dispatchReply (stepTables (now (links .entry)) (now (rows .entry)) (now (actors .entry))) slot reply ⌝ }
+        ≡ evalDispatchReply (stepTables (now (links .entry)) (now (rows .entry)) (now (actors .entry))) slot reply ⌝ }
 {
     let came = question::count_in(reply);
     match came {

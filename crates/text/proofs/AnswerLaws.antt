@@ -10,17 +10,17 @@ use lib.Dec.{eqb, leb}
 use lib.ListN.{length, take, drop, length-take, length-drop}
 use Rattle.text.specs.Format.{BACKSLASH, unescape, unescape-next}
 use Rattle.text.specs.Bytes.{Wrote, write}
-use Rattle.text.specs.Answers.{within, Filled, filled}
+use Rattle.text.specs.Answers.{lengthWithin, Filled, filled}
 use Rattle.text.specs.declared.escape.Measure.{Measure}
 use Rattle.text.specs.declared.escape.Measure.the-variants.{Len, Over}
 use Rattle.text.proofs.WriteLaws.{part-back}
 
-pub within-len : (n most : ℕ) → n ≤ most → within n most ≡ Len n
-unfolding within
+pub within-len : (n most : ℕ) → n ≤ most → lengthWithin n most ≡ Len n
+unfolding lengthWithin
 within-len n most h = cc (le-leb n most h)
 
-pub within-over : (n most : ℕ) → most < n → within n most ≡ Over
-unfolding within
+pub within-over : (n most : ℕ) → most < n → lengthWithin n most ≡ Over
+unfolding lengthWithin
 within-over n most h = cc (lt-leb n most h)
 
 -- a length that was told
@@ -28,16 +28,16 @@ pub record Told (n most k : ℕ) : Type 0 where
   pub is : k ≡ n
   pub small : n ≤ most
 
-pub told : (n most k : ℕ) → Len k ≡ within n most → Told n most k
-unfolding within
+pub told : (n most k : ℕ) → Len k ≡ lengthWithin n most → Told n most k
+unfolding lengthWithin
 told n most k e = at (leb n most) refl
   where
     at : (t : Bool) → leb n most ≡ t → Told n most k
     at true p = record { is = cc; small = leb-true n most p }
     at false p = let z : _≡_ {A = ℕ} 0 1 = cc in absurd (omega arith)
 
-pub told-over : (n most : ℕ) → Over ≡ within n most → most < n
-unfolding within
+pub told-over : (n most : ℕ) → Over ≡ lengthWithin n most → most < n
+unfolding lengthWithin
 told-over n most e = at (leb n most) refl
   where
     at : (t : Bool) → leb n most ≡ t → most < n

@@ -14,7 +14,7 @@ use Rattle.text.specs.Format.{TAB, LF, unescape, joinHead, split, lines,
 use Rattle.text.specs.Bytes.{Free, part}
 use Rattle.text.specs.Line.{Line, put, done, other, readFields, readLine, doneOf, putOf, nameOf, bodyOf}
 use Rattle.text.specs.Line.{ofRecord, nameIn, bodyIn, nameField, bodyField}
-use Rattle.text.specs.Answers.{First, FirstFrom, idOf, doneKind, putKind, kindIn, lineKind}
+use Rattle.text.specs.Answers.{First, FirstFrom, idOf, doneKind, putKind, lineKindIn, lineKind}
 use Rattle.text.specs.declared.line.LineKind.{LineKind}
 use Rattle.text.specs.declared.line.LineKind.the-variants.{Put, Done, Other}
 use Rattle.text.specs.declared.ids.IdRead.{IdRead}
@@ -88,8 +88,8 @@ part-length text a b p q = length-take-le (b - a) (drop a text) (omega (arith, l
 
 pub kind-one : (text : List ℕ) (a : ℕ) → First text TAB a → length text ≤ a → lineKind text
     ≡ doneKind (idOf (readId text))
-unfolding lineKind kindIn fields
-kind-one text a f l = ap kindIn (piece-last text TAB a f l)
+unfolding lineKind lineKindIn fields
+kind-one text a f l = ap lineKindIn (piece-last text TAB a f l)
 
 module _ (text : List ℕ) (a b : ℕ) (f : First text TAB a) (h : a < length text) (g : FirstFrom text (a + 1) TAB b)
   where
@@ -98,28 +98,29 @@ module _ (text : List ℕ) (a b : ℕ) (f : First text TAB a) (h : a < length te
     fields-one = piece text TAB a f h
 
     pub kind-two : length text ≤ b → lineKind text ≡ Other
-    unfolding lineKind kindIn
-    kind-two l = ap kindIn (fields-one ∙ ap (λ r. take a text ∷ r) (last-from text (a + 1) TAB b g l))
+    unfolding lineKind lineKindIn
+    kind-two l = ap lineKindIn (fields-one ∙ ap (λ r. take a text ∷ r) (last-from text (a + 1) TAB b g l))
 
     module _ (i : b < length text) (c : ℕ) (k : FirstFrom text (b + 1) TAB c) where
       fields-two : fields text ≡ take a text ∷ part text (a + 1) b ∷ split TAB (drop (b + 1) text)
       fields-two = fields-one ∙ ap (λ r. take a text ∷ r) (piece-from text (a + 1) TAB b g i)
 
       pub kind-more : c < length text → lineKind text ≡ Other
-      unfolding lineKind kindIn
+      unfolding lineKind lineKindIn
       kind-more j =
-          ap kindIn (fields-two ∙ ap (λ r. take a text ∷ part text (a + 1) b ∷ r) (piece-from text (b + 1) TAB c k j))
+          ap lineKindIn (fields-two ∙ ap (λ r. take a text ∷ part text (a + 1) b ∷ r) (piece-from text (b + 1) TAB c
+          k j))
           ∙ four (split TAB (drop (c + 1) text)) (split-some TAB (drop (c + 1) text))
         where
           four : (ps : List (List ℕ)) → 0 < length ps
-              → kindIn (take a text ∷ part text (a + 1) b ∷ part text (b + 1) c ∷
+              → lineKindIn (take a text ∷ part text (a + 1) b ∷ part text (b + 1) c ∷
               ps) ≡ Other
           four [] n = absurd (omega arith)
           four (p ∷ ps) n = refl
 
       pub kind-three : length text ≤ c → lineKind text ≡ putKind (idOf (readId (take a text))) (a + 1) b (b + 1)
           (length text)
-      unfolding lineKind kindIn
+      unfolding lineKind lineKindIn
       kind-three l =
           let id : length (take a text) ≡ a = length-take-le a text (omega arith) in
           let name : length (part text (a + 1) b) ≡ b - (a + 1) = part-length text (a + 1) b (g .low) (omega arith) in
@@ -128,7 +129,8 @@ module _ (text : List ℕ) (a b : ℕ) (f : First text TAB a) (h : a < length te
           let at-name : length (take a text) + 1 ≡ a + 1 = omega arith in
           let name-ends : length (take a text) + 1 + length (part text (a + 1) b) ≡ b = omega arith in
           let body-ends : b + 1 + length (drop (b + 1) text) ≡ length text = omega arith in
-          ap kindIn (fields-two ∙ ap (λ r. take a text ∷ part text (a + 1) b ∷ r) (last-from text (b + 1) TAB c k l))
+          ap lineKindIn (fields-two ∙ ap (λ r. take a text ∷ part text (a + 1) b ∷ r) (last-from text (b + 1) TAB c k
+          l))
           ∙ (ap (λ e. putKind (idOf (readId (take a text))) (length (take a text) + 1) e (e + 1)
           (e + 1 + length (drop (b + 1) text))) name-ends
           ∙ (ap (λ n. putKind (idOf (readId (take a text))) n b (b + 1) (b + 1 + length (drop (b + 1) text))) at-name
@@ -259,10 +261,10 @@ done-part line Not = (refl, refl)
 
 module _ (text : List ℕ) where
   pub kind-says : kindOf text (lineKind text) ≡ readLine text
-  unfolding lineKind readLine kindIn readFields
+  unfolding lineKind readLine lineKindIn readFields
   kind-says = at (fields text) refl
     where
-      at : (fs : List (List ℕ)) → fields text ≡ fs → kindOf text (kindIn fs) ≡ readFields fs
+      at : (fs : List (List ℕ)) → fields text ≡ fs → kindOf text (lineKindIn fs) ≡ readFields fs
       at [] e = refl
       at (a ∷ []) e = done-says text (readId a)
       at (a ∷ b ∷ []) e = refl
@@ -270,10 +272,10 @@ module _ (text : List ℕ) where
       at (a ∷ b ∷ c ∷ d ∷ rest) e = refl
 
   pub kind-inside : Inside text (lineKind text)
-  unfolding lineKind kindIn
+  unfolding lineKind lineKindIn
   kind-inside = at (fields text) refl
     where
-      at : (fs : List (List ℕ)) → fields text ≡ fs → Inside text (kindIn fs)
+      at : (fs : List (List ℕ)) → fields text ≡ fs → Inside text (lineKindIn fs)
       at [] e = tt
       at (a ∷ []) e = done-inside text (idOf (readId a))
       at (a ∷ b ∷ []) e = tt
@@ -283,10 +285,10 @@ module _ (text : List ℕ) where
 
   -- the parts at a kind's places are the fields
   pub kind-name : namePart text (lineKind text) ≡ nameField text
-  unfolding lineKind nameField kindIn nameIn
+  unfolding lineKind nameField lineKindIn nameIn
   kind-name = at (fields text) refl
     where
-      at : (fs : List (List ℕ)) → fields text ≡ fs → namePart text (kindIn fs) ≡ nameIn fs
+      at : (fs : List (List ℕ)) → fields text ≡ fs → namePart text (lineKindIn fs) ≡ nameIn fs
       at [] e = refl
       at (a ∷ []) e = done-part text (idOf (readId a)) .0
       at (a ∷ b ∷ []) e = refl
@@ -294,10 +296,10 @@ module _ (text : List ℕ) where
       at (a ∷ b ∷ c ∷ d ∷ rest) e = refl
 
   pub kind-body : bodyPart text (lineKind text) ≡ bodyField text
-  unfolding lineKind bodyField kindIn bodyIn
+  unfolding lineKind bodyField lineKindIn bodyIn
   kind-body = at (fields text) refl
     where
-      at : (fs : List (List ℕ)) → fields text ≡ fs → bodyPart text (kindIn fs) ≡ bodyIn fs
+      at : (fs : List (List ℕ)) → fields text ≡ fs → bodyPart text (lineKindIn fs) ≡ bodyIn fs
       at [] e = refl
       at (a ∷ []) e = done-part text (idOf (readId a)) .1
       at (a ∷ b ∷ []) e = refl

@@ -14,7 +14,7 @@ use Rattle.text.proofs.LineLaws.{first-from, feed-from, whole-from, tor
 use Rattle.text.specs.declared.lines.Line.{Line}
 use Rattle.text.specs.declared.lines.Line.the-variants.{At, End}
 use Rattle.text.specs.declared.lines.NextLine.{NextLine}
-use Rattle.text.specs.Lines.{nextOf, nextAt}
+use Rattle.text.specs.Lines.{firstLine, nextAt}
 
 -- the answer where the next line ends at e, and where there is none
 part-length : (s : List ℕ) (a e : ℕ) → e ≤ length s → length (part s a e) ≡ e - a
@@ -25,12 +25,12 @@ pub next-at-line : (s : List ℕ) (at e : ℕ) → LineEnd s at e → e < length
 unfolding nextAt
 next-at-line s at e n h =
     let k : at + length (part s at e) ≡ e = omega (arith, part-length s at e (n .within), n .low h) in
-    sym (ap (λ ls. nextOf ls at) (n .whole h) ∙ ap (λ j. record { line = At at j; at = j + 1 }) k)
+    sym (ap (λ ls. firstLine ls at) (n .whole h) ∙ ap (λ j. record { line = At at j; at = j + 1 }) k)
 
 pub next-at-none : (s : List ℕ) (at : ℕ) → lines (drop at s) ≡ [] → _≡_ {A = NextLine} (record { line = End; at = at })
     (nextAt s at)
 unfolding nextAt
-next-at-none s at h = sym (ap (λ ls. nextOf ls at) h)
+next-at-none s at h = sym (ap (λ ls. firstLine ls at) h)
 
 -- every text has a first LF, or none
 record FirstLF (s : List ℕ) : Type 0 where

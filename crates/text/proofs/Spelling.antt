@@ -10,7 +10,7 @@ use lib.Dec.{ltb}
 use lib.ListN.{length, getD}
 use Rattle.text.specs.Format.{DIGIT0, digits, printId, decimal, below64, readDigits, leadingZero, readId}
 use Rattle.text.specs.Format.{OneSpelling, Message, fields}
-use Rattle.text.specs.Line.{Line, put, done, other, putOf, doneOf, readFields, readLine, firstOf}
+use Rattle.text.specs.Line.{Line, put, done, other, putOf, doneOf, readFields, readLine, firstText}
 use Rattle.text.specs.Line.{FieldsOf, LineSpelled, Unspelled}
 use Rattle.text.proofs.Bridge.{decimal-head, decimal-grows}
 use Rattle.text.proofs.FormatLaws.{digits-say, digits-there}
@@ -229,8 +229,8 @@ unspelled text strange = at (readLine text) refl
     at : (l : Line) → readLine text ≡ l → readLine text ≡ other
     at (put m) e =
         let are = line-spelled text .is-record m e in
-        absurd (strange (m .id) (are .below) (ap firstOf (are .three)))
+        absurd (strange (m .id) (are .below) (ap firstText (are .three)))
     at (done n) e =
         let are = line-spelled text .is-done n e in
-        absurd (strange n (are .1) (ap firstOf (are .0)))
+        absurd (strange n (are .1) (ap firstText (are .0)))
     at other e = e

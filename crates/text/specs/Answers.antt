@@ -20,8 +20,8 @@ idOf none = Not
 idOf (some n) = Is n
 
 -- a length, where it is within a limit
-unfoldable pub within : ℕ → ℕ → Measure
-within n most = elim (leb n most) [ true ↦ Len n | false ↦ Over ]
+unfoldable pub lengthWithin : ℕ → ℕ → Measure
+lengthWithin n most = elim (leb n most) [ true ↦ Len n | false ↦ Over ]
 
 -- a slice after a text was to be put at its front, and the answer
 pub record Filled : Type 0 where
@@ -57,18 +57,18 @@ putKind Not a b c d = Other
 
 -- the kind of a line by its fields: a record has its id and the places of name and body, each from after its TAB to
 -- before the next or the line's end
-unfoldable pub kindIn : List (List ℕ) → LineKind
-kindIn [] = Other
-kindIn (a ∷ []) = doneKind (idOf (readId a))
-kindIn (a ∷ b ∷ []) = Other
-kindIn (a ∷ b ∷ c ∷ []) =
+unfoldable pub lineKindIn : List (List ℕ) → LineKind
+lineKindIn [] = Other
+lineKindIn (a ∷ []) = doneKind (idOf (readId a))
+lineKindIn (a ∷ b ∷ []) = Other
+lineKindIn (a ∷ b ∷ c ∷ []) =
     let name = length a + 1 in
     let body = name + length b + 1 in
     putKind (idOf (readId a)) name (name + length b) body (body + length c)
-kindIn (a ∷ b ∷ c ∷ d ∷ rest) = Other
+lineKindIn (a ∷ b ∷ c ∷ d ∷ rest) = Other
 
 unfoldable pub lineKind : List ℕ → LineKind
-lineKind text = kindIn (fields text)
+lineKind text = lineKindIn (fields text)
 
 -- the next whole line from `at` on ends at `end`; there is none where that is the file's length
 pub record LineEnd (file : List ℕ) (at end : ℕ) : Type 0 where

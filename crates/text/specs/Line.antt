@@ -86,14 +86,14 @@ unfoldable pub bodyField : List ℕ → List ℕ
 bodyField text = bodyIn (fields text)
 
 -- the first of some texts
-abbrev pub firstOf : List (List ℕ) → List ℕ
-firstOf [] = []
-firstOf (l ∷ ls) = l
+abbrev pub firstText : List (List ℕ) → List ℕ
+firstText [] = []
+firstText (l ∷ ls) = l
 
 -- the first field of a line is the spelling of no id
 abbrev pub Unspelled : List ℕ → Type 0
-Unspelled text = (n : ℕ) → n < 2 ^ 64 → firstOf (fields text) ≡ printId n → ⊥
+Unspelled text = (n : ℕ) → n < 2 ^ 64 → firstText (fields text) ≡ printId n → ⊥
 
 -- what the whole line that begins at a place says; nothing where there is none
 unfoldable pub lineAt : List ℕ → ℕ → Line
-lineAt file at = readLine (firstOf (lines (drop at file)))
+lineAt file at = readLine (firstText (lines (drop at file)))

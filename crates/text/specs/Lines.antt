@@ -7,9 +7,9 @@ use Rattle.text.specs.declared.lines.Line.the-variants.{At, End}
 use Rattle.text.specs.declared.lines.NextLine.{NextLine}
 
 -- the first of the lines that begin at a place, and the place past its LF; the same place where there is none
-abbrev pub nextOf : List (List ℕ) → ℕ → NextLine
-nextOf [] at = record { line = End; at = at }
-nextOf (l ∷ ls) at = record { line = At at (at + length l); at = at + length l + 1 }
+abbrev pub firstLine : List (List ℕ) → ℕ → NextLine
+firstLine [] at = record { line = End; at = at }
+firstLine (l ∷ ls) at = record { line = At at (at + length l); at = at + length l + 1 }
 
 unfoldable pub nextAt : List ℕ → ℕ → NextLine
-nextAt log at = nextOf (lines (drop at log)) at
+nextAt log at = firstLine (lines (drop at log)) at

@@ -6,7 +6,7 @@ ghost use lib.Dec.{leb};
 ghost use lib.ListN.{length, drop};
 ghost use Rattle.text.specs.Format.{escapeByte, escape, escaped, unescape, unescape-next};
 ghost use Rattle.text.specs.Bytes.{Wrote};
-ghost use Rattle.text.specs.Answers.{within, filled};
+ghost use Rattle.text.specs.Answers.{lengthWithin, filled};
 
 // A length, or that it is over a limit.
 pub enum Measure {
@@ -60,7 +60,7 @@ fn put_escaped_byte(out: &mut [u8], at: usize, b: u8) -> usize
 
 // The length of a text, escaped, where it is at most `most`.
 pub(crate) fn escaped_len(s: &[u8], most: usize) -> Measure
-    ensures { λ r. ⌜ r ≡ within (length (escape (now (s .entry)))) most ⌝ }
+    ensures { λ r. ⌜ r ≡ lengthWithin (length (escape (now (s .entry)))) most ⌝ }
 {
     let mut n: usize = 0;
     let mut i: usize = 0;

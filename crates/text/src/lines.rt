@@ -6,7 +6,7 @@
 ghost use mathlib.Core.Path.{_≡_};
 ghost use lib.ListN.{drop};
 ghost use Rattle.text.specs.Format.{lines};
-ghost use Rattle.text.specs.Line.{firstOf};
+ghost use Rattle.text.specs.Line.{firstText};
 ghost use Rattle.text.specs.Lines.{nextAt};
 use crate::line::line_end;
 
@@ -72,7 +72,7 @@ pub fn next_from(log: &[u8], at: usize) -> NextLine
 
 // The whole line that begins at a place; nothing where there is none.
 pub fn line_at(log: &[u8], at: usize) -> &[u8]
-    ensures { λ r. ⌜ now r ≡ firstOf (lines (drop at (now (log .entry)))) ⌝ }
+    ensures { λ r. ⌜ now r ≡ firstText (lines (drop at (now (log .entry)))) ⌝ }
 {
     let t = next_from(log, at);
     let line = t.line;

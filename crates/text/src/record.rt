@@ -4,7 +4,7 @@ ghost use Prim.Native.Nat.{_≤_};
 ghost use lib.ListN.{length};
 ghost use Rattle.text.specs.Format.{recordLine, doneLine};
 ghost use Rattle.text.specs.Bytes.{Wrote};
-ghost use Rattle.text.specs.Answers.{within, filled};
+ghost use Rattle.text.specs.Answers.{lengthWithin, filled};
 use crate::escape::Measure;
 use crate::escape::escaped_len;
 use crate::escape::put;
@@ -15,7 +15,7 @@ use crate::ids::print_id;
 // The length of a message's record, where it is at most `most`.
 pub fn record_len(id: u64, name: &[u8], body: &[u8], most: usize) -> Measure
     ensures { λ r. ⌜ r
-        ≡ within (length (recordLine (record { id = id; name = now (name .entry); body = now (body .entry) })))
+        ≡ lengthWithin (length (recordLine (record { id = id; name = now (name .entry); body = now (body .entry) })))
         most ⌝ }
 {
     let rest = id_len(id) + 3;

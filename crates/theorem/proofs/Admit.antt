@@ -41,7 +41,7 @@ use Rattle.theorem.proofs.Turn.{StateSound}
 use Rattle.turn.specs.declared.state.Limits.{Limits}
 use Rattle.turn.specs.State.{State, walOf}
 use Rattle.answers.specs.declared.refusals.Check.the-variants as check
-use Rattle.answers.specs.Answers.{messagesOf, withMessages, kept}
+use Rattle.answers.specs.Answers.{messagesIn, withMessages, kept}
 use Rattle.answers.specs.Refusals.{noEntryFree, judged, admitRefusals}
 use Rattle.pool.specs.Admit as one
 use Rattle.theorem.specs.Rail.{Call, admit, callOf, World, orderedFor, ordersIn, ofRecord}
@@ -99,10 +99,10 @@ module _ (s : State) (sound : StateSound s) (ok : PointOk (s .pool .turn .at) (s
         ap length (moved .others HAND (λ e. omega arith) (λ e. omega arith)),
       )
 
-  pub kept-arrives : noEntryFree t ≡ false → Arrives s (a .id) (keepOf (messagesOf s) a to)
+  pub kept-arrives : noEntryFree t ≡ false → Arrives s (a .id) (keepOf (messagesIn s) a to)
   unfolding keepOf keepAt
   kept-arrives room =
-      subst (λ f. Arrives s (a .id) (keepFound (messagesOf s) a to
+      subst (λ f. Arrives s (a .id) (keepFound (messagesIn s) a to
       (pick f found.Nothing (found.Entry (headOf t FREE))))) (sym room)
       (record {
         comes = comes t (s .rows) (s .pool .turn .counts .queued) sound to
@@ -113,7 +113,7 @@ module _ (s : State) (sound : StateSound s) (ok : PointOk (s .pool .turn .at) (s
       })
 
 -- a message that is not logged: every id stands as often as before
-pub unlogged-works : (long : ℕ) (j : disk.World) (s : State) (m : Messages) → Working long j s → Arrives s id.Never m
+pub unlogged-works : (long : ℕ) (j : disk.LogWorld) (s : State) (m : Messages) → Working long j s → Arrives s id.Never m
     → Working long j (withMessages s m)
 unlogged-works long j s m works came = record {
   sound = came .comes .sound;
@@ -129,15 +129,15 @@ unlogged-works long j s m works came = record {
 -- ---- the log's order
 
 -- the journal after an order with a new record
-abbrev recorded : disk.World → log.Wal → List ℕ → List ℕ → Order → disk.World
+abbrev recorded : disk.LogWorld → log.Wal → List ℕ → List ℕ → Order → disk.LogWorld
 recorded j v name body o =
     disk.issue j (log.appendOf v name body .wal) (j .now ++ (log.newMessage v name body ∷ []))
     (disk.sent (log.appendOf v name body .wal .bytes) o)
 
-recorded-sound : (long : ℕ) (j : disk.World) (v : log.Wal) (name body : List ℕ) (o : Order) → sound.Sound long j
+recorded-sound : (long : ℕ) (j : disk.LogWorld) (v : log.Wal) (name body : List ℕ) (o : Order) → sound.Sound long j
     → j .disk .status ≡ disk.settled → j .wal ≡ v
     → log.appendOf v name body .answer ≡ logged.Ordered o → sound.Sound long (recorded j v name body o)
-unfolding disk.called disk.didCall disk.effect
+unfolding disk.called disk.didCall disk.callEffect
 recorded-sound long j v name body o good settled is ordered =
     subst (λ u. log.appendOf u name body .answer ≡ logged.Ordered o → sound.Sound long (recorded j u name body o)) is
     here ordered
@@ -146,7 +146,7 @@ recorded-sound long j v name body o good settled is ordered =
         → sound.Sound long (recorded j (j .wal) name body o)
     here e =
         subst (λ a. sound.Sound long (disk.issued j (disk.append name body) (log.appendOf (j .wal) name body .wal)
-        (disk.ordered a))) e
+        (disk.orderOfAnswer a))) e
         (call-sound long j good settled (disk.append name body))
 
 -- the log's bytes at and after the new size are as they were
@@ -157,7 +157,7 @@ unfolding disk.didCall
 recorded-tail v ms name body stands = call-tail 0 v ms (disk.append name body) stands
 
 -- the next id is not logged
-next-new : (j : disk.World) (top : ℕ) (logged done : List ℕ) (x : ℕ) → Ledger j top logged done → x
+next-new : (j : disk.LogWorld) (top : ℕ) (logged done : List ℕ) (x : ℕ) → Ledger j top logged done → x
     ≡ j .wal .counters .next → count x logged ≡ 0
 next-new j top logged done x old is = go (ℕ-discrete (count x logged) 0)
   where
@@ -166,7 +166,8 @@ next-new j top logged done x old is = go (ℕ-discrete (count x logged) 0)
     go (no e) = absurd (omega (arith, old .below x (omega arith)))
 
 -- one id more is logged
-recorded-ledger : (j j′ : disk.World) (top : ℕ) (logged done : List ℕ) (m : Message) → Ledger j top logged done → m .id
+recorded-ledger : (j j′ : disk.LogWorld) (top : ℕ) (logged done : List ℕ) (m : Message) → Ledger j top logged done
+    → m .id
     ≡ j .wal .counters .next
     → j′ .now ≡ j .now ++ (m ∷ []) → j′ .wal .counters .next ≡ j .wal .counters .next + 1
     → Ledger j′ (top + 1) (logged ++ (m .id ∷ [])) done
@@ -195,14 +196,14 @@ module _ (long : ℕ) (limits : Limits) (w : World) (steady : Steady long limits
   abbrev s : State
   s = w .state
 
-  abbrev j : disk.World
+  abbrev j : disk.LogWorld
   j = w .journal
 
   abbrev comer : Caller → Logged → Arrival
   comer who l = record { name = name; body = body; caller = who; id = l }
 
   module _ (fine : Fine s name body) where
-    arrives : (who : Caller) (l : Logged) → Arrives s l (keepOf (messagesOf s) (comer who l) INBOX)
+    arrives : (who : Caller) (l : Logged) → Arrives s l (keepOf (messagesIn s) (comer who l) INBOX)
     arrives who l =
         kept-arrives s (steady .works .sound) (steady .works .ok) (comer who l) INBOX not-mailbox-inbox (omega arith)
         (fine .room)
@@ -217,7 +218,7 @@ module _ (long : ℕ) (limits : Limits) (w : World) (steady : Steady long limits
         shown-rule (Ends long limits w c) (kept s a INBOX)
         (λ x ok. took ok refl (ap (λ d. ordersIn (orderOf d)) (fine .free))
         (rest-steady long limits c w (kept s a INBOX) j refl (fine .free)
-        (unlogged-works long j s (keepOf (messagesOf s) a INBOX) (steady .works)
+        (unlogged-works long j s (keepOf (messagesIn s) a INBOX) (steady .works)
         (arrives (caller.From who) id.Never)) (steady .ledger) (steady .limits-are)))
 
     -- nobody waits: its order goes out
@@ -280,9 +281,9 @@ module _ (long : ℕ) (limits : Limits) (w : World) (steady : Steady long limits
           }
 
       logged-ends : Ends long limits w c (one.admitLogged s name body)
-      unfolding one.admitLogged one.loggedBy
+      unfolding one.admitLogged one.recordedBy
       logged-ends =
-          subst (λ a. Ends long limits w c (one.loggedIn s name body d a)) (sym (out .answer-is))
+          subst (λ a. Ends long limits w c (one.recordedIn s name body d a)) (sym (out .answer-is))
           (shown-rule (Ends long limits w c) after
           (λ a ok. took ok (recorded-tail v (j .now) name body standing) refl
           (subst (λ n. Steady long limits (orderedFor (withNext w n) after j (out .order) (ofRecord name body)))

@@ -32,7 +32,7 @@ use Rattle.answers.specs.Answers.{Did, refused, shown}
 use Rattle.answers.specs.Refusals.{judged, byTable, inTurn, isMessage, fitsIn, noEntryFree}
 use Rattle.answers.specs.Refusals.{turnRefusals, replyRefusals, syncRefusals}
 use Rattle.pool.specs.Run.{answeredOf}
-use Rattle.theorem.specs.Rail.{Call, World, moved, unordered, Shown, nothing, shows, ordersIn, orderIn}
+use Rattle.theorem.specs.Rail.{Call, World, moved, unordered, Shown, nothing, shows, ordersIn, orderShown}
 use Rattle.theorem.specs.Rail.{ofMark, purposeOf, outOfPlaces, OrderFits, orderedFor, ordered, answered}
 use Rattle.theorem.specs.Rail.{accepted}
 use Rattle.theorem.specs.Rail.{stepDid}
@@ -43,7 +43,7 @@ use Rattle.theorem.proofs.Refusals.{is-free}
 use Rattle.theorem.proofs.Invariant.{Ledger, Working, TailKept, Runs, still, marks, markedOff, Steady}
 
 -- an id that was logged and not done is done
-marked-ledger : (j j′ : disk.World) (top : ℕ) (logged done : List ℕ) (id : ℕ) → Ledger j top logged done
+marked-ledger : (j j′ : disk.LogWorld) (top : ℕ) (logged done : List ℕ) (id : ℕ) → Ledger j top logged done
     → 0 < count id (idsOf (j .now))
     → j′ .now ≡ remove id (j .now) → j′ .wal .counters .next ≡ j .wal .counters .next
     → Ledger j′ top logged (done ++ (id ∷ []))
@@ -71,17 +71,18 @@ marked-ledger j j′ top logged done id old there now next = record {
     )
 
 -- an id is open at most once
-open-once : (j : disk.World) {top : ℕ} {logged done : List ℕ} → Ledger j top logged done → (x : ℕ)
+open-once : (j : disk.LogWorld) {top : ℕ} {logged done : List ℕ} → Ledger j top logged done → (x : ℕ)
     → count x (idsOf (j .now)) ≤ 1
 open-once j old x = omega (arith, old .adds x, old .once x)
 
 -- ---- a call of the log
 
 -- with no order out, a call of the log keeps what holds of the journal
-pub call-sound : (long : ℕ) (j : disk.World) → sound.Sound long j → j .disk .status ≡ disk.settled → (c : disk.Call)
+pub call-sound : (long : ℕ) (j : disk.LogWorld) → sound.Sound long j → j .disk .status ≡ disk.settled
+    → (c : disk.LogCall)
     → sound.Sound long (disk.called j c (disk.didCall 0 (j .wal) c))
-unfolding disk.step
-call-sound long j good settled c = subst (λ q. sound.Sound long (disk.step 0 q j (disk.call c))) settled
+unfolding disk.stepLog
+call-sound long j good settled c = subst (λ q. sound.Sound long (disk.stepLog 0 q j (disk.call c))) settled
     (sound.step-sound long 0 j (disk.call c) good)
 
 -- ---- how a call ends
@@ -93,7 +94,7 @@ orderOf (order.Waits o for) = shows o
 orderOf order.Failed = nothing
 
 -- the world by the pool's own order; the answer shows the same one (Shown)
-abbrev pub orderedIn : Call → World → State → disk.World → Disk → World
+abbrev pub orderedIn : Call → World → State → disk.LogWorld → Disk → World
 orderedIn c w s j d = ordered c w s j (orderOf d)
 
 -- a call whose orders are marks: it takes off as many messages as it has orders
@@ -111,7 +112,7 @@ module _ (long : ℕ) (limits : Limits) where
         → Ends w c d
 
   -- with no order: the journal is the one that the state has beside it
-  pub still-steady : (w : World) (s : State) (j : disk.World) → Working long j s
+  pub still-steady : (w : World) (s : State) (j : disk.LogWorld) → Working long j s
       → Ledger j (w .next) (w .logged) (w .done) → s .pool .limits ≡ limits → Steady long limits (unordered w s j)
   still-steady w s j works ledger is =
       subst (λ v. Steady long limits (record {
@@ -124,7 +125,7 @@ module _ (long : ℕ) (limits : Limits) where
       (record { works = works; ledger = ledger; limits-are = is })
 
   -- after a run, and after a call that runs nothing: the journal is the answered one
-  pub rest-steady : (c : Call) (w : World) (s : State) (j : disk.World) → answered (w .journal) c ≡ j
+  pub rest-steady : (c : Call) (w : World) (s : State) (j : disk.LogWorld) → answered (w .journal) c ≡ j
       → s .pool .turn .disk ≡ order.Free → Working long j s → Ledger j (w .next) (w .logged) (w .done)
       → s .pool .limits ≡ limits → Steady long limits (orderedIn c w s (answered (w .journal) c) (s .pool .turn .disk))
   rest-steady c w s j from free works ledger is =
@@ -132,7 +133,7 @@ module _ (long : ℕ) (limits : Limits) where
       (subst (λ d. Steady long limits (orderedIn c w s j d)) (sym free) (still-steady w s j works ledger is))
 
   -- the world after the order of a mark, with these messages left and these ids done
-  abbrev offBy : World → State → disk.World → Order → List Message → List ℕ → World
+  abbrev offBy : World → State → disk.LogWorld → Order → List Message → List ℕ → World
   offBy w s j o now ids = record {
     state = s;
     journal = disk.issue j (walOf s) now (disk.sent (s .bytes) o);
@@ -141,7 +142,7 @@ module _ (long : ℕ) (limits : Limits) where
     done = w .done ++ ids;
   }
 
-  pub runs-steady : (c : Call) (w : World) (s : State) (j : disk.World) → Marking w c
+  pub runs-steady : (c : Call) (w : World) (s : State) (j : disk.LogWorld) → Marking w c
       → answered (w .journal) c ≡ j → Runs long j s → Ledger j (w .next) (w .logged) (w .done)
       → s .pool .limits ≡ limits → Steady long limits (orderedIn c w s (answered (w .journal) c) (s .pool .turn .disk))
   unfolding disk.issue
@@ -168,13 +169,13 @@ module _ (long : ℕ) (limits : Limits) where
           (subst (λ x. Steady long limits (offBy w s j o (remove (id .0) (j .now)) x)) (sym ids) off)))
 
   -- nothing is marked: every message stands where it can be found
-  pub none-fits : (c : Call) (w : World) (s : State) (j : disk.World) → Marking w c → j .now ≡ w .journal .now
+  pub none-fits : (c : Call) (w : World) (s : State) (j : disk.LogWorld) → Marking w c → j .now ≡ w .journal .now
       → Working long j s → OrderFits w c s nothing
   none-fits c w s j own same works =
       own .1 s nothing
       (ap length (subst (λ now. outOfPlaces s now ≡ []) same (none-out s (j .now) (works .ids))))
 
-  pub runs-fits : (c : Call) (w : World) (s : State) (j : disk.World) → Marking w c → j .now ≡ w .journal .now
+  pub runs-fits : (c : Call) (w : World) (s : State) (j : disk.LogWorld) → Marking w c → j .now ≡ w .journal .now
       → Runs long j s → Ledger j (w .next) (w .logged) (w .done)
       → OrderFits w c s (orderOf (s .pool .turn .disk))
   unfolding disk.issue
@@ -187,7 +188,7 @@ module _ (long : ℕ) (limits : Limits) where
       (marked-one s (id .0) (j .now) there (open-once j ledger (id .0)) (works .ids))))
 
   -- after a run the log's bytes at and after its size are those from before it
-  pub runs-tail : (j : disk.World) (s : State) (bytes : List ℕ) → j .wal .bytes ≡ bytes → Runs long j s
+  pub runs-tail : (j : disk.LogWorld) (s : State) (bytes : List ℕ) → j .wal .bytes ≡ bytes → Runs long j s
       → TailKept bytes s
   runs-tail j s bytes from (still free works) =
       ap (drop (s .pool .turn .counters .size)) (sym (ap (λ v. v .bytes) (works .wal)) ∙ from)
@@ -196,28 +197,28 @@ module _ (long : ℕ) (limits : Limits) where
 
   -- a world after a call that ended so, and whose answer shows the order that waits
   pub ends-steady : (w : World) (c : Call) (d : Did) → Steady long limits w → (accepted (d .answer) ≡ true
-      → orderIn (d .answer) ≡ orderOf (d .state .pool .turn .disk)) → Ends w c d
+      → orderShown (d .answer) ≡ orderOf (d .state .pool .turn .disk)) → Ends w c d
       → Steady long limits (stepDid w c d)
   ends-steady w c d steady shown-is (turned r is) =
       subst (λ e. Steady long limits (stepDid w c e)) (sym is)
       (still-steady w (w .state) (w .journal) (steady .works) (steady .ledger) (steady .limits-are))
   ends-steady w c d steady shown-is (took ok tail fits after) = go (d .answer) refl
     where
-      by : orderIn (d .answer) ≡ orderOf (d .state .pool .turn .disk)
-          → Steady long limits (ordered c w (d .state) (answered (w .journal) c) (orderIn (d .answer)))
+      by : orderShown (d .answer) ≡ orderOf (d .state .pool .turn .disk)
+          → Steady long limits (ordered c w (d .state) (answered (w .journal) c) (orderShown (d .answer)))
       by is = subst (λ o. Steady long limits (ordered c w (d .state) (answered (w .journal) c) o)) (sym is) after
 
-      there : Steady long limits (ordered c w (d .state) (answered (w .journal) c) (orderIn (d .answer)))
+      there : Steady long limits (ordered c w (d .state) (answered (w .journal) c) (orderShown (d .answer)))
       there = by (shown-is ok)
 
       go : (a : Answer) → d .answer ≡ a → Steady long limits (stepDid w c d)
       go (answer.Refused r) e = let z : _≡_ {A = ℕ} 0 1 = cc in absurd (omega arith)
       go (answer.Open a) e =
           subst (λ x. Steady long limits (stepDid w c (record { state = d .state; answer = x }))) (sym e)
-          (subst (λ x. Steady long limits (ordered c w (d .state) (answered (w .journal) c) (orderIn x))) e there)
+          (subst (λ x. Steady long limits (ordered c w (d .state) (answered (w .journal) c) (orderShown x))) e there)
       go (answer.Ended busy waiters) e =
           subst (λ x. Steady long limits (stepDid w c (record { state = d .state; answer = x }))) (sym e)
-          (subst (λ x. Steady long limits (ordered c w (d .state) (answered (w .journal) c) (orderIn x))) e there)
+          (subst (λ x. Steady long limits (ordered c w (d .state) (answered (w .journal) c) (orderShown x))) e there)
 
 -- ---- an answer is no refusal
 

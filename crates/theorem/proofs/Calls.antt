@@ -12,7 +12,7 @@ use Rattle.log.proofs.RecoveryLaws as log
 use Rattle.turn.specs.declared.state.Limits.{Limits}
 use Rattle.answers.specs.Answers.{Did}
 use Rattle.theorem.specs.Rail.{Call, admit, turn, reply, sync, close, callOf, World, step, run}
-use Rattle.theorem.specs.Rail.{accepted, orderIn, SizeIs, KeepsTail, CallKeepsTail, OrderFits, CallOrderFits}
+use Rattle.theorem.specs.Rail.{accepted, orderShown, SizeIs, KeepsTail, CallKeepsTail, OrderFits, CallOrderFits}
 use Rattle.theorem.proofs.Invariant.{Steady}
 use Rattle.theorem.proofs.After.{orderOf, Ends, turned, took, ends-steady}
 use Rattle.theorem.proofs.OrderShown.{order-shown}
@@ -44,7 +44,7 @@ run-steady long limits (c ∷ calls) w steady = run-steady long limits calls (st
 -- ---- the log's size
 
 -- by the journal: with no order out, and with one that waits
-journal-size : (long : ℕ) (j : disk.World) → log.Sound long j → SizeIs (j .wal .counters .size) (j .disk)
+journal-size : (long : ℕ) (j : disk.LogWorld) → log.Sound long j → SizeIs (j .wal .counters .size) (j .disk)
     (j .disk .status)
 unfolding disk.storedOrder
 journal-size long j (log.steady st) =
@@ -74,7 +74,8 @@ module _ (long : ℕ) (limits : Limits) (w : World) (c : Call) where
 
   -- the order shown is the one that waits
   ends-fits : (d : Did) → Ends long limits w c d → accepted (d .answer) ≡ true
-      → orderIn (d .answer) ≡ orderOf (d .state .pool .turn .disk) → OrderFits w c (d .state) (orderIn (d .answer))
+      → orderShown (d .answer) ≡ orderOf (d .state .pool .turn .disk)
+      → OrderFits w c (d .state) (orderShown (d .answer))
   ends-fits d (turned r is) ok shown = absurd (false≢true (sym (ap (λ (e : Did). accepted (e .answer)) is) ∙ ok))
   ends-fits d (took was tail fits after) ok shown = subst (OrderFits w c (d .state)) (sym shown) fits
 

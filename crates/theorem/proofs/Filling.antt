@@ -17,7 +17,7 @@ use Rattle.lists.proofs.Moves.{move-first}
 use Rattle.actor.specs.Messages.{messageAt, putMessage}
 use Rattle.actor.proofs.Back.{message-put, message-other}
 use Rattle.theorem.specs.Places.{idCount, stands, mailTotal, Sound}
-use Rattle.settings.specs.Tables.{Placed, leftMessage, putLeft}
+use Rattle.settings.specs.Tables.{LeftPlaced, leftMessage, putLeft}
 use Rattle.settings.specs.Tables as tables
 
 -- ---- lists
@@ -99,13 +99,13 @@ put-long rows e row = simp length-set
 -- ---- all messages
 
 -- what putting messages from the i-th on makes: n are in, they stand in their rows, and rows below i are as they were
-pub record Left (rows : Table) (i n : ℕ) (ms : List Message) (p : Placed) : Type 0 where
+pub record Left (rows : Table) (i n : ℕ) (ms : List Message) (p : LeftPlaced) : Type 0 where
   pub filled : Filled (p .links) (p .rows) n
   pub below : (j : ℕ) → j < i → messageAt (p .rows) j ≡ messageAt rows j
   pub stand : Stand (p .rows) i ms
 
 -- one message, and then the others
-left-cons : (rows : Table) (i n : ℕ) (m : Message) (ms : List Message) (row : List ℕ) (p : Placed) → i < length rows
+left-cons : (rows : Table) (i n : ℕ) (m : Message) (ms : List Message) (row : List ℕ) (p : LeftPlaced) → i < length rows
     → row ≡ leftRow m
     → Left (putMessage rows i (leftMessage row)) (suc i) n ms p → Left rows i n (m ∷ ms) p
 left-cons rows i n m ms row p inside here later =
@@ -126,7 +126,7 @@ unfolding putLeft
 put-left [] t rows left i n rest filled sum room behind = let all : i ≡ n = omega arith in
     record { filled = rw all at filled; below = λ j p. refl; stand = tt }
 put-left (m ∷ ms) t rows left i n rest filled sum room behind =
-    let row : List ℕ = tables.leftRow left i in
+    let row : List ℕ = tables.leftAt left i in
     let t′ : Table = moveFirst t FREE PENDING in
     let rows′ : Table = putMessage rows i (leftMessage row) in
     let here : row ≡ leftRow m = at-drop left i (leftRow m) (map leftRow ms ++ rest) behind (0 ∷ 0 ∷ 0 ∷ []) in

@@ -28,7 +28,7 @@ Agrees (order.Waits o for) status bytes = status ≡ disk.waits (disk.sent bytes
 Agrees order.Failed status bytes = (s : disk.Sent) × (status ≡ disk.lost s)
 
 -- the ids logged: each once, each below the next id, each open or done
-pub record Ledger (j : disk.World) (next : ℕ) (logged done : List ℕ) : Type 0 where
+pub record Ledger (j : disk.LogWorld) (next : ℕ) (logged done : List ℕ) : Type 0 where
   -- the world's next id is the log's
   pub next-is : next ≡ j .wal .counters .next
   pub adds : (x : ℕ) → count x (idsOf (j .now)) + count x done ≡ count x logged
@@ -37,7 +37,7 @@ pub record Ledger (j : disk.World) (next : ℕ) (logged done : List ℕ) : Type 
 
 -- a state with the journal beside it: sound lists; each id stands as often as it is logged and not done; who holds a
 -- message lives; the log of the journal; the disk
-pub record Working (long : ℕ) (j : disk.World) (s : State) : Type 0 where
+pub record Working (long : ℕ) (j : disk.LogWorld) (s : State) : Type 0 where
   pub sound : StateSound s
   pub ids : (x : ℕ) → stands x (s .links) (s .rows) ≡ count x (idsOf (j .now))
   pub ok : PointOk (s .pool .turn .at) (s .links)
@@ -48,7 +48,7 @@ pub record Working (long : ℕ) (j : disk.World) (s : State) : Type 0 where
   pub journal : log.Sound long j
 
 -- the journal after the order of a mark
-abbrev pub markedOff : disk.World → State → Order → LogId → disk.World
+abbrev pub markedOff : disk.LogWorld → State → Order → LogId → disk.LogWorld
 markedOff j s o id = disk.issue j (walOf s) (remove (id .0) (j .now)) (disk.sent (s .bytes) o)
 
 -- the log's bytes at and after its size are those given
@@ -57,7 +57,7 @@ TailKept bytes s = KeepsTail (s .pool .turn .counters .size) bytes (s .bytes)
 
 -- how a run ended: with no order, or with the mark of a message that was logged and not done, the log's bytes behind
 -- its new size as they were
-pub data Runs (long : ℕ) (j : disk.World) (s : State) : Type 0 where
+pub data Runs (long : ℕ) (j : disk.LogWorld) (s : State) : Type 0 where
   still : s .pool .turn .disk ≡ order.Free → Working long j s → Runs long j s
   marks : (o : Order) (id : LogId) → s .pool .turn .disk ≡ order.Waits o (orderFor.Mark id)
       → 0 < count (id .0) (idsOf (j .now)) → s .pool .turn .counters .next ≡ j .wal .counters .next

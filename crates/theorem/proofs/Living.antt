@@ -528,10 +528,10 @@ module _ (t keys actors : Table) (l : Lives t keys actors) (g : ℕ) (g-is : g <
   row-there : (x : List ℕ) (h : ℕ) → h ≢ g → keysAt (withRow x) (4 * h) ≡ keysAt keys (4 * h)
   row-there x h other = getD-set-other keys (4 * g) (4 * h) x blankRow (λ e. other (omega arith))
 
-  row-slabs : (x : List ℕ) → slab.Sound x → (h : ℕ) → h < 8 → slab.Sound (keysAt (withRow x) (4 * h))
+  row-slabs : (x : List ℕ) → slab.SlabSound x → (h : ℕ) → h < 8 → slab.SlabSound (keysAt (withRow x) (4 * h))
   row-slabs x sound h h-is = go (ℕ-discrete h g)
     where
-      go : Dec (h ≡ g) → slab.Sound (keysAt (withRow x) (4 * h))
+      go : Dec (h ≡ g) → slab.SlabSound (keysAt (withRow x) (4 * h))
       go (yes p) = rw (p, row-here x) sound
       go (no p) = rw (row-there x h p) (l .slabs h h-is)
 
@@ -545,7 +545,7 @@ module _ (t keys actors : Table) (l : Lives t keys actors) (g : ℕ) (g-is : g <
       go (no p) = rw (row-there x h p) at d
 
   -- the actor of this key is a new one
-  inserted-lives : (a : Actor) → hasRun (a .run) ≡ false → slab.Sound old → Inserted old k
+  inserted-lives : (a : Actor) → hasRun (a .run) ≡ false → slab.SlabSound old → Inserted old k
       → Lives t (withRow (insertOf old)) (putActor actors (16 * g + k) a)
   unfolding putActor
   inserted-lives a none sound i = record {

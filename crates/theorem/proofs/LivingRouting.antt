@@ -30,7 +30,7 @@ use Rattle.group.specs.Roster.{leastOf, leastFrom, betterOf, loadOf}
 use Rattle.route.specs.Seed.{Seeded, seedOf, seedBooted, seedBy, seedReply}
 use Rattle.route.specs.Intake.{Linked, batchOf, intakeOf}
 use Rattle.route.specs.Batch as to
-use Rattle.route.specs.Batch.{Sent, routeOf, routeReply}
+use Rattle.route.specs.Batch.{RoutedTables, routeOf, routeReply}
 use Rattle.theorem.proofs.Through.{mailbox-past, first-rule}
 use Rattle.theorem.proofs.Steps.{pick-rule}
 use Rattle.theorem.specs.Living.{handLen, stepHand, Lives}
@@ -226,7 +226,7 @@ module _ (t : Table) (good : Good t) (h : stepHand t ≤ 0) where
       → Rests r keys′ actors′
   same-rests s x = record { lives = same-lives s (x .lives); free = x .free }
 
-  abbrev SentRests : Sent → Type 0
+  abbrev SentRests : RoutedTables → Type 0
   SentRests s = Rests (s .links) (s .keys) (s .actors)
 
   module _ (rows : Table) (q left : ℕ) where

@@ -549,7 +549,7 @@ module _ (t rows keys actors : Table) (good : Good t) (l : Lives t keys actors) 
     dispatched-eval h n = pick-rule (EvalLives keys c) (ltb 0 n) (λ e. record { lives = l; hands = h })
         (λ e. finish-eval h outcome.StuckHostCall)
 
-    by-clock : stepHand t ≤ 0 → (r : ClockIn) → EvalLives keys c (two.clockBy (stepTables t rows actors) its r)
+    by-clock : stepHand t ≤ 0 → (r : ClockIn) → EvalLives keys c (two.evalClockBy (stepTables t rows actors) its r)
     by-clock h (clock.Of ns) = clocked-eval h ns
     by-clock h clock.Other = stay-eval eval.Clock h
 
@@ -564,18 +564,19 @@ module _ (t rows keys actors : Table) (good : Good t) (l : Lives t keys actors) 
     by-start h limit clock.Other = stay-eval eval.StartClock h
 
     by-run-eval : stepHand t ≤ 0 → (start : Bool) (r : RanIn)
-        → EvalLives keys c (two.runBy (stepTables t rows actors) its start r)
+        → EvalLives keys c (two.evalRunBy (stepTables t rows actors) its start r)
     by-run-eval h start (ran.Of s) = ran-eval h s
     by-run-eval h start ran.Other = stay-eval (eval.Run start) h
 
     by-dispatch-eval : stepHand t ≤ 0 → (r : CountIn)
-        → EvalLives keys c (two.dispatchBy (stepTables t rows actors) its r)
+        → EvalLives keys c (two.evalDispatchBy (stepTables t rows actors) its r)
     by-dispatch-eval h (count.Of n) = dispatched-eval h n
     by-dispatch-eval h count.Other = stay-eval eval.Dispatch h
 
     pub eval-lives : (limit : Limit) (a : EvalAsk) → EvalHands c a t → (r : Reply)
         → EvalLives keys c (stepEval (stepTables t rows actors) its limit a r)
-    unfolding two.stepEval two.clockReply two.bootReply two.startReply two.runReply two.dispatchReply two.tellReply
+    unfolding two.stepEval two.evalClockReply two.bootReply two.startReply two.evalRunReply two.evalDispatchReply
+        two.tellReply
     eval-lives limit eval.Clock h r = by-clock h (clockIn r)
     eval-lives limit eval.Boot h r = by-boot h (yesIn r)
     eval-lives limit eval.StartClock h r = by-start h limit (clockIn r)

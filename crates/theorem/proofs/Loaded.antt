@@ -34,7 +34,7 @@ use Rattle.answers.specs.declared.answer.Answer.{Answer}
 use Rattle.answers.specs.declared.answer.Answer.the-variants as answer
 use Rattle.answers.specs.declared.answer.Refusal.the-variants.{NotLoaded}
 use Rattle.answers.specs.declared.refusals.Check.the-variants as check
-use Rattle.answers.specs.Answers.{Did, shown, messagesOf, kept}
+use Rattle.answers.specs.Answers.{Did, shown, messagesIn, kept}
 use Rattle.answers.specs.Refusals.{judged, noEntryFree, inTurn, isMessage, admitRefusalsFirst, admitRefusalsLogged}
 use Rattle.answers.specs.Refusals.{admitRefusals, turnRefusals, replyRefusals, syncRefusals, closeRefusals}
 use Rattle.pool.specs.Admit as admits
@@ -46,7 +46,7 @@ use Rattle.pool.specs.declared.calls.StoredIn.the-variants as stored
 use Rattle.pool.specs.Run.{runOf}
 use Rattle.pool.specs.Calls as one
 use Rattle.theorem.specs.Rail.{Call, admit, turn, reply, sync, close, callOf, Shown, nothing, shows, orderOpen}
-use Rattle.theorem.specs.Rail.{accepted, World, ordered, answered, stepBy, step, run}
+use Rattle.theorem.specs.Rail.{accepted, World, ordered, answered, worldAfter, step, run}
 use Rattle.theorem.specs.Rail.{ComesLoaded, AcceptsLoaded, RefusesUnloaded}
 use Rattle.theorem.proofs.After.{answered-rule, table-rule}
 use Rattle.theorem.proofs.Running.{Lasting, lastingOf, Aside, run-lasting}
@@ -78,11 +78,11 @@ module _ (s : State) (name body : List ℕ) where
       → ((l : Logged) → P (kept s (comer who l) INBOX))
       → ((l : Logged) (d : log.DidAppend) (o : Order) → P (kept (admits.recorded s d o) (comer who l) INBOX))
       → P (admits.admitEffect s name body who .state)
-  unfolding admits.admitCalled admits.admitLogged admits.loggedBy shown
+  unfolding admits.admitCalled admits.admitLogged admits.recordedBy shown
   effect-rule P (caller.From who) fine plain logs = plain id.Never
   effect-rule P caller.Nobody fine plain logs =
       let d = log.appendOf (walOf s) name body in
-      subst (λ a. P (admits.loggedIn s name body d a .state)) (sym (fine-appends s name body fine .answer-is))
+      subst (λ a. P (admits.recordedIn s name body d a .state)) (sym (fine-appends s name body fine .answer-is))
       (logs (id.As (admits.nextId s)) d (fine-appends s name body fine .order))
 
 -- ---- the body store keeps its length
@@ -103,7 +103,7 @@ module _ (s : State) where
       pick-rule Long (inTurn (s .pool .turn .at)) (λ e. ap length (run-stored (one.freed s))) (λ e. refl)
   reply-long r name body stored.Failed = refl
   reply-long r name body stored.Other =
-      pick-rule Long (isMessage r) (λ e. keep-long (messagesOf s) (comer s name body caller.Nobody id.Never) PENDING)
+      pick-rule Long (isMessage r) (λ e. keep-long (messagesIn s) (comer s name body caller.Nobody id.Never) PENDING)
       (λ e. ap length (run-stored (one.resumeAt s r) ∙ ap (λ (a : Aside). a .lasting .store) (resumed-aside s r)))
 
   call-long : (c : Call) → Long (callOf s c)
@@ -111,10 +111,10 @@ module _ (s : State) where
   call-long (admit name body who) =
       table-rule Long s (judged (admitRefusals s name body who)) (admits.admitEffect s name body who) (λ r. refl)
       (λ fine. effect-rule s name body (λ s′. length (s′ .store) ≡ length (s .store)) who fine
-      (λ l. keep-long (messagesOf s) (comer s name body who l) INBOX)
-      (λ l d o. keep-long (messagesOf s) (comer s name body who l) INBOX))
+      (λ l. keep-long (messagesIn s) (comer s name body who l) INBOX)
+      (λ l d o. keep-long (messagesIn s) (comer s name body who l) INBOX))
   call-long turn =
-      let begun = withPool s (one.begunOf (s .pool)) in
+      let begun = withPool s (one.begunTurn (s .pool)) in
       table-rule Long s (judged (turnRefusals (s .pool))) (runOf begun) (λ r. refl)
       (λ fine. ap length (run-stored begun))
   call-long (reply r name body) =
@@ -128,7 +128,7 @@ module _ (s : State) where
       (λ r. refl) (λ fine. refl)
 
 -- the state after a call is what the call made of it, whatever is ordered
-ordered-state : (w : World) (c : Call) (s : State) (j : disk.World) (o : Shown) → ordered c w s j o .state ≡ s
+ordered-state : (w : World) (c : Call) (s : State) (j : disk.LogWorld) (o : Shown) → ordered c w s j o .state ≡ s
 ordered-state w c s j nothing = refl
 ordered-state w c s j (shows o) = refl
 
@@ -136,7 +136,7 @@ step-state : (w : World) (c : Call) → step w c .state ≡ callOf (w .state) c 
 unfolding step
 step-state w c = go (callOf (w .state) c .state) (callOf (w .state) c .answer)
   where
-    go : (s : State) (a : Answer) → stepBy w c s a .state ≡ s
+    go : (s : State) (a : Answer) → worldAfter w c s a .state ≡ s
     go s (answer.Refused r) = refl
     go s (answer.Open a) = ordered-state w c s (answered (w .journal) c) (orderOpen a)
     go s (answer.Ended busy waiters) = refl
@@ -176,7 +176,7 @@ module _ (s : State) (sound : StateSound s) (long : length (s .store) ≡ 40960)
     pub loaded : LoadedAt (s .groups) (s .pool .limits .groups) (m .store) (m .rows) entry
 
   kept-comes : Fine s name body → (who : Caller) (l : Logged)
-      → Comes (keepOf (messagesOf s) (comer s name body who l) INBOX)
+      → Comes (keepOf (messagesIn s) (comer s name body who l) INBOX)
   unfolding keepOf keepAt
   kept-comes fine who l =
       let first = first-free (s .links) (s .rows) (s .pool .turn .counts .queued) sound (fine .room) in
@@ -190,7 +190,7 @@ module _ (s : State) (sound : StateSound s) (long : length (s .store) ≡ 40960)
         entry = first .entry;
         last = rw (first .is) (moved .joined ∙ ap (λ l. view (s .links) INBOX ++ l) (first .alone));
         loaded =
-            kept-loaded (s .groups) (s .pool .limits .groups) name (messagesOf s) body who l INBOX (first .entry) long
+            kept-loaded (s .groups) (s .pool .limits .groups) name (messagesIn s) body who l INBOX (first .entry) long
             (sound .sized) (first .inside) (fine .short-name) (first .is) (fine .loaded);
       }
 

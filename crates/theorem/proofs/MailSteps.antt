@@ -50,7 +50,7 @@ use Rattle.group.specs.Settings.{groupAt}
 use Rattle.group.specs.Roster.{TRAPPED, slotAt, overAll}
 use Rattle.route.specs.Intake.{Linked, batchOf, intakeOf}
 use Rattle.route.specs.Batch as to
-use Rattle.route.specs.Batch.{Sent}
+use Rattle.route.specs.Batch.{RoutedTables}
 use Rattle.tick.specs.declared.crash.Losses.{Losses}
 use Rattle.tick.specs.Ready.{Begun}
 use Rattle.tick.specs.Ready as starting
@@ -208,7 +208,7 @@ intake-step groups t rows q backlog left good =
     (elsewhere groups rows t good (not-mailbox-all t rows good PENDING not-mailbox-pending BATCH not-mailbox-batch))
     (elsewhere groups rows t good (not-mailbox-move t rows good INBOX not-mailbox-inbox PENDING not-mailbox-pending))
 
-abbrev SentStep : Table → Table → Table → Sent → Type 0
+abbrev SentStep : Table → Table → Table → RoutedTables → Type 0
 SentStep groups rows t s = MailStep groups rows t (s .links)
 
 -- only a delivery changes a mailbox
@@ -400,7 +400,7 @@ unfolding turn.markLogged
 logged-links s (logged.As id) = refl
 logged-links s logged.Never = refl
 
-mark-found : (s : State) → Good (s .links) → (e : Found) → MailSame (s .links) (turn.markFound s e .links)
+mark-found : (s : State) → Good (s .links) → (e : Found) → MailSame (s .links) (turn.markEntry s e .links)
 mark-found s good (found.Entry e) =
     rw (logged-links (withLinks s (moveFirst (s .links) OVER FREE)) (messageAt (s .rows) e .id))
     (low-move (s .links) good OVER FREE (omega arith) (omega arith))

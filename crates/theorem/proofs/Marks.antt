@@ -73,13 +73,13 @@ mark-goes limit w ms x stands there =
     (done-goes limit (withoutRow w (found .0)) x)
 
 -- the journal after it
-pub mark-sound : (long limit : ℕ) (j : disk.World) (x : ℕ) (o : Order) → j .disk .status ≡ disk.settled
+pub mark-sound : (long limit : ℕ) (j : disk.LogWorld) (x : ℕ) (o : Order) → j .disk .status ≡ disk.settled
     → log.Sound long j → markOf limit (j .wal) x .due ≡ Ordered o
     → log.Sound long (disk.issue j (markOf limit (j .wal) x .wal) (remove x (j .now))
     (disk.sent (markOf limit (j .wal) x .wal .bytes) o))
-unfolding disk.step disk.called disk.didCall disk.effect
+unfolding disk.stepLog disk.called disk.didCall disk.callEffect
 mark-sound long limit j x o settles sound goes =
-    let stepped = subst (λ s. log.Sound long (disk.step limit s j (disk.call (disk.mark x)))) settles
+    let stepped = subst (λ s. log.Sound long (disk.stepLog limit s j (disk.call (disk.mark x)))) settles
     (log.step-sound long limit j (disk.call (disk.mark x)) sound) in
     subst (λ a. log.Sound long (disk.issued j (disk.mark x) (markOf limit (j .wal) x .wal) (disk.orderedDue a))) goes
     stepped

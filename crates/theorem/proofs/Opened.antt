@@ -20,7 +20,7 @@ use Rattle.log.proofs.OpenLaws.{sized-all, image-fits, opened-long, opened-stan
 use Rattle.log.specs.Stands.{Stands}
 use Rattle.log.proofs.RecoveryLaws.{ReadBack, stands-fit, stored-replace, whole-image, Sound, waiting}
 use Rattle.theorem.specs.Handing.{putMessages}
-use Rattle.settings.specs.Tables.{Placed, putLeft}
+use Rattle.settings.specs.Tables.{LeftPlaced, putLeft}
 use Rattle.answers.specs.declared.refusals.Check.{Check}
 use Rattle.answers.specs.declared.refusals.Check.the-variants as check
 use Rattle.answers.specs.Answers.{Did}
@@ -81,9 +81,9 @@ module _ (l : Lent) where
       go check.Fine is = fine-taken l is
 
   abbrev logMade : Read → log.Opened
-  logMade r = log.openedBy (l .bytes) (l .store) (l .records) noLeft r
+  logMade r = log.openedLogBy (l .bytes) (l .store) (l .records) noLeft r
 
-  abbrev madeWith : Read → Placed → Did
+  abbrev madeWith : Read → LeftPlaced → Did
   madeWith r placed =
       openedWith l (logMade r)
       (filledWith (foundBy l (logMade r)) (Replace (length (image (r .left)))) (tablesIn l) placed)
@@ -116,16 +116,16 @@ module _ (l : Lent) where
 module _ (bytes : List ℕ) (n : ℕ) (store : List ℕ) (records left : Table) (r : Read)
     (s : log.sized (length bytes) n (length store) (length records) (length left) ≡ true) (ok : opening (take n bytes)
     ≡ opened r) where
-  abbrev pub startLog : disk.World
-  startLog = disk.begin (log.openedBy bytes store records left r) (take n bytes) (r .left)
+  abbrev pub startLog : disk.LogWorld
+  startLog = disk.beginLog (log.openedLogBy bytes store records left r) (take n bytes) (r .left)
 
-  start-stands : Stands (disk.walOf (log.openedBy bytes store records left r)) (r .left)
+  start-stands : Stands (disk.openedWal (log.openedLogBy bytes store records left r)) (r .left)
   start-stands = opened-stands bytes n store records left r s ok
 
   -- whatever a cut leaves of the file given, or of the opening's replace, is read as the messages left
   start-reads : (file : List ℕ) → disk.Cut (take n bytes) [] file ⊎ (file ≡ image (r .left))
       → ReadBack (length bytes) file (r .left ∷ [])
-  unfolding disk.begin
+  unfolding disk.beginLog
   start-reads file (inl c) =
       let lent = sized-all (length bytes) n (length store) (length records) (length left) s in
       let same : file ≡ take n bytes = cc (c .1, take-nil {A = ℕ} (c .0), append-nil (take n bytes)) in
@@ -140,7 +140,7 @@ module _ (bytes : List ℕ) (n : ℕ) (store : List ℕ) (records left : Table) 
       (image-fits bytes n store records left r s ok) file e
 
   pub start-sound : Sound (length bytes) startLog
-  unfolding disk.begin disk.storedOrder disk.failedOrder disk.firmMoment disk.confirm
+  unfolding disk.beginLog disk.storedOrder disk.failedOrder disk.firmMoment disk.confirm
   start-sound =
       waiting (disk.replacing (image (r .left))) (ap disk.waits (opened-sent bytes n store records left r s ok))
       (record {

@@ -36,8 +36,8 @@ use Rattle.turn.specs.State.{walOf}
 use Rattle.answers.specs.Answers.{Did}
 use Rattle.answers.specs.Refusals.{Lent, fileIn}
 use Rattle.pool.specs.Open.{limitsFrom, noLeft, openOf}
-use Rattle.theorem.specs.Rail.{World, accepted, leftBy, nextFrom, startStatus, orderIn, shows, begin, Accepts}
-use Rattle.theorem.specs.Rail.{handedBack, Follows, Reopens, KeepsTail}
+use Rattle.theorem.specs.Rail.{World, accepted, leftBy, nextFrom, startStatus, orderShown, shows, begin, Accepts}
+use Rattle.theorem.specs.Rail.{handedBack, NextOpening, Reopens, KeepsTail}
 use Rattle.theorem.proofs.Invariant.{Working, Ledger, Steady}
 use Rattle.theorem.proofs.Ids.{rising-once, rising-top}
 use Rattle.theorem.proofs.Refusals.{Taken, log-opens}
@@ -49,7 +49,7 @@ beginAt d file next left = record {
   state = d .state;
   journal = record {
     wal = walOf (d .state);
-    disk = record { sure = file; since = []; status = startStatus (d .state .bytes) (orderIn (d .answer)) };
+    disk = record { sure = file; since = []; status = startStatus (d .state .bytes) (orderShown (d .answer)) };
     moments = left ∷ [];
     now = left;
     firm = 0;
@@ -112,7 +112,7 @@ module _ (l : Lent) (t : Taken l) where
   abbrev start : World
   start = beginAt (opensAs l (t .found)) (fileIn l) (t .found .next) left
 
-  stands : Stands (disk.walOf (log.openedBy (l .bytes) (l .store) (l .records) noLeft (t .found))) left
+  stands : Stands (disk.openedWal (log.openedLogBy (l .bytes) (l .store) (l .records) noLeft (t .found))) left
   stands = opened-stands (l .bytes) (l .size) (l .store) (l .records) noLeft (t .found) (t .sizes) (t .reads)
 
   pub lent : Sized (length (l .bytes)) (l .size) (length (l .store)) (length (l .records)) 256
@@ -128,7 +128,7 @@ module _ (l : Lent) (t : Taken l) where
       (and-right (leb (length left) 256) (allFit left) (stands .small))
 
   start-works : Working (length (l .bytes)) (start .journal) (start .state)
-  unfolding disk.begin disk.sent
+  unfolding disk.beginLog disk.sent
   start-works = record {
     sound = given-back .sound;
     ids = given-back .same;
@@ -167,8 +167,8 @@ module _ (l : Lent) (t : Taken l) where
       ∙ lent .store-is)
 
   -- its order is a replace
-  pub opens-replacing : orderIn (openOf l .answer) ≡ shows (Replace (length (image left)))
-  opens-replacing = ap (λ (d : Did). orderIn (d .answer)) (opens-as l t)
+  pub opens-replacing : orderShown (openOf l .answer) ≡ shows (Replace (length (image left)))
+  opens-replacing = ap (λ (d : Did). orderShown (d .answer)) (opens-as l t)
 
   -- the log's bytes at and after the new size are as they were
   pub opens-tail : KeepsTail (openOf l .state .pool .turn .counters .size) (l .bytes) (openOf l .state .bytes)
@@ -188,7 +188,7 @@ rising-left file r ok =
 -- a file that opening accepts, and that fits: the next opening
 module _ (l : Lent) (t : Taken l) (file : List ℕ) (moments : List (List Message))
     (back : ReadBack (length (l .bytes)) file moments) where
-  next-taken : (next : Lent) → Follows l next file → Taken next
+  next-taken : (next : Lent) → NextOpening l next file → Taken next
   next-taken next f = record {
     fit = ap (λ (s : Settings). settingsFit s (next .groupsGiven)) (f .settings)
         ∙ (ap (settingsFit (l .settings)) (f .groupsGiven) ∙ t .fit);

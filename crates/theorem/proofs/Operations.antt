@@ -24,7 +24,7 @@ use Rattle.tick.specs.Settle.{leftoverOf, releaseOf}
 use Rattle.tick.specs.Crash as crashing
 use Rattle.theorem.proofs.Through.{mailbox-is}
 use Rattle.theorem.proofs.PlaceMoves.{hand-is}
-use Rattle.theorem.specs.Mailboxes.{mailList, mailbox, takeFirst, Operated, isLogged, loggedIn, unloggedIn}
+use Rattle.theorem.specs.Mailboxes.{mailList, mailbox, takeFirst, Operated, hasLogId, loggedIn, unloggedIn}
 use Rattle.theorem.specs.Operations.{slotNumber, handList, Delivers, PushesBack, Takes, SendsBack, DropsUnread}
 use Rattle.theorem.specs.Operations.{retries, triedAgain, notTried, Retired, Retires}
 use Rattle.theorem.proofs.Chained.{good-chained}
@@ -154,7 +154,7 @@ module _ (groups rows t : Table) (good : Good t) (g slot : ℕ) (low : slot < 12
     }
 
     -- it is not, and it is logged
-    over-retired : retries groups rows g e ≡ false → isLogged (messageAt rows e .id) ≡ true
+    over-retired : retries groups rows g e ≡ false → hasLogId (messageAt rows e .id) ≡ true
         → Retired groups rows g slot t (moveFirst back hand OVER)
     unfolding triedAgain notTried loggedIn unloggedIn
     over-retired p l = record {
@@ -171,7 +171,7 @@ module _ (groups rows t : Table) (good : Good t) (g slot : ℕ) (low : slot < 12
     }
 
     -- it is not, and it is not logged
-    free-retired : retries groups rows g e ≡ false → isLogged (messageAt rows e .id) ≡ false
+    free-retired : retries groups rows g e ≡ false → hasLogId (messageAt rows e .id) ≡ false
         → Retired groups rows g slot t (moveFirst back hand FREE)
     unfolding triedAgain notTried loggedIn unloggedIn
     free-retired p l = record {

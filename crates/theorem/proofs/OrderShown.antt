@@ -40,7 +40,7 @@ use Rattle.turn.specs.declared.state.Disk.the-variants as order
 use Rattle.turn.specs.State.{State, walOf, withPool, isFree, runningOf}
 use Rattle.turn.specs.Asks.{askedBy, askedAt, askedIn, openIn}
 use Rattle.turn.specs.Resume.{resumeOf}
-use Rattle.turn.specs.Step.{markAt, stepOf, advanced}
+use Rattle.turn.specs.Step.{markAt, turnStep, advanced}
 use Rattle.theorem.proofs.Steps.{pick-rule}
 use Rattle.answers.specs.declared.answer.Refusal.{Refusal}
 use Rattle.answers.specs.Answers.{Did, refused, shown}
@@ -51,14 +51,15 @@ use Rattle.pool.specs.declared.calls.StoredIn.{StoredIn}
 use Rattle.pool.specs.declared.calls.StoredIn.the-variants as stored
 use Rattle.pool.specs.Run.{answeredOf, runOf}
 use Rattle.pool.specs.Calls as pool
-use Rattle.pool.specs.Calls.{begunOf, storedIn, freed, resumeIn, resumeAt}
-use Rattle.theorem.specs.Rail.{nothing, orderAsked, orderOpen, orderIn, accepted, Call, admit, turn, reply, sync}
+use Rattle.pool.specs.Calls.{begunTurn, storedIn, freed, resumeIn, resumeAt}
+use Rattle.theorem.specs.Rail.{nothing, orderAsked, orderOpen, orderShown, accepted, Call, admit, turn, reply}
+use Rattle.theorem.specs.Rail.{sync}
 use Rattle.theorem.specs.Rail.{close, callOf}
 use Rattle.theorem.proofs.Running.{Aside, asideOf, go-aside, mark-stays, advanced-rule, step-rule}
 use Rattle.theorem.proofs.After.{orderOf, table-rule, turn-fine, reply-fine}
 
 unfoldable pub Shows : Did → Type 0
-Shows d = accepted (d .answer) ≡ true → orderIn (d .answer) ≡ orderOf (d .state .pool .turn .disk)
+Shows d = accepted (d .answer) ≡ true → orderShown (d .answer) ≡ orderOf (d .state .pool .turn .disk)
 
 refused-shows : (s : State) (r : Refusal) → Shows (refused s r)
 unfolding Shows
@@ -186,7 +187,7 @@ reply-fits s r fits = go (s .pool .turn .disk) (storedIn r) (reply-kind r) fits
 abbrev Moving : State → Type 0
 Moving s = (isFree (s .pool .turn .disk) ≡ true) ⊎ (inTurn (s .pool .turn .at) ≡ true)
 
-step-moving : (s : State) → runningOf (s .pool) ≡ true → Moving s → Moving (stepOf s)
+step-moving : (s : State) → runningOf (s .pool) ≡ true → Moving s → Moving (turnStep s)
 step-moving s run moves =
     step-rule Moving s run
     (λ p at-is free. pick-rule Moving (isFree (markAt s p .pool .turn .disk))
@@ -235,12 +236,13 @@ resumed-aside s r = go (s .pool .turn .at)
     go (at.Runs p) = refl
 
 module _ (s : State) where
-  logged-shows : (name body : List ℕ) (d : log.DidAppend) (a : of-log.Answer) → Shows (admits.loggedIn s name body d a)
+  logged-shows : (name body : List ℕ) (d : log.DidAppend) (a : of-log.Answer)
+      → Shows (admits.recordedIn s name body d a)
   logged-shows name body d (logged.Ordered o) = shown-shows _
   logged-shows name body d (logged.Refused r) = refused-shows _ _
 
   admit-shows : (name body : List ℕ) (who : Caller) → Shows (admits.admitEffect s name body who)
-  unfolding admits.admitCalled admits.admitLogged admits.loggedBy
+  unfolding admits.admitCalled admits.admitLogged admits.recordedBy
   admit-shows name body (caller.From who) = shown-shows _
   admit-shows name body caller.Nobody =
       logged-shows name body (log.appendOf (walOf s) name body) (log.appendOf (walOf s) name body .answer)
@@ -262,7 +264,7 @@ call-shows s (admit name body who) =
     (λ fine. admit-shows s name body who)
 call-shows s turn =
     table-rule Shows s (judged (turnRefusals (s .pool))) _ (refused-shows s)
-    (λ fine. run-shows (withPool s (begunOf (s .pool))) (turn-fine (s .pool) fine .0))
+    (λ fine. run-shows (withPool s (begunTurn (s .pool))) (turn-fine (s .pool) fine .0))
 call-shows s (reply r name body) =
     table-rule Shows s (judged (replyRefusals s r name body)) _ (refused-shows s)
     (λ fine. reply-shows s r name body (storedIn r) (reply-fits s r (reply-fine s r name body fine .0)))
@@ -273,6 +275,6 @@ call-shows s close =
 
 -- After every accepted call the order that waits is the one that the answer shows.
 pub order-shown : (s : State) (c : Call) → accepted (callOf s c .answer) ≡ true
-    → orderIn (callOf s c .answer) ≡ orderOf (callOf s c .state .pool .turn .disk)
+    → orderShown (callOf s c .answer) ≡ orderOf (callOf s c .state .pool .turn .disk)
 unfolding Shows
 order-shown s c = call-shows s c

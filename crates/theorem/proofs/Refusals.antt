@@ -37,14 +37,14 @@ use Rattle.answers.specs.declared.refusals.Check.{Check}
 use Rattle.answers.specs.declared.refusals.Check.the-variants as check
 use Rattle.answers.specs.Answers as answers
 use Rattle.answers.specs.Answers.{numberOf, shown}
-use Rattle.answers.specs.Refusals.{Line, judged, byTable, JudgedBy, Lent, fileIn, tablesFit, logSized}
+use Rattle.answers.specs.Refusals.{RefusalLine, judged, byTable, JudgedBy, Lent, fileIn, tablesFit, logSized}
 use Rattle.answers.specs.Refusals.{openRefusalsFirst, openRefusalsLogged, openRefusals, admitRefusalsFirst}
 use Rattle.answers.specs.Refusals.{admitRefusalsLogged, admitRefusals, inTurn, isMessage, noEntryFree, isFailed}
 use Rattle.answers.specs.Refusals.{isWaiting}
 use Rattle.answers.proofs.RefusalLaws.{fine-clear}
 use Rattle.pool.proofs.AdmitLaws.{short-both}
 use Rattle.pool.specs.Open.{noLeft, filledBy, openedBy, openEffect, openOf}
-use Rattle.pool.specs.Admit.{loggedIn, loggedBy, admitLogged, admitCalled, admitEffect, admitOf}
+use Rattle.pool.specs.Admit.{recordedIn, recordedBy, admitLogged, admitCalled, admitEffect, admitOf}
 use Rattle.pool.specs.declared.calls.StoredIn.{StoredIn}
 use Rattle.pool.specs.declared.calls.StoredIn.the-variants as stored
 use Rattle.pool.specs.Run.{answeredOf, runOf}
@@ -56,14 +56,14 @@ use Rattle.theorem.specs.Refusals.{ByTheTable}
 -- ---- what a table says
 
 -- refused with the refusal of this number: the first lines do not hold, up to one that has it
-abbrev pub Says : ℕ → List Line → Type 0
+abbrev pub Says : ℕ → List RefusalLine → Type 0
 Says n [] = ⊥
 Says n (l ∷ ls) = elim (eqb (numberOf (l .refusal)) n) [
   | true ↦ (l .holds ≡ true) ⊎ Says n ls
   | false ↦ (l .holds ≡ false) × Says n ls
 ]
 
-pub refuse-says : (ls : List Line) (r : Refusal) → judged ls ≡ check.Refuse r → Says (numberOf r) ls
+pub refuse-says : (ls : List RefusalLine) (r : Refusal) → judged ls ≡ check.Refuse r → Says (numberOf r) ls
 unfolding judged
 refuse-says [] r is = let z : _≡_ {A = ℕ} 0 1 = cc in absurd (omega arith)
 refuse-says (l ∷ ls) r is = go (eqb (numberOf (l .refusal)) (numberOf r)) refl (l .holds) refl is (refuse-says ls r)
@@ -179,11 +179,11 @@ module _ (s : State) (name body : List ℕ) where
 
   admit-taken : (who : Caller) → judged (admitRefusals s name body who) ≡ check.Fine
       → Takes (admitEffect s name body who)
-  unfolding admitCalled admitLogged loggedBy
+  unfolding admitCalled admitLogged recordedBy
   admit-taken (caller.From who) fine = shown-taken _
   admit-taken caller.Nobody fine =
       let d = appendOf (walOf s) name body in
-      subst (λ a. Takes (loggedIn s name body d a)) (sym (fine-appends fine .answer-is)) (shown-taken _)
+      subst (λ a. Takes (recordedIn s name body d a)) (sym (fine-appends fine .answer-is)) (shown-taken _)
 
 -- ---- an opening whose table refuses nothing
 
@@ -221,8 +221,8 @@ module _ (l : Lent) where
 
   -- the log as it opens the file
   pub log-opens : (t : Taken l)
-      → log.openOf (l .bytes) (l .size) (l .store) (l .records) noLeft
-      ≡ log.openedBy (l .bytes) (l .store) (l .records) noLeft (t .found)
+      → log.openLog (l .bytes) (l .size) (l .store) (l .records) noLeft
+      ≡ log.openedLogBy (l .bytes) (l .store) (l .records) noLeft (t .found)
   log-opens t =
       open-accepts (l .bytes) (l .size) (l .store) (l .records) noLeft (t .found) (t .sizes) (t .reads)
 

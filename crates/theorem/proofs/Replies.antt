@@ -34,14 +34,14 @@ use Rattle.turn.specs.declared.state.Disk.the-variants as order
 use Rattle.turn.specs.State.{Pool, State, walOf, withPool, withDisk, closedPool}
 use Rattle.turn.specs.Resume.{resumeOf}
 use Rattle.turn.specs.Step.{advanced}
-use Rattle.answers.specs.Answers.{shown, messagesOf, kept}
+use Rattle.answers.specs.Answers.{shown, messagesIn, kept}
 use Rattle.answers.specs.Refusals.{judged, inTurn, isMessage, noEntryFree, turnRefusals, replyRefusals, syncRefusals}
 use Rattle.answers.specs.Refusals.{closeRefusals}
 use Rattle.pool.specs.declared.calls.StoredIn.{StoredIn}
 use Rattle.pool.specs.declared.calls.StoredIn.the-variants as stored
 use Rattle.pool.specs.Run.{runOf}
 use Rattle.pool.specs.Calls as pool
-use Rattle.pool.specs.Calls.{firstPoint, begunOf, freed, resumeIn, resumeAt, storedIn}
+use Rattle.pool.specs.Calls.{firstPoint, begunTurn, freed, resumeIn, resumeAt, storedIn}
 use Rattle.theorem.specs.Rail.{Call, turn, reply, sync, close, callOf, World, answered, answeredBy}
 use Rattle.theorem.specs.Rail.{orderAnswered}
 use Rattle.theorem.specs.Rail.{nothing, OrderFits}
@@ -61,26 +61,27 @@ confirmed-settled (disk.appending new) d = refl
 confirmed-settled (disk.replacing new) d = refl
 confirmed-settled disk.flushing d = refl
 
-module _ (long : ℕ) (j : disk.World) (s : disk.Sent) (waits : j .disk .status ≡ disk.waits s) where
+module _ (long : ℕ) (j : disk.LogWorld) (s : disk.Sent) (waits : j .disk .status ≡ disk.waits s) where
   stored-sound : sound.Sound long j → sound.Sound long (disk.storedOrder j s)
-  unfolding disk.step
-  stored-sound good = subst (λ q. sound.Sound long (disk.step 0 q j disk.stored)) waits (sound.step-sound long 0 j
+  unfolding disk.stepLog
+  stored-sound good = subst (λ q. sound.Sound long (disk.stepLog 0 q j disk.stored)) waits (sound.step-sound long 0 j
       disk.stored good)
 
   failed-sound : sound.Sound long j → sound.Sound long (disk.failedOrder j s)
-  unfolding disk.step
-  failed-sound good = subst (λ q. sound.Sound long (disk.step 0 q j disk.failed)) waits (sound.step-sound long 0 j
+  unfolding disk.stepLog
+  failed-sound good = subst (λ q. sound.Sound long (disk.stepLog 0 q j disk.failed)) waits (sound.step-sound long 0 j
       disk.failed good)
 
   answered-waits : (x : StoredIn) → answeredBy j (j .disk .status) x ≡ orderAnswered j s x
   answered-waits x = ap (λ q. answeredBy j q x) waits
 
-answered-settled : (j : disk.World) (x : StoredIn) → j .disk .status ≡ disk.settled → answeredBy j (j .disk .status) x
+answered-settled : (j : disk.LogWorld) (x : StoredIn) → j .disk .status ≡ disk.settled
+    → answeredBy j (j .disk .status) x
     ≡ j
 answered-settled j x settled = ap (λ q. answeredBy j q x) settled
 
 -- a journal with the same messages and the same next id
-same-ledger : (j j′ : disk.World) (top : ℕ) (logged done : List ℕ) → Ledger j top logged done → j′ .now ≡ j .now
+same-ledger : (j j′ : disk.LogWorld) (top : ℕ) (logged done : List ℕ) → Ledger j top logged done → j′ .now ≡ j .now
     → j′ .wal .counters .next ≡ j .wal .counters .next → Ledger j′ top logged done
 same-ledger j j′ top logged done old now next = record {
   next-is = old .next-is ∙ sym next;
@@ -97,33 +98,34 @@ data Syncs (n : Counters) (s : AnsweredDue) : Type 0 where
   idle : s ≡ record { counters = n; due = due.Nothing } → Syncs n s
   flush : s .due ≡ due.Ordered Flush → s .counters .next ≡ n .next → Syncs n s
 
-sync-view : (n : Counters) → Syncs n (log.syncOf n)
-unfolding log.syncOf
+sync-view : (n : Counters) → Syncs n (log.syncLog n)
+unfolding log.syncLog
 sync-view n = go (n .dirty) refl
   where
-    go : (b : Bool) → n .dirty ≡ b → Syncs n (log.syncOf n)
-    go true e = rw (e, log.syncOf) (flush refl refl)
+    go : (b : Bool) → n .dirty ≡ b → Syncs n (log.syncLog n)
+    go true e = rw (e, log.syncLog) (flush refl refl)
     go false e = idle cc
 
 -- the journal after a flush was ordered
-abbrev synced : disk.World → log.Wal → disk.World
+abbrev synced : disk.LogWorld → log.Wal → disk.LogWorld
 synced j v = disk.issue j (record {
   bytes = v .bytes;
   table = v .table;
-  counters = log.syncOf (v .counters)
+  counters = log.syncLog (v .counters)
       .counters;
 }) (j .now) (disk.sent (v .bytes) Flush)
 
-synced-sound : (long : ℕ) (j : disk.World) (v : log.Wal) → sound.Sound long j → j .disk .status ≡ disk.settled → j .wal
+synced-sound : (long : ℕ) (j : disk.LogWorld) (v : log.Wal) → sound.Sound long j → j .disk .status ≡ disk.settled
+    → j .wal
     ≡ v
-    → log.syncOf (v .counters) .due ≡ due.Ordered Flush → sound.Sound long (synced j v)
-unfolding disk.called disk.didCall disk.effect
-synced-sound long j v good settled is ordered = subst (λ u. log.syncOf (u .counters) .due ≡ due.Ordered Flush
+    → log.syncLog (v .counters) .due ≡ due.Ordered Flush → sound.Sound long (synced j v)
+unfolding disk.called disk.didCall disk.callEffect
+synced-sound long j v good settled is ordered = subst (λ u. log.syncLog (u .counters) .due ≡ due.Ordered Flush
     → sound.Sound long (synced j u)) is here ordered
   where
-    here : log.syncOf (j .wal .counters) .due ≡ due.Ordered Flush → sound.Sound long (synced j (j .wal))
+    here : log.syncLog (j .wal .counters) .due ≡ due.Ordered Flush → sound.Sound long (synced j (j .wal))
     here e =
-        subst (λ a. sound.Sound long (disk.issued j disk.sync (disk.bySync (j .wal) (log.syncOf (j .wal .counters))
+        subst (λ a. sound.Sound long (disk.issued j disk.sync (disk.bySync (j .wal) (log.syncLog (j .wal .counters))
         .wal) (disk.orderedDue a))) e
         (call-sound long j good settled disk.sync)
 
@@ -131,7 +133,7 @@ synced-sound long j v good settled is ordered = subst (λ u. log.syncOf (u .coun
 
 module _ (long : ℕ) (limits : Limits) (w : World) (c : Call) where
   -- nothing runs, and no order goes out
-  rest-ends : (s : State) (j : disk.World) → OrderFits w c s nothing → s .bytes ≡ w .state .bytes
+  rest-ends : (s : State) (j : disk.LogWorld) → OrderFits w c s nothing → s .bytes ≡ w .state .bytes
       → answered (w .journal) c ≡ j → s .pool .turn .disk ≡ order.Free → Working long j s
       → Ledger j (w .next) (w .logged) (w .done) → s .pool .limits ≡ limits → Ends long limits w c (shown s)
   rest-ends s j fits same from free works ledger is =
@@ -140,7 +142,7 @@ module _ (long : ℕ) (limits : Limits) (w : World) (c : Call) where
       (subst (λ d. OrderFits w c s (orderOf d)) (sym free) fits)
       (rest-steady long limits c w s j from free works ledger is))
 
-  run-ends : Marking w c → (s : State) (j : disk.World) → j .now ≡ w .journal .now → s .bytes ≡ w .state .bytes
+  run-ends : Marking w c → (s : State) (j : disk.LogWorld) → j .now ≡ w .journal .now → s .bytes ≡ w .state .bytes
       → answered (w .journal) c ≡ j → s .pool .turn .disk ≡ order.Free → Working long j s
       → Ledger j (w .next) (w .logged) (w .done) → s .pool .limits ≡ limits → Ends long limits w c (runOf s)
   unfolding runOf
@@ -177,7 +179,7 @@ module _ (long : ℕ) (limits : Limits) (w : World) (steady : Steady long limits
   abbrev p : Pool
   p = s .pool
 
-  abbrev j : disk.World
+  abbrev j : disk.LogWorld
   j = w .journal
 
   works : Working long j s
@@ -188,7 +190,7 @@ module _ (long : ℕ) (limits : Limits) (w : World) (steady : Steady long limits
   settled free = subst (λ q. Agrees q (j .disk .status) (s .bytes)) free (works .agrees)
 
   -- the disk and the journal change, and the messages stay
-  disk-works : (j′ : disk.World) (n : Counters) (d : Disk) → j′ .now ≡ j .now
+  disk-works : (j′ : disk.LogWorld) (n : Counters) (d : Disk) → j′ .now ≡ j .now
       → j′ .wal ≡ walOf (withPool s (withDisk p n d)) → Agrees d (j′ .disk .status) (s .bytes) → sound.Sound long j′
       → Working long j′ (withPool s (withDisk p n d))
   disk-works j′ n d now wal agrees journal = record {
@@ -204,7 +206,7 @@ module _ (long : ℕ) (limits : Limits) (w : World) (steady : Steady long limits
 
   -- ---- turn
 
-  begun-works : inTurn (p .turn .at) ≡ false → Working long j (withPool s (begunOf p))
+  begun-works : inTurn (p .turn .at) ≡ false → Working long j (withPool s (begunTurn p))
   begun-works rests = record {
     sound = works .sound;
     ids = works .ids;
@@ -222,7 +224,7 @@ module _ (long : ℕ) (limits : Limits) (w : World) (steady : Steady long limits
   turn-ends =
       table-rule (Ends long limits w turn) s (judged (turnRefusals p)) _ (λ r. turned r refl)
       (λ fine. let (free, rests) = turn-fine p fine in
-      run-ends long limits w turn (refl, λ s o h. h) (withPool s (begunOf p)) j refl refl refl free
+      run-ends long limits w turn (refl, λ s o h. h) (withPool s (begunTurn p)) j refl refl refl free
       (begun-works rests) (steady .ledger) (steady .limits-are))
 
   -- ---- close and sync
@@ -246,19 +248,19 @@ module _ (long : ℕ) (limits : Limits) (w : World) (steady : Steady long limits
       (λ fine. rest-ends long limits w close (withPool s (closedPool p)) j refl refl refl (sync-fine p fine)
       closed-works (steady .ledger) (steady .limits-are))
 
-  synced-ends : p .turn .disk ≡ order.Free → Syncs (p .turn .counters) (log.syncOf (p .turn .counters))
+  synced-ends : p .turn .disk ≡ order.Free → Syncs (p .turn .counters) (log.syncLog (p .turn .counters))
       → Ends long limits w sync (shown (withPool s (pool.syncEffect p)))
   unfolding pool.syncEffect pool.syncedBy disk.issue
   synced-ends free (idle is) =
       subst (λ d. Ends long limits w sync (shown (withPool s (pool.syncedIn p d (d .due))))) (sym is)
       (rest-ends long limits w sync s j (inl refl) refl refl free works (steady .ledger) (steady .limits-are))
   synced-ends free (flush is next) =
-      subst (λ a. Ends long limits w sync (shown (withPool s (pool.syncedIn p (log.syncOf (p .turn .counters)) a))))
+      subst (λ a. Ends long limits w sync (shown (withPool s (pool.syncedIn p (log.syncLog (p .turn .counters)) a))))
       (sym is)
       (shown-rule (Ends long limits w sync)
-      (withPool s (withDisk p (log.syncOf (p .turn .counters) .counters) (order.Waits Flush orderFor.Nothing)))
+      (withPool s (withDisk p (log.syncLog (p .turn .counters) .counters) (order.Waits Flush orderFor.Nothing)))
       (λ a ok. took ok refl (inr refl) (record {
-        works = disk-works (synced j (walOf s)) (log.syncOf (p .turn .counters) .counters)
+        works = disk-works (synced j (walOf s)) (log.syncLog (p .turn .counters) .counters)
             (order.Waits Flush orderFor.Nothing) refl refl refl
             (synced-sound long j (walOf s) (works .journal) (settled free) (works .wal) is);
         ledger = same-ledger j (synced j (walOf s)) (w .next) (w .logged) (w .done) (steady .ledger) refl
@@ -345,7 +347,7 @@ module _ (long : ℕ) (limits : Limits) (w : World) (steady : Steady long limits
 
       sent-works : noEntryFree (s .links) ≡ false → Working long j (kept s sent PENDING)
       sent-works room =
-          unlogged-works long j s (keepOf (messagesOf s) sent PENDING) works
+          unlogged-works long j s (keepOf (messagesIn s) sent PENDING) works
           (kept-arrives s (works .sound) (works .ok) sent PENDING not-mailbox-pending (omega arith) room)
 
       sent-ends : noEntryFree (s .links) ≡ false → Ends long limits w c (pool.collectSend s name body)

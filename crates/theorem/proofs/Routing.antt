@@ -24,7 +24,7 @@ use Rattle.group.specs.Roster.{slotAt, liveLen, spawnOf, popIdleOf, leastOf}
 use Rattle.route.specs.Seed.{Seeded, seedOf, seedBooted, seedBy, seedReply}
 use Rattle.route.specs.Intake.{Linked, batchOf, intakeOf}
 use Rattle.route.specs.Batch as to
-use Rattle.route.specs.Batch.{Sent, routeOf, routeReply}
+use Rattle.route.specs.Batch.{RoutedTables, routeOf, routeReply}
 use Rattle.theorem.specs.Places.{Sound, Keeps}
 use Rattle.theorem.proofs.PlaceMoves.{not-mailbox-inbox, not-mailbox-pending, not-mailbox-batch, same-keeps}
 use Rattle.theorem.proofs.PlaceMoves.{move-keeps, move-all-keeps}
@@ -95,7 +95,7 @@ intake-between t q backlog left =
 -- ---- the batch is routed
 
 -- a message is over, or delivered, or Boot is asked for it, or none is left
-pub record Routes (t rows : Table) (q left : ℕ) (P : Sent → Type 0) : Type 0 where
+pub record Routes (t rows : Table) (q left : ℕ) (P : RoutedTables → Type 0) : Type 0 where
   pub over : (keys actors : Table) → P (to.lostTo (to.undeliverable t rows left) (turnTables t keys actors q))
   pub sent : (keys actors : Table) (g k : ℕ) → P (to.deliver (turnTables t keys actors q) g k left)
   pub asks : (keys actors : Table) (g : ℕ) → P (record {
@@ -108,7 +108,7 @@ pub record Routes (t rows : Table) (q left : ℕ) (P : Sent → Type 0) : Type 0
   pub done : (keys actors : Table) → P (to.clockNext (turnTables t keys actors q))
 
 -- what holds of these four holds of every way through routing
-module _ (t rows : Table) (q left : ℕ) (P : Sent → Type 0) (ways : Routes t rows q left P) where
+module _ (t rows : Table) (q left : ℕ) (P : RoutedTables → Type 0) (ways : Routes t rows q left P) where
   by-key : (keys actors : Table) (g : ℕ) (k : Key) → P (to.deliverKey rows (turnTables t keys actors q) g k left)
   unfolding to.deliverKey
   by-key keys actors g (key.At k) = ways .sent keys actors g k
@@ -179,10 +179,10 @@ module _ (t rows : Table) (q left : ℕ) (P : Sent → Type 0) (ways : Routes t 
   unfolding to.routeReply
   reply-rule keys actors g r = by-reply keys actors g (yesIn r)
 
-abbrev SentKeeps : Table → Table → Sent → Type 0
+abbrev SentKeeps : Table → Table → RoutedTables → Type 0
 SentKeeps t rows s = Keeps t rows (s .links) rows (s .routed .queued)
 
-abbrev SentBetween : Sent → Type 0
+abbrev SentBetween : RoutedTables → Type 0
 SentBetween s = BetweenSteps (s .routed .at)
 
 ways-keep : (t rows : Table) (q left : ℕ) → Sound t rows q → Routes t rows q left (SentKeeps t rows)

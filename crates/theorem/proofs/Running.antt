@@ -31,8 +31,8 @@ use Rattle.turn.specs.declared.state.Disk.the-variants as order
 use Rattle.turn.specs.declared.state.Limits.{Limits}
 use Rattle.turn.specs.State.{State, walOf, withLinks, isFree, runsAt, runningOf, marksAt}
 use Rattle.turn.specs.Go.{goOf}
-use Rattle.turn.specs.Step.{marked, markLogged, markFound, markFirst, markAt, goFree, stepAt}
-use Rattle.turn.specs.Step.{stepOf, advanced}
+use Rattle.turn.specs.Step.{marked, markLogged, markEntry, markFirst, markAt, goFree, stepAt}
+use Rattle.turn.specs.Step.{turnStep, advanced}
 use Rattle.turn.specs.Advance.{GoesOn, here, step}
 use Rattle.turn.proofs.Advance.{advances}
 use Rattle.theorem.specs.Places.{isId, stands, Goes}
@@ -89,7 +89,7 @@ unfolding markLogged
 logged-stays s t (logged.As id) = (refl, refl)
 logged-stays s t logged.Never = (refl, refl)
 
-found-stays : (s : State) (f : Found) → Stays s (markFound s f)
+found-stays : (s : State) (f : Found) → Stays s (markEntry s f)
 found-stays s (found.Entry e) = logged-stays s (moveFirst (s .links) OVER FREE) (messageAt (s .rows) e .id)
 found-stays s found.Nothing = (refl, refl)
 
@@ -100,8 +100,8 @@ mark-stays s p = pick-rule (Stays s) (marksAt p) (λ e. found-stays s (firstOf (
 -- a state that runs is at a point, with no order waiting: what holds of that point's step holds of the state's
 pub step-rule : (P : State → Type 0) (s : State) → runningOf (s .pool) ≡ true
     → ((p : Point) → s .pool .turn .at ≡ at.Runs p → s .pool .turn .disk ≡ order.Free → P (goFree (markAt s p) p))
-    → P (stepOf s)
-unfolding stepOf runningOf
+    → P (turnStep s)
+unfolding turnStep runningOf
 step-rule P s run keeps = go (s .pool .turn .disk) (s .pool .turn .at) refl refl run
   where
     go : (d : Disk) (a : At) → s .pool .turn .disk ≡ d → s .pool .turn .at ≡ a
@@ -114,12 +114,12 @@ step-rule P s run keeps = go (s .pool .turn .disk) (s .pool .turn .at) refl refl
 
 -- ---- what every step of a running turn keeps holds where the turn stops
 
-on-rule : (P : State → Type 0) → ((s : State) → runningOf (s .pool) ≡ true → P s → P (stepOf s)) → (s s′ : State)
+on-rule : (P : State → Type 0) → ((s : State) → runningOf (s .pool) ≡ true → P s → P (turnStep s)) → (s s′ : State)
     → GoesOn s s′ → P s → P s′
 on-rule P keeps s s′ (here _) h = h
-on-rule P keeps s s′ (step _ _ run on) h = on-rule P keeps (stepOf s) s′ on (keeps s run h)
+on-rule P keeps s s′ (step _ _ run on) h = on-rule P keeps (turnStep s) s′ on (keeps s run h)
 
-pub advanced-rule : (P : State → Type 0) → ((s : State) → runningOf (s .pool) ≡ true → P s → P (stepOf s))
+pub advanced-rule : (P : State → Type 0) → ((s : State) → runningOf (s .pool) ≡ true → P s → P (turnStep s))
     → (s : State) → P s → P (advanced s)
 advanced-rule P keeps s h = on-rule P keeps s (advanced s) (advances s .0) h
 
@@ -140,7 +140,7 @@ module _ (l : Lasting) where
 
 -- ---- no order goes out: every id stands as before
 
-pub moved-works : (long : ℕ) (j : disk.World) (s s′ : State) → Working long j s → asideOf s′ ≡ asideOf s
+pub moved-works : (long : ℕ) (j : disk.LogWorld) (s s′ : State) → Working long j s → asideOf s′ ≡ asideOf s
     → StateKeeps s s′ → StateStands s′ → Working long j s′
 moved-works long j s s′ works aside went holds = record {
   sound = went .keeps .sound;
@@ -153,7 +153,7 @@ moved-works long j s s′ works aside went holds = record {
   journal = works .journal;
 }
 
-point-works : (long : ℕ) (j : disk.World) (s : State) (p : Point) → s .pool .turn .at ≡ at.Runs p → Working long j s
+point-works : (long : ℕ) (j : disk.LogWorld) (s : State) (p : Point) → s .pool .turn .at ≡ at.Runs p → Working long j s
     → Working long j (goOf s p)
 point-works long j s p at-is works =
     moved-works long j s (goOf s p) works (go-aside s p) (go-keeps s p (works .sound))
@@ -162,7 +162,7 @@ point-works long j s p at-is works =
 
 -- ---- the first message that is over is free
 
-module _ (long : ℕ) (j : disk.World) (s : State) (free : s .pool .turn .disk ≡ order.Free) (works : Working long j s)
+module _ (long : ℕ) (j : disk.LogWorld) (s : State) (free : s .pool .turn .disk ≡ order.Free) (works : Working long j s)
     (p : Point) (at-is : s .pool .turn .at ≡ at.Runs p) where
   abbrev limit : ℕ
   limit = s .pool .limits .«compact_at»
@@ -270,7 +270,7 @@ module _ (long : ℕ) (j : disk.World) (s : State) (free : s .pool .turn .disk �
   first-runs : Runs long j (markFirst s)
   unfolding markFirst
   first-runs =
-      pick-rule (λ (f : Found). Runs long j (markFound s f)) (eqb (lenOf (s .links) OVER) 0) (λ e. still free works)
+      pick-rule (λ (f : Found). Runs long j (markEntry s f)) (eqb (lenOf (s .links) OVER) 0) (λ e. still free works)
       (λ e. by-id (omega (arith, eqb-false (lenOf (s .links) OVER) 0 e))
       (messageAt (s .rows) (headOf (s .links) OVER) .id) refl)
 
@@ -280,7 +280,7 @@ module _ (long : ℕ) (j : disk.World) (s : State) (free : s .pool .turn .disk �
 -- ---- a step, and a run
 
 -- the point runs, unless an order waits
-free-runs : (long : ℕ) (j : disk.World) (s : State) (p : Point) → s .pool .turn .at ≡ at.Runs p → Runs long j s
+free-runs : (long : ℕ) (j : disk.LogWorld) (s : State) (p : Point) → s .pool .turn .at ≡ at.Runs p → Runs long j s
     → Runs long j (goFree s p)
 free-runs long j s p at-is (still free works) =
     subst (λ d. Runs long j (pick (isFree d) (goOf s p) s)) (sym free)
@@ -288,8 +288,8 @@ free-runs long j s p at-is (still free works) =
 free-runs long j s p at-is (marks o id waits there next tail works) =
     subst (λ d. Runs long j (pick (isFree d) (goOf s p) s)) (sym waits) (marks o id waits there next tail works)
 
-step-runs : (long : ℕ) (j : disk.World) (s : State) → runningOf (s .pool) ≡ true → Runs long j s
-    → Runs long j (stepOf s)
+step-runs : (long : ℕ) (j : disk.LogWorld) (s : State) → runningOf (s .pool) ≡ true → Runs long j s
+    → Runs long j (turnStep s)
 step-runs long j s run (still free works) =
     step-rule (Runs long j) s run
     (λ p at-is is. free-runs long j (markAt s p) p (mark-stays s p .0 ∙ at-is) (marks-run long j s free works p at-is))
@@ -297,6 +297,6 @@ step-runs long j s run (marks o id waits there next tail works) =
     step-rule (Runs long j) s run
     (λ p at-is free. absurd (false≢true (sym (ap isFree waits) ∙ ap isFree free)))
 
-pub run-runs : (long : ℕ) (j : disk.World) (s : State) → s .pool .turn .disk ≡ order.Free → Working long j s
+pub run-runs : (long : ℕ) (j : disk.LogWorld) (s : State) → s .pool .turn .disk ≡ order.Free → Working long j s
     → Runs long j (advanced s)
 run-runs long j s free works = advanced-rule (Runs long j) (step-runs long j) s (still free works)

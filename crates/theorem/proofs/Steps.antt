@@ -131,7 +131,7 @@ module _ (t rows l : Table) (slot : ℕ) (good : Good t) (low : slot < 128) wher
   unfolding two.evalDispatched
   dispatched-eval n = pick-rule (EvalThrough t rows) (ltb 0 n) (λ e. quiet) (λ e. finish-eval outcome.StuckHostCall)
 
-  by-clock : (r : ClockIn) → EvalThrough t rows (two.clockBy (stepTables t rows l) slot r)
+  by-clock : (r : ClockIn) → EvalThrough t rows (two.evalClockBy (stepTables t rows l) slot r)
   by-clock (clock.Of ns) = clocked-eval ns
   by-clock clock.Other = quiet
 
@@ -146,17 +146,18 @@ module _ (t rows l : Table) (slot : ℕ) (good : Good t) (low : slot < 128) wher
   by-start limit (clock.Of ns) = hand-to-held t rows slot good low
   by-start limit clock.Other = quiet
 
-  by-ran : (start : Bool) (r : RanIn) → EvalThrough t rows (two.runBy (stepTables t rows l) slot start r)
+  by-ran : (start : Bool) (r : RanIn) → EvalThrough t rows (two.evalRunBy (stepTables t rows l) slot start r)
   by-ran start (ran.Of s) = ran-eval s
   by-ran start ran.Other = quiet
 
-  by-dispatched : (r : CountIn) → EvalThrough t rows (two.dispatchBy (stepTables t rows l) slot r)
+  by-dispatched : (r : CountIn) → EvalThrough t rows (two.evalDispatchBy (stepTables t rows l) slot r)
   by-dispatched (count.Of n) = dispatched-eval n
   by-dispatched count.Other = quiet
 
   pub eval-through : (limit : Limit) (a : EvalAsk) (r : Reply)
       → EvalThrough t rows (stepEval (stepTables t rows l) slot limit a r)
-  unfolding two.stepEval two.clockReply two.bootReply two.startReply two.runReply two.dispatchReply two.tellReply
+  unfolding two.stepEval two.evalClockReply two.bootReply two.startReply two.evalRunReply two.evalDispatchReply
+      two.tellReply
   eval-through limit eval.Clock r = by-clock (clockIn r)
   eval-through limit eval.Boot r = by-boot (yesIn r)
   eval-through limit eval.StartClock r = by-start limit (clockIn r)

@@ -32,7 +32,7 @@ use Rattle.answers.specs.Answers.{shown}
 use Rattle.answers.specs.Refusals.{Lent, fileIn, judged, byTable, inTurn, isMessage, openRefusals, admitRefusals}
 use Rattle.answers.specs.Refusals.{turnRefusals, replyRefusals, syncRefusals, closeRefusals}
 use Rattle.pool.specs.Open as opens
-use Rattle.pool.specs.Admit.{loggedIn, loggedBy, admitLogged, admitCalled, admitEffect, admitOf}
+use Rattle.pool.specs.Admit.{recordedIn, recordedBy, admitLogged, admitCalled, admitEffect, admitOf}
 use Rattle.pool.specs.declared.calls.StoredIn.{StoredIn}
 use Rattle.pool.specs.declared.calls.StoredIn.the-variants as stored
 use Rattle.pool.specs.Run.{answeredOf, runOf}
@@ -85,13 +85,13 @@ reply-stops s r name body stored.Other stops =
     pick-rule Done (isMessage r) (λ e. shown-stops _ stops) (λ e. run-stops _)
 
 logged-stops : (s : State) (name body : List ℕ) (d : log.DidAppend) (a : of-log.Answer) → Stops s
-    → Done (loggedIn s name body d a)
+    → Done (recordedIn s name body d a)
 unfolding runningOf
 logged-stops s name body d (logged.Ordered o) stops = shown-stops _ refl
 logged-stops s name body d (logged.Refused r) stops = stops
 
 admit-stops : (s : State) (name body : List ℕ) (who : Caller) → Stops s → Done (admitEffect s name body who)
-unfolding admitLogged loggedBy admitCalled
+unfolding admitLogged recordedBy admitCalled
 admit-stops s name body (caller.From who) stops = shown-stops _ stops
 admit-stops s name body caller.Nobody stops =
     let d = log.appendOf (record { bytes = s .bytes; table = s .records; counters = s .pool .turn .counters })
@@ -111,7 +111,7 @@ call-stops s turn stops = by-table s (judged (turnRefusals (s .pool))) _ stops (
 call-stops s (reply r name body) stops =
     by-table s (judged (replyRefusals s r name body)) _ stops (reply-stops s r name body (storedIn r) stops)
 call-stops s sync stops =
-    let d = log.syncOf (s .pool .turn .counters) in
+    let d = log.syncLog (s .pool .turn .counters) in
     by-table s (judged (syncRefusals (s .pool))) _ stops (shown-stops _ (synced-stops (s .pool) d (d .due) stops))
 call-stops s close stops = by-table s (judged (closeRefusals (s .pool))) _ stops (shown-stops _ stops)
 
@@ -123,7 +123,7 @@ opened-stops l o (logged.Refused r) = refl
 open-stops : (l : Lent) → Done (opens.openOf l)
 unfolding opens.openOf opens.openEffect opens.openedBy runningOf
 open-stops l =
-    let o = opened.openOf (l .bytes) (l .size) (l .store) (l .records) opens.noLeft in
+    let o = opened.openLog (l .bytes) (l .size) (l .store) (l .records) opens.noLeft in
     by-table (opens.unopened l) (judged (openRefusals l)) _ refl (opened-stops l o (o .step .answer))
 
 -- a step of the world leaves the state as its call does
@@ -138,7 +138,7 @@ step-state w c = go (callOf (w .state) c)
     go : (d : answers.Did) → rail.stepDid w c d .state ≡ d .state
     go d = by (d .answer)
       where
-        by : (a : Answer) → rail.stepBy w c (d .state) a .state ≡ d .state
+        by : (a : Answer) → rail.worldAfter w c (d .state) a .state ≡ d .state
         by (answer.Refused r) = refl
         by (answer.Open a) = shows (d .state) (rail.answered (w .journal) c) (rail.orderOpen a)
         by (answer.Ended busy waiters) = refl

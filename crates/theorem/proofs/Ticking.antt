@@ -141,7 +141,7 @@ live-slot keys g k live = ltb-true (slotAt g k) 128 (test-first (ltb (slotAt g k
 
 -- what holds where no step begins, and of a step that begins, holds of the ready list
 module _ (t : Table) (q : ℕ) (P : Table → Begun → Type 0)
-    (none : (a : At) (stepped : Bool) → BetweenSteps a → P t (starting.begunAt a q stepped))
+    (none : (a : At) (stepped : Bool) → BetweenSteps a → P t (starting.begunWith a q stepped))
     (begins : (actors : Table) (c : Cursor) → slotOn c < 128 → P (starting.beginStep t actors c (slotOn c) q .links)
     (starting.beginStep t actors c (slotOn c) q .begun)) where
   abbrev Holds : Stepping → Type 0

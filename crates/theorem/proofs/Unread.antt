@@ -17,7 +17,7 @@ use Rattle.actor.specs.Messages.{messageAt}
 use Rattle.steps.specs.Steps.{placeLogged, placeOver, overFirst}
 use Rattle.group.specs.Roster.{overAll}
 use Rattle.theorem.proofs.Through.{mailbox-is}
-use Rattle.theorem.specs.Mailboxes.{mailList, mailbox, isLogged, loggedIn, unloggedIn, Unread}
+use Rattle.theorem.specs.Mailboxes.{mailList, mailbox, hasLogId, loggedIn, unloggedIn, Unread}
 use Rattle.theorem.proofs.Chained.{good-chained}
 
 -- the messages es of a list are over: at the ends of over and of what is free
@@ -38,7 +38,7 @@ module _ (rows : Table) (from : ℕ) (above : 4 < from) (from-is : from < LISTS)
     unfolding overFirst placeOver
     goes k p = rw (first-is t from, is) (ap (moveFirst t from) p)
 
-    over-logged : (r : Table) → Overs rows from es (moveFirst t from OVER) r → isLogged (messageAt rows e .id) ≡ true
+    over-logged : (r : Table) → Overs rows from es (moveFirst t from OVER) r → hasLogId (messageAt rows e .id) ≡ true
         → Overs rows from (e ∷ es) t r
     unfolding loggedIn unloggedIn
     over-logged r rest is-logged =
@@ -55,7 +55,7 @@ module _ (rows : Table) (from : ℕ) (above : 4 < from) (from-is : from < LISTS)
         }
 
     over-unlogged : (r : Table) → Overs rows from es (moveFirst t from FREE) r
-        → isLogged (messageAt rows e .id) ≡ false → Overs rows from (e ∷ es) t r
+        → hasLogId (messageAt rows e .id) ≡ false → Overs rows from (e ∷ es) t r
     unfolding loggedIn unloggedIn
     over-unlogged r rest is-not =
         let m = move-first (to-low t good FREE (omega arith)) in

@@ -37,7 +37,7 @@ use Rattle.answers.specs.declared.answer.Answer.the-variants as answer
 use Rattle.answers.specs.Answers.{Did}
 use Rattle.answers.specs.Refusals.{Lent, fileIn}
 use Rattle.theorem.specs.Rail.{Call, admit, turn, reply, World, nothing, stepDid, unordered, ordered, answered}
-use Rattle.theorem.specs.Rail.{begin, inPlaces, orderIn, mailboxAt, handAt, Placed, Follows, Holds}
+use Rattle.theorem.specs.Rail.{begin, inPlaces, orderShown, mailboxAt, handAt, Placed, NextOpening, Holds}
 use Rattle.theorem.proofs.Refusals.{Taken}
 use Rattle.theorem.proofs.Opened.{tables-true, opensAs, opens-as}
 use Rattle.theorem.proofs.Opening.{lent, hands-back}
@@ -48,7 +48,7 @@ use Rattle.theorem.proofs.Left.{marked-in}
 
 module _ (l : Lent) (w : World) (c : Call) (s : State) (x : ℕ) (there : 0 < count x (w .logged))
     (undone : count x (w .done) ≡ 0) (gone : stands x (s .links) (s .rows) ≡ 0) where
-  unordered-refused : (j : disk.World) → Holds l (unordered w s j) → ⊥
+  unordered-refused : (j : disk.LogWorld) → Holds l (unordered w s j) → ⊥
   unordered-refused j h = go (h .placed x there)
     where
       go : Placed (unordered w s j) x → ⊥
@@ -56,7 +56,8 @@ module _ (l : Lent) (w : World) (c : Call) (s : State) (x : ℕ) (there : 0 < co
       go (inr p) = omega (arith, p .1, gone)
 
   -- so no pool frees a message without its mark, or hides the order of its mark
-  pub lost-refused : (a : Answer) → orderIn a ≡ nothing → Holds l (stepDid w c (record { state = s; answer = a })) → ⊥
+  pub lost-refused : (a : Answer) → orderShown a ≡ nothing → Holds l (stepDid w c (record { state = s; answer = a }))
+      → ⊥
   lost-refused (answer.Refused r) none = unordered-refused (w .journal)
   lost-refused (answer.Open a) none =
       subst (λ o. Holds l (ordered c w s (answered (w .journal) c) o) → ⊥) (sym none)
@@ -93,7 +94,7 @@ module _ (l : Lent) (t : Taken l) (file : List ℕ) (r : Read) (short : length f
     actors = rowsOf 128;
   }
 
-  follows : Follows l next file
+  follows : NextOpening l next file
   follows = record {
     settings = refl;
     groupsGiven = refl;
@@ -261,7 +262,7 @@ two-taken : Taken two
 two-taken = taken-with (twoLines ++ replicate 8 0) 8 twoRead (omega arith) (omega arith) (omega arith) two-reads
 
 -- 1 alone stands, in pending
-abbrev oneStands : tables.Placed
+abbrev oneStands : tables.LeftPlaced
 oneStands = putMessages (rowsOf 256) (bare 1 ∷ [])
 
 one-stands : Hands (rowsOf 256) (replicate 40960 0) (bare 1 ∷ [])

@@ -12,7 +12,7 @@ use Rattle.lists.specs.Links.{Table, startFrom, LISTS, PENDING}
 use Rattle.lists.specs.Family.{count, view}
 use Rattle.actor.specs.Messages.{loggedNumber, messageAt}
 use Rattle.theorem.specs.Places.{stands, Sound}
-use Rattle.settings.specs.Tables.{Placed, putLeft}
+use Rattle.settings.specs.Tables.{LeftPlaced, putLeft}
 
 -- the message of an entry: its log id, its group's name and its body
 abbrev pub messageIn : List ℕ → Table → ℕ → Message
@@ -30,7 +30,7 @@ abbrev pub idsOf : List Message → List ℕ
 idsOf ms = map (λ (m : Message). m .id) ms
 
 -- the messages left, put into lists that are all free and into these rows
-abbrev pub putMessages : Table → List Message → Placed
+abbrev pub putMessages : Table → List Message → LeftPlaced
 putMessages rows ms =
     putLeft (startFrom 0 LISTS) rows (write (replicate RECORDS (0 ∷ 0 ∷ 0 ∷ [])) 0 (map leftRow ms)) 0 (length ms)
 

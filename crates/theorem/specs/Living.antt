@@ -46,7 +46,7 @@ given keys g k = containsOf (keysAt keys (4 * g)) k
 pub record Lives (t keys actors : Table) : Type 0 where
   pub keys-are : length keys ≡ ROWS
   pub actors-are : length actors ≡ SLOTS
-  pub slabs : (g : ℕ) → g < GROUPS → slab.Sound (keysAt keys (4 * g))
+  pub slabs : (g : ℕ) → g < GROUPS → slab.SlabSound (keysAt keys (4 * g))
   pub dead : (g k : ℕ) → g < GROUPS → k < KEYS → given keys g k ≡ false → (mailLen t g k ≡ 0) × (handLen t g k ≡ 0)
   pub one : (g k : ℕ) → g < GROUPS → k < KEYS → handLen t g k ≤ 1
   pub runs : (g k : ℕ) → g < GROUPS → k < KEYS → actorAt actors (KEYS * g + k) .mode ≡ mode.Eval

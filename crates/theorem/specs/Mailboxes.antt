@@ -110,17 +110,17 @@ pub record Operated (op : Operation) (slot k : ℕ) (t r : Table) : Type 0 where
 
 -- ---- emptied unread: what is logged is over and waits for its mark, the other entries are free
 
-abbrev pub isLogged : Logged → Bool
-isLogged (logged.As id) = true
-isLogged logged.Never = false
+abbrev pub hasLogId : Logged → Bool
+hasLogId (logged.As id) = true
+hasLogId logged.Never = false
 
 unfoldable pub loggedIn : Table → List ℕ → List ℕ
 loggedIn rows [] = []
-loggedIn rows (e ∷ es) = pick (isLogged (messageAt rows e .id)) (e ∷ loggedIn rows es) (loggedIn rows es)
+loggedIn rows (e ∷ es) = pick (hasLogId (messageAt rows e .id)) (e ∷ loggedIn rows es) (loggedIn rows es)
 
 unfoldable pub unloggedIn : Table → List ℕ → List ℕ
 unloggedIn rows [] = []
-unloggedIn rows (e ∷ es) = pick (isLogged (messageAt rows e .id)) (unloggedIn rows es) (e ∷ unloggedIn rows es)
+unloggedIn rows (e ∷ es) = pick (hasLogId (messageAt rows e .id)) (unloggedIn rows es) (e ∷ unloggedIn rows es)
 
 -- The mailbox of a slot was emptied unread: its messages stand at the ends of over and of what is free, in order.
 pub record Unread (rows : Table) (slot : ℕ) (t r : Table) : Type 0 where

@@ -95,10 +95,10 @@ abbrev pub orderOpen : Asked → Shown
 orderOpen (asked.Open q) = orderAsked q
 orderOpen asked.Nothing = nothing
 
-abbrev pub orderIn : Answer → Shown
-orderIn (answer.Refused r) = nothing
-orderIn (answer.Open a) = orderOpen a
-orderIn (answer.Ended busy waiters) = nothing
+abbrev pub orderShown : Answer → Shown
+orderShown (answer.Refused r) = nothing
+orderShown (answer.Open a) = orderOpen a
+orderShown (answer.Ended busy waiters) = nothing
 
 -- how many orders that is
 abbrev pub ordersIn : Shown → ℕ
@@ -113,7 +113,7 @@ ordersIn (shows o) = 1
 -- logged: the ids logged or handed back; done: the ids marked; both as orders went out.
 pub record World : Type 0 where
   pub state : State
-  pub journal : disk.World
+  pub journal : disk.LogWorld
   pub next : ℕ
   pub logged : List ℕ
   pub done : List ℕ
@@ -174,7 +174,7 @@ doneBy s now ofMark ids = ids ++ idsOf (outOfPlaces s now)
 doneBy s now ofNeither ids = ids
 
 -- an order goes out: one more moment; its bytes are read from the log as the call left it
-abbrev pub orderedFor : World → State → disk.World → Order → Purpose → World
+abbrev pub orderedFor : World → State → disk.LogWorld → Order → Purpose → World
 orderedFor w s j o for = record {
   state = s;
   journal = disk.issue j (walOf s) (effect (w .next) s for (j .now)) (disk.sent (s .bytes) o);
@@ -184,10 +184,10 @@ orderedFor w s j o for = record {
 }
 
 -- the log as an accepted call left it
-abbrev pub moved : disk.World → Wal → disk.World
+abbrev pub moved : disk.LogWorld → Wal → disk.LogWorld
 moved j wal = record { wal = wal; disk = j .disk; moments = j .moments; now = j .now; firm = j .firm }
 
-abbrev pub unordered : World → State → disk.World → World
+abbrev pub unordered : World → State → disk.LogWorld → World
 unordered w s j = record {
   state = s;
   journal = moved j (walOf s);
@@ -197,22 +197,22 @@ unordered w s j = record {
 }
 
 -- the order that a call's answer shows, if any
-abbrev pub ordered : Call → World → State → disk.World → Shown → World
+abbrev pub ordered : Call → World → State → disk.LogWorld → Shown → World
 ordered c w s j nothing = unordered w s j
 ordered c w s j (shows o) = orderedFor w s j o (purposeOf c)
 
 -- the order that waits is answered: stored, or failed; any other call leaves it
-abbrev pub orderAnswered : disk.World → disk.Sent → StoredIn → disk.World
+abbrev pub orderAnswered : disk.LogWorld → disk.Sent → StoredIn → disk.LogWorld
 orderAnswered j s stored.Stored = disk.storedOrder j s
 orderAnswered j s stored.Failed = disk.failedOrder j s
 orderAnswered j s stored.Other = j
 
-abbrev pub answeredBy : disk.World → disk.Status → StoredIn → disk.World
+abbrev pub answeredBy : disk.LogWorld → disk.Status → StoredIn → disk.LogWorld
 answeredBy j disk.settled r = j
 answeredBy j (disk.waits s) r = orderAnswered j s r
 answeredBy j (disk.lost s) r = j
 
-abbrev pub answered : disk.World → Call → disk.World
+abbrev pub answered : disk.LogWorld → Call → disk.LogWorld
 answered j (admit name body who) = j
 answered j turn = j
 answered j (reply r name body) = answeredBy j (j .disk .status) (storedIn r)
@@ -220,13 +220,13 @@ answered j sync = j
 answered j close = j
 
 -- a refused call adds nothing; an accepted one answers the order that waited, and may send out another
-abbrev pub stepBy : World → Call → State → Answer → World
-stepBy w c s (answer.Refused r) = unordered w s (w .journal)
-stepBy w c s (answer.Open a) = ordered c w s (answered (w .journal) c) (orderOpen a)
-stepBy w c s (answer.Ended busy waiters) = unordered w s (answered (w .journal) c)
+abbrev pub worldAfter : World → Call → State → Answer → World
+worldAfter w c s (answer.Refused r) = unordered w s (w .journal)
+worldAfter w c s (answer.Open a) = ordered c w s (answered (w .journal) c) (orderOpen a)
+worldAfter w c s (answer.Ended busy waiters) = unordered w s (answered (w .journal) c)
 
 abbrev pub stepDid : World → Call → Did → World
-stepDid w c d = stepBy w c (d .state) (d .answer)
+stepDid w c d = worldAfter w c (d .state) (d .answer)
 
 unfoldable pub step : World → Call → World
 step w c = stepDid w c (callOf (w .state) c)
@@ -266,7 +266,7 @@ begin d file = record {
   state = d .state;
   journal = record {
     wal = walOf (d .state);
-    disk = record { sure = file; since = []; status = startStatus (d .state .bytes) (orderIn (d .answer)) };
+    disk = record { sure = file; since = []; status = startStatus (d .state .bytes) (orderShown (d .answer)) };
     moments = leftOf file ∷ [];
     now = leftOf file;
     firm = 0;
@@ -307,7 +307,7 @@ handedBack s = handed (s .store) (s .links) (s .rows)
 
 -- an opening after this one, of this file: the same settings, a lent log of the same length that begins with the file,
 -- and any store and tables of the right sizes
-pub record Follows (l next : Lent) (file : List ℕ) : Type 0 where
+pub record NextOpening (l next : Lent) (file : List ℕ) : Type 0 where
   pub settings : next .settings ≡ l .settings
   pub groupsGiven : next .groupsGiven ≡ l .groupsGiven
   pub bytes : length (next .bytes) ≡ length (l .bytes)
@@ -329,8 +329,8 @@ pub record Reopens (l : Lent) (file : List ℕ) (moments : List (List Message)) 
   -- their ids rise, each above the one before
   pub rises : (high : ℕ) × Rising 0 found high
   pub among : List·Memᴰ found moments
-  pub accepts : (next : Lent) → Follows l next file → Accepts next
-  pub back : (next : Lent) → Follows l next file → handedBack (openOf next .state) ≡ found
+  pub accepts : (next : Lent) → NextOpening l next file → Accepts next
+  pub back : (next : Lent) → NextOpening l next file → handedBack (openOf next .state) ≡ found
 
 pub record Holds (l : Lent) (w : World) : Type 0 where
   -- each message logged or handed back is in its place, and no other id stands anywhere
@@ -427,11 +427,11 @@ OrderFits w close s o = ordersIn o ≡ 0
 abbrev pub CallOrderFits : World → Call → Type 0
 CallOrderFits w c =
     accepted (callOf (w .state) c .answer) ≡ true
-    → OrderFits w c (callOf (w .state) c .state) (orderIn (callOf (w .state) c .answer))
+    → OrderFits w c (callOf (w .state) c .state) (orderShown (callOf (w .state) c .answer))
 
 -- and an accepted opening replaces the file
 pub record OrdersFit : Type 0 where
-  pub openings : (l : Lent) → Accepts l → (size : ℕ) × (orderIn (openOf l .answer) ≡ shows (Replace size))
+  pub openings : (l : Lent) → Accepts l → (size : ℕ) × (orderShown (openOf l .answer) ≡ shows (Replace size))
   pub calls : EveryCall CallOrderFits
 
 -- Whom an admission is for. Accepted, its message comes to the inbox's end, and its program is loaded: the group that

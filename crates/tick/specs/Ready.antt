@@ -47,7 +47,7 @@ abbrev pub readying : Table → Table → Table → ℕ → Bool → Readying
 readying t keys actors queued stepped =
     record { links = t; keys = keys; actors = actors; queued = queued; stepped = stepped }
 
-pub record Started : Type 0 where
+pub record ActorStarted : Type 0 where
   pub actors : Table
   pub at : At
 
@@ -62,17 +62,17 @@ pub record Readied : Type 0 where
   pub actors : Table
   pub begun : Begun
 
-abbrev pub begunAt : At → ℕ → Bool → Begun
-begunAt a queued stepped = record { at = a; queued = queued; stepped = stepped }
+abbrev pub begunWith : At → ℕ → Bool → Begun
+begunWith a queued stepped = record { at = a; queued = queued; stepped = stepped }
 
 -- no work: an empty mailbox, and it ran and is not runnable
 unfoldable pub restsOf : Actor → ℕ → Bool
 restsOf a waiting = eqb waiting 0 && (pick (a .runnable) false (a .ran))
 
-abbrev pub startedFixed : Cursor → FixedActors → Started
+abbrev pub startedFixed : Cursor → FixedActors → ActorStarted
 startedFixed c f = record { actors = f .actors; at = at.Asks (asks.Fixed c (f .ask)) }
 
-unfoldable pub beginFixed : Table → Cursor → ℕ → Started
+unfoldable pub beginFixed : Table → Cursor → ℕ → ActorStarted
 beginFixed actors c slot = startedFixed c (fixedStart actors slot)
 
 abbrev pub startedEval : Cursor → EvalStarted → Stepping
@@ -80,14 +80,14 @@ startedEval c s =
     record {
       links = s .links;
       actors = s .actors;
-      begun = begunAt (evalAfter c (s .step .next)) (s .step .queued) true;
+      begun = begunWith (evalAfter c (s .step .next)) (s .step .queued) true;
     }
 
 unfoldable pub beginEval : Table → Table → Cursor → ℕ → ℕ → Stepping
 beginEval t actors c slot queued = startedEval c (evalStart t actors slot queued)
 
-abbrev pub fixedBegun : Table → ℕ → Started → Stepping
-fixedBegun t queued s = record { links = t; actors = s .actors; begun = begunAt (s .at) queued true }
+abbrev pub fixedBegun : Table → ℕ → ActorStarted → Stepping
+fixedBegun t queued s = record { links = t; actors = s .actors; begun = begunWith (s .at) queued true }
 
 abbrev pub beginBy : Mailed → Table → Cursor → ℕ → Mode → Stepping
 beginBy m actors c slot mode.Fixed = fixedBegun (m .links) (m .queued) (beginFixed actors c slot)
@@ -109,10 +109,10 @@ readyKey x c =
     (record {
       links = x .links;
       actors = unscheduled (x .actors) (slotOn c);
-      begun = begunAt (readyAfter c) (x .queued) (x .stepped);
+      begun = begunWith (readyAfter c) (x .queued) (x .stepped);
     })
     (beginStep (x .links) (unscheduled (x .actors) (slotOn c)) c (slotOn c) (x .queued)))
-    (record { links = x .links; actors = x .actors; begun = begunAt (readyAfter c) (x .queued) (x .stepped) })
+    (record { links = x .links; actors = x .actors; begun = begunWith (readyAfter c) (x .queued) (x .stepped) })
 
 abbrev pub readiedWith : Table → Stepping → Readied
 readiedWith keys s = record { links = s .links; keys = keys; actors = s .actors; begun = s .begun }
@@ -123,7 +123,7 @@ wakeAfter x g clock =
       links = x .links;
       keys = x .keys;
       actors = x .actors;
-      begun = begunAt (at.Runs (point.Wake (nextGroup g) clock)) (x .queued) (x .stepped);
+      begun = begunWith (at.Runs (point.Wake (nextGroup g) clock)) (x .queued) (x .stepped);
     }
 
 -- the cursor of a key that is popped

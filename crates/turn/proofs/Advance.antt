@@ -38,7 +38,7 @@ use Rattle.group.specs.Roster.{REST, TRAPPED, readyRow, waitingRow, slotAt, liv
 use Rattle.group.specs.Roster.{leastOf}
 use Rattle.route.specs.Seed.{Seeded, seedOf}
 use Rattle.route.specs.Intake.{Linked, batchSize, batchOf, intakeOf}
-use Rattle.route.specs.Batch.{Sent, undeliverable, deliver, deliverKey, routeLeast, spawnedSent, routeSpawned}
+use Rattle.route.specs.Batch.{RoutedTables, undeliverable, deliver, deliverKey, routeLeast, spawnedSent, routeSpawned}
 use Rattle.route.specs.Batch.{routeNew, idleElse, pickOf, routeNamed, routeOne, routeFirst, routeOf}
 use Rattle.tick.specs.declared.crash.Losses.{Losses}
 use Rattle.tick.specs.Waking.{Listed, Waked, atMost64, wakeOf, lateAt, pollsOf, wakeOne, wakeFirst, wakeNext}
@@ -51,7 +51,7 @@ use Rattle.turn.specs.declared.state.Disk.the-variants as disk
 use Rattle.turn.specs.State.{State, isFree, runsAt, runningOf}
 use Rattle.turn.specs.Go.{goOf}
 use Rattle.turn.specs.Weight.{popsLeft, weightAt, weightIn, weightBy, weightOf}
-use Rattle.turn.specs.Step.{markAt, goFree, stepAt, stepOf, advanceOf, advanced}
+use Rattle.turn.specs.Step.{markAt, goFree, stepAt, turnStep, advanceOf, advanced}
 use Rattle.turn.specs.Advance.{GoesOn, here, step, Stops, Advances, AdvancesOnly}
 use Rattle.group.specs.Roster.{turnTables, keyed, mailed}
 use Rattle.route.specs.Batch.{programs}
@@ -100,7 +100,7 @@ intake-falls t queued backlog left =
 
 -- a message of the batch is routed, or a question is open
 module _ (left : ℕ) (some : 0 < left) where
-  abbrev Less : Sent → Type 0
+  abbrev Less : RoutedTables → Type 0
   Less s = weightIn (s .routed .at) < 1 + left
 
   lost-less : (t rows : Table) → weightIn (undeliverable t rows left .at) < 1 + left
@@ -171,7 +171,7 @@ route-falls : (groups : Table) (count : ℕ) (store : List ℕ) (t rows keys act
     < weightIn (at.Runs (point.Route left))
 unfolding routeOf weightIn weightAt
 route-falls groups count store t rows keys actors queued left =
-    pick-rule (λ (s : Sent). weightIn (s .routed .at) < 1 + left) (eqb left 0)
+    pick-rule (λ (s : RoutedTables). weightIn (s .routed .at) < 1 + left) (eqb left 0)
     (λ e. omega arith)
     (λ e. first-less left (omega (arith, eqb-false left 0 e)) groups count store t rows keys actors queued
     (firstOf t BATCH))
@@ -376,8 +376,8 @@ free-falls s p =
     ))
     (λ e. omega (arith, weight-stopped (s .pool .turn .disk) (s .pool .turn .at) e))
 
-pub falls : (s : State) → runningOf (s .pool) ≡ true → weightOf (stepOf s .pool .turn) < weightOf (s .pool .turn)
-unfolding runningOf weightOf weightIn stepOf
+pub falls : (s : State) → runningOf (s .pool) ≡ true → weightOf (turnStep s .pool .turn) < weightOf (s .pool .turn)
+unfolding runningOf weightOf weightIn turnStep
 falls s m =
     rw (weight-free (s .pool .turn .disk) (s .pool .turn .at) m)
     (runs-rule (λ a. weightOf (stepAt s a .pool .turn) < 1 + weightIn a) (s .pool .turn .disk) (s .pool .turn .at) m
@@ -396,7 +396,7 @@ no-weight true s e h = absurd (omega (arith, falls s e))
 no-weight false s e h = e
 
 same-by : (b : Bool) (n m : ℕ) (s : State) → runningOf (s .pool) ≡ b
-    → (runningOf (s .pool) ≡ true → advanceOf n (stepOf s) ≡ advanceOf m (stepOf s))
+    → (runningOf (s .pool) ≡ true → advanceOf n (turnStep s) ≡ advanceOf m (turnStep s))
     → advanceOf (suc n) s ≡ advanceOf (suc m) s
 unfolding advanceOf
 same-by true n m s e h = rw e (h e)
@@ -413,7 +413,7 @@ advance-same (suc n) zero s hn hm =
     advance-stop (suc n) s stops ∙ sym (advance-stop zero s stops)
 advance-same (suc n) (suc m) s hn hm =
     same-by (runningOf (s .pool)) n m s refl
-    (λ e. advance-same n m (stepOf s) (omega (arith, falls s e)) (omega (arith, falls s e)))
+    (λ e. advance-same n m (turnStep s) (omega (arith, falls s e)) (omega (arith, falls s e)))
 
 -- where nothing runs, a turn stays
 pub advanced-stop : (s : State) → runningOf (s .pool) ≡ false → advanced s ≡ s
@@ -421,35 +421,35 @@ unfolding advanced
 advanced-stop s h = advance-stop (weightOf (s .pool .turn)) s h
 
 -- a step of a running turn leads to the same
-pub advanced-step : (s : State) → runningOf (s .pool) ≡ true → advanced (stepOf s) ≡ advanced s
+pub advanced-step : (s : State) → runningOf (s .pool) ≡ true → advanced (turnStep s) ≡ advanced s
 unfolding advanceOf advanced
 advanced-step s e =
     let n = weightOf (s .pool .turn) in
-    let one : advanceOf n (stepOf s) ≡ advanceOf (suc n) s = rw e in
-    advance-same (weightOf (stepOf s .pool .turn)) n (stepOf s) (omega arith) (omega (arith, falls s e))
+    let one : advanceOf n (turnStep s) ≡ advanceOf (suc n) s = rw e in
+    advance-same (weightOf (turnStep s .pool .turn)) n (turnStep s) (omega arith) (omega (arith, falls s e))
     ∙ (one ∙ advance-same (suc n) n s (omega arith) (omega arith))
 
 -- the two laws of a step for what a function gave
-pub fell : (s v : State) → v ≡ stepOf s → runningOf (s .pool) ≡ true
+pub fell : (s v : State) → v ≡ turnStep s → runningOf (s .pool) ≡ true
     → weightOf (v .pool .turn) < weightOf (s .pool .turn)
 fell s v e run = rw (ap (λ (u : State). weightOf (u .pool .turn)) e) (falls s run)
 
-pub stepped : (s v : State) → v ≡ stepOf s → runningOf (s .pool) ≡ true → advanced v ≡ advanced s
+pub stepped : (s v : State) → v ≡ turnStep s → runningOf (s .pool) ≡ true → advanced v ≡ advanced s
 stepped s v e run = ap advanced e ∙ advanced-step s run
 
 -- ---- where a call stops
 
 goes-by : (b : Bool) (n : ℕ) (s : State) → runningOf (s .pool) ≡ b
-    → (runningOf (s .pool) ≡ true → GoesOn (stepOf s) (advanceOf n (stepOf s)) × Stops (advanceOf n (stepOf s)))
+    → (runningOf (s .pool) ≡ true → GoesOn (turnStep s) (advanceOf n (turnStep s)) × Stops (advanceOf n (turnStep s)))
     → GoesOn s (advanceOf (suc n) s) × Stops (advanceOf (suc n) s)
 unfolding advanceOf
-goes-by true n s e h = rw e (step s (advanceOf n (stepOf s)) e (h e .0), h e .1)
+goes-by true n s e h = rw e (step s (advanceOf n (turnStep s)) e (h e .0), h e .1)
 goes-by false n s e h = rw e (here s, e)
 
 goes : (n : ℕ) (s : State) → weightOf (s .pool .turn) ≤ n → GoesOn s (advanceOf n s) × Stops (advanceOf n s)
 unfolding advanceOf
 goes zero s h = (here s, no-weight (runningOf (s .pool)) s refl h)
-goes (suc n) s h = goes-by (runningOf (s .pool)) n s refl (λ e. goes n (stepOf s) (omega (arith, falls s e)))
+goes (suc n) s h = goes-by (runningOf (s .pool)) n s refl (λ e. goes n (turnStep s) (omega (arith, falls s e)))
 
 pub advances : Advances
 unfolding advanced
@@ -457,7 +457,7 @@ advances s = goes (weightOf (s .pool .turn)) s (omega arith)
 
 pub advances-only : AdvancesOnly
 advances-only s s' (here _) stops = sym (advanced-stop s stops)
-advances-only s s' (step _ _ run on) stops = advances-only (stepOf s) s' on stops ∙ advanced-step s run
+advances-only s s' (step _ _ run on) stops = advances-only (turnStep s) s' on stops ∙ advanced-step s run
 
 -- after the steps a question is open, an order waits or failed, or the turn is over
 pub settled : (s : State) → runningOf (advanced s .pool) ≡ false

@@ -9,11 +9,11 @@ use Rattle.log.specs.declared.Due.{Due}
 use Rattle.log.specs.declared.AnsweredDue.{AnsweredDue}
 use Rattle.log.specs.declared.Answer.{Answer}
 use Rattle.log.specs.declared.Answered.{Answered}
-use Rattle.log.specs.Log.{state, DidAppend, DidMark, appendOf, markOf, syncOf}
+use Rattle.log.specs.Log.{state, DidAppend, DidMark, appendOf, markOf, syncLog}
 use Rattle.turn.specs.declared.logged.LogStep.{LogStep}
 use Rattle.turn.specs.declared.logged.LogAppend.{LogAppend}
 use Rattle.turn.specs.Words.{dueOf}
-use Rattle.turn.specs.Logged.{answerBy, steppedOf, steppedAs, appendedOf, appendedAs}
+use Rattle.turn.specs.Logged.{appendAnswer, steppedOf, steppedAs, appendedOf, appendedAs}
 
 pub appended-log : (bytes bytes' : List ℕ) (records records' : Table) (before : Counters) (name body : List ℕ)
     (n : Counters) (a : Answer) (r : LogAppend)
@@ -21,7 +21,7 @@ pub appended-log : (bytes bytes' : List ℕ) (records records' : Table) (before 
     (appendOf (state bytes records before) name body)
     → appendedOf r ≡ appendedAs n a
     → _≡_ {A = DidAppend}
-    (record { wal = state bytes' records' (r .counters); answer = answerBy (dueOf (r .due)) (r .refusal) })
+    (record { wal = state bytes' records' (r .counters); answer = appendAnswer (dueOf (r .due)) (r .refusal) })
     (appendOf (state bytes records before) name body)
 appended-log bytes bytes' records records' before name body n a r did said =
     ap (λ (x : Answered). record { wal = state bytes' records' (x .counters); answer = x .answer }) said ∙ did
@@ -37,7 +37,7 @@ marked-log bytes bytes' records records' before limit id n d r did said =
     ap (λ (x : AnsweredDue). record { wal = state bytes' records' (x .counters); due = x .due }) said ∙ did
 
 pub synced-log : (before n : Counters) (d : Due) (r : LogStep)
-    → _≡_ {A = AnsweredDue} (record { counters = n; due = d }) (syncOf before)
+    → _≡_ {A = AnsweredDue} (record { counters = n; due = d }) (syncLog before)
     → steppedOf r ≡ steppedAs n d
-    → _≡_ {A = AnsweredDue} (record { counters = r .counters; due = dueOf (r .due) }) (syncOf before)
+    → _≡_ {A = AnsweredDue} (record { counters = r .counters; due = dueOf (r .due) }) (syncLog before)
 synced-log before n d r did said = said ∙ did

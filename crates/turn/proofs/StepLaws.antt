@@ -6,27 +6,27 @@ use Rattle.points.specs.declared.at.Ask.{Ask}
 use Rattle.points.specs.declared.at.Point.{Point}
 use Rattle.turn.specs.State.{State, isFree}
 use Rattle.turn.specs.Go.{goOf}
-use Rattle.turn.specs.Step.{markAt, goFree, stepAt, stepOf}
+use Rattle.turn.specs.Step.{markAt, goFree, stepAt, turnStep}
 
-pub step-rests : (s : State) → s .pool .turn .at ≡ at.Rest → s ≡ stepOf s
-unfolding stepOf
+pub step-rests : (s : State) → s .pool .turn .at ≡ at.Rest → s ≡ turnStep s
+unfolding turnStep
 step-rests s is = ap (stepAt s) (sym is)
 
-pub step-asks : (s : State) (a : Ask) → s .pool .turn .at ≡ at.Asks a → s ≡ stepOf s
-unfolding stepOf
+pub step-asks : (s : State) (a : Ask) → s .pool .turn .at ≡ at.Asks a → s ≡ turnStep s
+unfolding turnStep
 step-asks s a is = ap (stepAt s) (sym is)
 
 module _ (s : State) (p : Point) (at-is : s .pool .turn .at ≡ at.Runs p) (m : State) (marked : m ≡ markAt s p) where
-  steps : goFree m p ≡ stepOf s
-  unfolding stepOf
+  steps : goFree m p ≡ turnStep s
+  unfolding turnStep
   steps = ap (λ (x : State). goFree x p) marked ∙ ap (stepAt s) (sym at-is)
 
-  pub step-goes : (s' : State) → isFree (m .pool .turn .disk) ≡ true → s' ≡ goOf m p → s' ≡ stepOf s
+  pub step-goes : (s' : State) → isFree (m .pool .turn .disk) ≡ true → s' ≡ goOf m p → s' ≡ turnStep s
   step-goes s' free went =
       let goes : goOf m p ≡ goFree m p = rw free in
       went ∙ (goes ∙ steps)
 
-  pub step-stops : isFree (m .pool .turn .disk) ≡ false → m ≡ stepOf s
+  pub step-stops : isFree (m .pool .turn .disk) ≡ false → m ≡ turnStep s
   step-stops waits =
       let stops : m ≡ goFree m p = rw waits in
       stops ∙ steps

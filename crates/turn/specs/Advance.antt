@@ -5,12 +5,12 @@
 use mathlib.Core.Path.{_≡_}
 use mathlib.Core.Bool.{true, false}
 use Rattle.turn.specs.State.{State, runningOf}
-use Rattle.turn.specs.Step.{stepOf, advanced}
+use Rattle.turn.specs.Step.{turnStep, advanced}
 
 -- from a state to another, by the steps of points that run
 pub data GoesOn : State → State → Type 0 where
   here : (s : State) → GoesOn s s
-  step : (s s' : State) → runningOf (s .pool) ≡ true → GoesOn (stepOf s) s' → GoesOn s s'
+  step : (s s' : State) → runningOf (s .pool) ≡ true → GoesOn (turnStep s) s' → GoesOn s s'
 
 -- nothing runs
 abbrev pub Stops : State → Type 0

@@ -7,7 +7,7 @@ use Rattle.points.specs.declared.at.Cursor.{Cursor}
 use Rattle.group.specs.Roster.{TurnTables, keyed, turnTables}
 use Rattle.route.specs.Seed.{Seeded, seedOf}
 use Rattle.route.specs.Intake.{Linked, intakeOf}
-use Rattle.route.specs.Batch.{Sent, programs, routeOf}
+use Rattle.route.specs.Batch.{RoutedTables, programs, routeOf}
 use Rattle.tick.specs.Waking.{Listed, Waked, wakeOf, wakeNext}
 use Rattle.tick.specs.Ready.{Readied, readying, readyOf}
 use Rattle.tick.specs.Settle.{Settling, stepEnd, settleOf}
@@ -23,7 +23,7 @@ seeded s d = withActors (withKeys (withPool s (stoodAt (s .pool) (d .at))) (d .k
 abbrev pub linked : State → Linked → State
 linked s d = withLinks (withPool s (stoodAt (s .pool) (d .at))) (d .links)
 
-abbrev pub routed : State → Sent → State
+abbrev pub routed : State → RoutedTables → State
 routed s d =
     withActors
     (withKeys (withLinks (withPool s (queuedAt (s .pool) (d .routed .at) (d .routed .queued))) (d .links)) (d .keys))

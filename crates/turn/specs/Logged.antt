@@ -12,9 +12,9 @@ use Rattle.turn.specs.declared.logged.LogAppend.{LogAppend}
 use Rattle.turn.specs.Words.{dueOf}
 
 -- with no order an append was turned away
-unfoldable pub answerBy : Due → Refusal → Answer
-answerBy (due.Ordered o) r = answer.Ordered o
-answerBy due.Nothing r = answer.Refused r
+unfoldable pub appendAnswer : Due → Refusal → Answer
+appendAnswer (due.Ordered o) r = answer.Ordered o
+appendAnswer due.Nothing r = answer.Refused r
 
 -- after a mark or a sync
 abbrev pub steppedOf : LogStep → AnsweredDue
@@ -25,7 +25,7 @@ steppedAs n d = record { counters = n; due = d }
 
 -- after an append
 abbrev pub appendedOf : LogAppend → Answered
-appendedOf w = record { counters = w .counters; answer = answerBy (dueOf (w .due)) (w .refusal) }
+appendedOf w = record { counters = w .counters; answer = appendAnswer (dueOf (w .due)) (w .refusal) }
 
 abbrev pub appendedAs : Counters → Answer → Answered
 appendedAs n a = record { counters = n; answer = a }

@@ -30,13 +30,13 @@ unfoldable pub markLogged : State → Logged → State
 markLogged s (logged.As id) = marked s id (markOf (s .pool .limits .«compact_at») (walOf s) (id .0))
 markLogged s logged.Never = s
 
-abbrev pub markFound : State → Found → State
-markFound s (found.Entry e) = markLogged (withLinks s (moveFirst (s .links) OVER FREE)) (messageAt (s .rows) e .id)
-markFound s found.Nothing = s
+abbrev pub markEntry : State → Found → State
+markEntry s (found.Entry e) = markLogged (withLinks s (moveFirst (s .links) OVER FREE)) (messageAt (s .rows) e .id)
+markEntry s found.Nothing = s
 
 -- the first message that is over: its entry is free, and its mark is ordered
 unfoldable pub markFirst : State → State
-markFirst s = markFound s (firstOf (s .links) OVER)
+markFirst s = markEntry s (firstOf (s .links) OVER)
 
 -- ---- a step
 
@@ -53,15 +53,15 @@ stepAt s at.Rest = s
 stepAt s (at.Asks a) = s
 stepAt s (at.Runs p) = goFree (markAt s p) p
 
-unfoldable pub stepOf : State → State
-stepOf s = stepAt s (s .pool .turn .at)
+unfoldable pub turnStep : State → State
+turnStep s = stepAt s (s .pool .turn .at)
 
 -- ---- the loop
 
 -- at most n steps
 unfoldable pub advanceOf : ℕ → State → State
 advanceOf zero s = s
-advanceOf (suc n) s = pick (runningOf (s .pool)) (advanceOf n (stepOf s)) s
+advanceOf (suc n) s = pick (runningOf (s .pool)) (advanceOf n (turnStep s)) s
 
 -- as far as it runs by itself: the weight is more than the steps that are left (`Advances`, in specs/Advance, says
 -- what this is without a weight)

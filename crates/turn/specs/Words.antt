@@ -26,8 +26,8 @@ use Rattle.turn.specs.State.{Counts, Turn, Pool}
 
 -- ---- yes and no: 0 is no
 
-unfoldable pub boolOf : ℕ → Bool
-boolOf n = pick (eqb n 0) false true
+unfoldable pub isYes : ℕ → Bool
+isYes n = pick (eqb n 0) false true
 
 -- ---- an order: 1 an append, 2 a replace, any other number a flush; 0 where none is due
 
@@ -83,7 +83,7 @@ abbrev pub countsIn : List ℕ → Counts
 countsIn c = record {
   queued = getD c 12 0;
   losses = record { dead = getD c 13 0; crashes = getD c 14 0 };
-  stepped = boolOf (getD c 15 0);
+  stepped = isYes (getD c 15 0);
 }
 
 abbrev pub countersIn : List ℕ → Counters
@@ -91,7 +91,7 @@ countersIn c = record {
   next = getD c 16 0;
   live = getD c 17 0;
   size = getD c 18 0;
-  dirty = boolOf (getD c 19 0);
+  dirty = isYes (getD c 19 0);
   count = getD c 20 0;
 }
 
@@ -116,6 +116,6 @@ unfoldable pub poolOf : List ℕ → Pool
 poolOf c = record {
   turn = turnIn c;
   limits = limitsIn c;
-  closed = boolOf (getD c 26 0);
-  seeded = boolOf (getD c 27 0);
+  closed = isYes (getD c 26 0);
+  seeded = isYes (getD c 27 0);
 }

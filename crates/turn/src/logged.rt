@@ -1,9 +1,9 @@
 // The log's calls as the pool makes them: on a copy of its counters, lent to the log by `&mut`, with what the log
 // answers handed on as words. What each does is the log's own definition.
 ghost use mathlib.Core.Path.{_≡_};
-ghost use Rattle.log.specs.Log.{state, appendOf, markOf, syncOf};
+ghost use Rattle.log.specs.Log.{state, appendOf, markOf, syncLog};
 ghost use Rattle.turn.specs.Words.{dueOf};
-ghost use Rattle.turn.specs.Logged.{answerBy, steppedOf, steppedAs, appendedOf, appendedAs};
+ghost use Rattle.turn.specs.Logged.{appendAnswer, steppedOf, steppedAs, appendedOf, appendedAs};
 use crate::state;
 use crate::state::OrderWords;
 use log::Answer;
@@ -82,7 +82,7 @@ pub fn append(
     ensures { λ r. ⌜
         record {
           wal = state (now (log .exit)) (now (records .exit)) (r .counters);
-          answer = answerBy (dueOf (r .due)) (r .refusal);
+          answer = appendAnswer (dueOf (r .due)) (r .refusal);
         }
         ≡ appendOf (state (now (log .entry)) (now (records .entry)) before) (now (name .entry)) (now (body .entry))
         ⌝ }
@@ -112,7 +112,7 @@ pub fn mark(
 
 // A flush, if one is due.
 pub fn sync(before: Counters) -> LogStep
-    ensures { λ r. ⌜ record { counters = r .counters; due = dueOf (r .due) } ≡ syncOf before ⌝ }
+    ensures { λ r. ⌜ record { counters = r .counters; due = dueOf (r .due) } ≡ syncLog before ⌝ }
 {
     let mut counters = before;
     let due = wal::sync(&mut counters);

@@ -4,7 +4,7 @@
 // specs/State.
 ghost use mathlib.Core.Path.{_≡_};
 ghost use Rattle.points.specs.Words.{atOf, pointOf};
-ghost use Rattle.turn.specs.Words.{boolOf, orderOf, dueOf, isDue, diskKindOf};
+ghost use Rattle.turn.specs.Words.{isYes, orderOf, dueOf, isDue, diskKindOf};
 ghost use Rattle.turn.specs.Words.{orderIn, orderForOf, diskOf, poolOf};
 ghost use Rattle.turn.specs.State.{diskFor, withDisk, stoodAt, queuedAt, steppedAt, lostAt, begunAt};
 ghost use Rattle.turn.specs.State.{closedPool, newPool};
@@ -100,14 +100,14 @@ pub type PoolCells = [u64; 28];
 
 // Yes or no as a cell.
 pub fn flag_cell(b: bool) -> u64
-    ensures { λ r. ⌜ boolOf r ≡ b ⌝ }
+    ensures { λ r. ⌜ isYes r ≡ b ⌝ }
 {
     if b { 1 } else { 0 }
 }
 
 // Yes or no of a cell.
 pub fn bool_of(n: u64) -> bool
-    ensures { λ r. ⌜ r ≡ boolOf n ⌝ }
+    ensures { λ r. ⌜ r ≡ isYes n ⌝ }
 {
     if n == 0 { false } else { true }
 }

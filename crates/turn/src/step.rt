@@ -6,7 +6,7 @@ ghost use Prim.Native.Nat.{ℕ};
 ghost use Rattle.lists.specs.Links.{Table};
 ghost use Rattle.points.specs.Words.{pointOf};
 ghost use Rattle.turn.specs.Words.{poolOf};
-ghost use Rattle.turn.specs.Step.{markLogged, markFirst, markAt, stepOf, advanced};
+ghost use Rattle.turn.specs.Step.{markLogged, markFirst, markAt, turnStep, advanced};
 use crate::go;
 use crate::logged;
 use crate::state;
@@ -179,7 +179,7 @@ fn step(
           keys = now (keys .exit);
           actors = now (actors .exit);
         }
-        ≡ stepOf
+        ≡ turnStep
         (record {
           pool = poolOf (now (pool .entry));
           bytes = now (log .entry);

@@ -1,47 +1,47 @@
 -- By the numbers, in order.
 use borrow.Author.Tests.{ne-eqb}
-use Rattle.drive.specs.Drive.{replyIn}
+use Rattle.drive.specs.Drive.{drivenReply}
 use borrow.Author.Needs.{needs}
 use Rattle.drive.proofs.reply_in.Statement.{statement}
 use Rattle.drive.proofs.reply_in.Tie as tie
 
 returns : tie.Need-returns
-unfolding replyIn
+unfolding drivenReply
 returns c = rw (c .if1 .taken)
 
 returns-2 : tie.Need-returns-2
-unfolding replyIn
+unfolding drivenReply
 returns-2 c = rw (c .if2 .taken)
 
 returns-3 : tie.Need-returns-3
-unfolding replyIn
+unfolding drivenReply
 returns-3 c = rw (c .if3 .taken)
 
 returns-4 : tie.Need-returns-4
-unfolding replyIn
+unfolding drivenReply
 returns-4 c = rw (c .if4 .taken)
 
 status-in-requires : tie.Need-status-in-requires
 status-in-requires c κs = search needs
 
 returns-5 : tie.Need-returns-5
-unfolding replyIn
+unfolding drivenReply
 returns-5 c = rw (c .before .if5 .taken, c .status-in .ensures)
 
 returns-6 : tie.Need-returns-6
-unfolding replyIn
+unfolding drivenReply
 returns-6 c = rw (c .if6 .taken)
 
 returns-7 : tie.Need-returns-7
-unfolding replyIn
+unfolding drivenReply
 returns-7 c = rw (c .if7 .taken)
 
 returns-8 : tie.Need-returns-8
-unfolding replyIn
+unfolding drivenReply
 returns-8 c = rw (c .if8 .taken)
 
 returns-9 : tie.Need-returns-9
-unfolding replyIn
+unfolding drivenReply
 returns-9 c =
     simp (
       ne-eqb _ _ (c .before .before .before .before .before .before .before .if1 .left),

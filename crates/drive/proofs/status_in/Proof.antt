@@ -1,35 +1,35 @@
 -- By the numbers, in order.
 use borrow.Author.Tests.{ne-eqb}
-use Rattle.drive.specs.Drive.{statusIn}
+use Rattle.drive.specs.Drive.{drivenStatus}
 use Rattle.drive.proofs.status_in.Statement.{statement}
 use Rattle.drive.proofs.status_in.Tie as tie
 
 returns : tie.Need-returns
-unfolding statusIn
+unfolding drivenStatus
 returns c = rw (c .if1 .taken)
 
 returns-2 : tie.Need-returns-2
-unfolding statusIn
+unfolding drivenStatus
 returns-2 c = rw (c .if2 .taken)
 
 returns-3 : tie.Need-returns-3
-unfolding statusIn
+unfolding drivenStatus
 returns-3 c = rw (c .if3 .taken)
 
 returns-4 : tie.Need-returns-4
-unfolding statusIn
+unfolding drivenStatus
 returns-4 c = rw (c .if4 .taken)
 
 returns-5 : tie.Need-returns-5
-unfolding statusIn
+unfolding drivenStatus
 returns-5 c = rw (c .if5 .taken)
 
 returns-6 : tie.Need-returns-6
-unfolding statusIn
+unfolding drivenStatus
 returns-6 c = rw (c .if6 .taken)
 
 returns-7 : tie.Need-returns-7
-unfolding statusIn
+unfolding drivenStatus
 returns-7 c =
     simp (
       ne-eqb _ _ (c .before .before .before .before .before .if1 .left),

@@ -3,7 +3,7 @@ use mathlib.Core.Path.{sym, ap, _∙_}
 use borrow.Author.Needs.{needs}
 use Rattle.log.specs.declared.Answer.the-variants.{Ordered}
 use Rattle.reopening.specs.declared.Reopened.the-variants.{Refused}
-use Rattle.reopening.specs.Reopened.{answerOf}
+use Rattle.reopening.specs.Reopened.{reopenedBy}
 use Rattle.reopening.proofs.answered.Statement.{statement}
 use Rattle.reopening.proofs.answered.Tie as tie
 
@@ -32,7 +32,7 @@ returns-2 : tie.Need-returns-2
 returns-2 c =
     let a = c .before .before .before .before .a in
     let o = c .before .o in
-    sym (ap answerOf (a .given .1 ∙ ap Ordered (o .given .1)))
+    sym (ap reopenedBy (a .given .1 ∙ ap Ordered (o .given .1)))
 
 returns-3 : tie.Need-returns-3
 returns-3 c = search needs
@@ -41,7 +41,7 @@ returns-4 : tie.Need-returns-4
 returns-4 c =
     let a2 = c .before .before .a2 in
     let number = c .number in
-    ap Refused (number .ensures) ∙ sym (ap answerOf (a2 .given .1))
+    ap Refused (number .ensures) ∙ sym (ap reopenedBy (a2 .given .1))
 
 pub answered-spec : {M : Type 1} → statement M
 answered-spec =

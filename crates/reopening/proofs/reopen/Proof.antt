@@ -1,7 +1,7 @@
 -- The answer is that of opening with a store and tables of zeros.
 use mathlib.Core.Path.{ap, _∙_}
 use borrow.Author.Needs.{needs}
-use Rattle.reopening.specs.Reopened.{answerOf, freshly}
+use Rattle.reopening.specs.Reopened.{reopenedBy, freshly}
 use Rattle.reopening.proofs.reopen.Statement.{statement}
 use Rattle.reopening.proofs.reopen.Tie as tie
 
@@ -30,7 +30,7 @@ returns c =
     let open-log = c .before .before .before .before .before .before .open-log in
     let answered = c .answered in
     ap (λ l. record { log = l; answer = answered .result }) (ap (λ o. o .log) (open-log .ensures))
-    ∙ ap (λ a. record { log = freshly (args .log .now) (args .n) .log; answer = a }) (answered .ensures ∙ ap (λ o. answerOf (o .step .answer)) (open-log .ensures))
+    ∙ ap (λ a. record { log = freshly (args .log .now) (args .n) .log; answer = a }) (answered .ensures ∙ ap (λ o. reopenedBy (o .step .answer)) (open-log .ensures))
 
 pub reopen-spec : {M : Type 1} → statement M
 reopen-spec =

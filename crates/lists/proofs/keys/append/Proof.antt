@@ -1,7 +1,7 @@
 -- `keys::append` meets its contract: each way out follows from what the calls ensured and the tests said. Mechanical
 -- answers, as tools/answers.py writes them. Assumes nothing.
 use borrow.Author.Tests.{le-ltb, lt-ltb}
-use Rattle.lists.specs.KeyLists.{appendOf}
+use Rattle.lists.specs.KeyLists.{keyAppended}
 use borrow.Author.Needs.{needs}
 use Rattle.lists.proofs.keys.append.Statement.{statement}
 use Rattle.lists.proofs.keys.append.Tie as tie
@@ -25,13 +25,13 @@ array-write-b-2 : tie.Need-array-write-b-2
 array-write-b-2 c = search needs
 
 returns : tie.Need-returns
-unfolding appendOf
+unfolding keyAppended
 returns c =
     let h1 = lt-ltb _ _ (c .if1 .taken) in
     simp (h1)
 
 returns-2 : tie.Need-returns-2
-unfolding appendOf
+unfolding keyAppended
 returns-2 c =
     let h1 = le-ltb _ _ (c .if1 .left) in
     simp (h1)

@@ -4,7 +4,7 @@ use mathlib.Core.Path.{sym, _∙_}
 use lib.Seq.{set-getD}
 use borrow.Author.Tests.{lt-ltb, le-ltb}
 use borrow.Author.Needs.{needs}
-use Rattle.lists.specs.KeyLists.{blankRow, appendOf}
+use Rattle.lists.specs.KeyLists.{blankRow, keyAppended}
 use Rattle.lists.proofs.Tables.{row-in, kept-out, again}
 use Rattle.lists.proofs.keys.append_at.Statement.{statement}
 use Rattle.lists.proofs.keys.append_at.Tie as tie
@@ -49,7 +49,7 @@ same-length : tie.Need-same-length
 same-length c = search needs
 
 returns : tie.Need-returns
-unfolding appendOf
+unfolding keyAppended
 returns c =
     let inside = c .before .before .if1 .taken in
     let row = row-in (c .before .before .before .args .keys .now) (c .before .before .before .args .i) inside in
@@ -57,7 +57,7 @@ returns c =
     again (c .before .before .before .args .keys .now) (c .before .before .before .args .i) _ 0 _ inside ∙ simp (row, h1)
 
 returns-2 : tie.Need-returns-2
-unfolding appendOf
+unfolding keyAppended
 returns-2 c =
     let row = row-in (c .before .before .before .args .keys .now) (c .before .before .before .args .i) (c .before .before .if1 .taken) in
     let h1 = le-ltb _ _ (rw row at (c .if2 .left)) in

@@ -5,7 +5,7 @@ use Prim.Native.Nat.{_-_}
 use native.Mathlib.Omega.{arith}
 use borrow.Author.Needs.{needs}
 use lib.ListN.{take, drop, getD}
-use Rattle.log.specs.Scan.{messagesOf}
+use Rattle.log.specs.Scan.{rowMessages}
 use Rattle.log.specs.Opening.{allFit}
 use Rattle.log.proofs.StoreLaws.{fit-next, fit-stop, fit-end}
 use Rattle.log.proofs.TableLaws.{next-row, last-row}
@@ -13,7 +13,7 @@ use Rattle.log.proofs.opening.rows_fit.Statement.{statement}
 use Rattle.log.proofs.opening.rows_fit.Tie as tie
 
 abbrev Inv-loop : tie.InvT-loop
-Inv-loop file rows count i₀ i = allFit (messagesOf file (drop i (take count rows))) ≡ allFit (messagesOf file (take count rows))
+Inv-loop file rows count i₀ i = allFit (rowMessages file (drop i (take count rows))) ≡ allFit (rowMessages file (take count rows))
 
 abbrev μ-loop : tie.MeasureT-loop
 μ-loop file rows count i₀ i = count - i

@@ -69,7 +69,7 @@ use Rattle.text.proofs.lines.next as next
 use Rattle.text.proofs.lines.next.Symbol as next-def
 use Rattle.text.proofs.lines.next.Symbol.{name as #next}
 use Rattle.text.proofs.lines.next.Met as next-thm
-use Rattle.log.specs.Scan.{begun, CanTake, TookNextLine, Scanned}
+use Rattle.log.specs.Scan.{passBegun, CanTake, TookNextLine, Scanned}
 use Rattle.log.specs.declared.opening.Passing.{Passing}
 use Rattle.log.specs.declared.opening.Taken.{Taken}
 use Rattle.log.proofs.Again.{LentAgain, lends-again, comes-back}
@@ -214,8 +214,8 @@ module _ {M : Type 1} (𝓤 : URA M) (H : Heap 𝓤) (A : Atoms 𝓤) (W : Given
   goes-begin : ent 𝓤 (emp 𝓤) (The-begin 𝓤 H A at-mem run .pre to-begin)
   goes-begin = qed W [] ∵ nothing ! $ nothing ! $ nothing ! $ move ! (1 ∷ 0 ∷ []) $ join ! $ frame ! $ done !
 
-  begin-said : (r : Passing) → ent 𝓤 (ensured 𝓤 H A begin.ended (begin.clauses 𝓤 H A at-mem run) tt tt tt r) (fact 𝓤 (r ≡ begun))
-  begin-said r = exE 𝓤 _ (λ ws. snd∗ 𝓤 (sem 𝓤 H A (lasts begin.ended tt tt ws)) (fact 𝓤 (r ≡ begun)))
+  begin-said : (r : Passing) → ent 𝓤 (ensured 𝓤 H A begin.ended (begin.clauses 𝓤 H A at-mem run) tt tt tt r) (fact 𝓤 (r ≡ passBegun))
+  begin-said r = exE 𝓤 _ (λ ws. snd∗ 𝓤 (sem 𝓤 H A (lasts begin.ended tt tt ws)) (fact 𝓤 (r ≡ passBegun)))
 
   -- the call of `next`, at the local at l, lent for a ∷ κ1 under the name δ
   abbrev lent : ℕ → ℕ → GName → RefT Lines
@@ -387,7 +387,7 @@ module _ {M : Type 1} (𝓤 : URA M) (H : Heap 𝓤) (A : Atoms 𝓤) (W : Given
         -- `begin`
         use0 W (raw (The-begin 𝓤 H A at-mem run .pre to-begin)) goes-begin $ calls-at ! fm (The-begin 𝓤 H A at-mem run) known-begin to-begin (no-more !) (λ u′.
         use1 W (later (some (λ (r′ : Passing). (‵ ftrue ⊛ ‵ (P.the-row .own r′ (u′ ∷ []))) ⊛ raw (ensured 𝓤 H A begin.ended (begin.clauses 𝓤 H A at-mem run) tt tt tt r′)))) (id⊢ 𝓤 _) $ await ! tt $ pick ! (λ r′.
-        split ! $ move ! (1 ∷ []) $ use1 W (raw (fact 𝓤 (r′ ≡ begun))) (begin-said r′) $ heard ! (r′ ≡ begun) (λ e′. split ! $ drop ! $
+        split ! $ move ! (1 ∷ []) $ use1 W (raw (fact 𝓤 (r′ ≡ passBegun))) (begin-said r′) $ heard ! (r′ ≡ passBegun) (λ e′. split ! $ drop ! $
         peeks ! P.the-row (Is P.the-row) (shows 𝓤 H A P.the-row) r′ (u′ ∷ []) (λ isp. drop ! $ let toldp = LL.tells P.the-type P′.the-laws r′ (u′ ∷ []) isp in
         land ! (from ! (stop !)) (init ! 18 refl (LL.lawful P.the-type P′.the-laws 𝓤 H A W .typed r′ _ isp .0)) $ rewrite ! 18 (λ (y′ : Val). ‵ (fat fullShare P′.mir l5 0 y′)) (ap only toldp) refl $
         let t₀ : St (now s) lo xs = record { at = 0; p = r′; ys = xs; is = subst (λ (ws : List Val). Is P.the-row r′ ws) toldp isp; len = refl; inv = subst (λ (y : Passing). Inv (now s) lo 0 y xs) (sym e′) (begins (now s) lo xs (asked .0) (asked .1)) } in

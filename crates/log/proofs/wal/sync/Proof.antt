@@ -37,7 +37,7 @@ use denote.Triple.Entry.{onEntry}
 use denote.Triple.Spec.{Meets, tripleOf}
 use denote.Triple.Table.{entered, cited}
 use denote.Triple.Walked.{says, Stays, stay-ref, walkOf, goes-ref, Walks, ends-at, walked, walk-meets}
-use Rattle.log.specs.Log.{syncOf}
+use Rattle.log.specs.Log.{syncLog}
 use Rattle.log.specs.declared.Counters.{Counters}
 use Rattle.log.specs.declared.AnsweredDue.{AnsweredDue}
 use Rattle.log.proofs.Counters as T
@@ -102,7 +102,7 @@ module _ {M : Type 1} (𝓤 : URA M) (H : Heap 𝓤) (A : Atoms 𝓤) (W : Given
       qed W (‵ (owns ([]) rest rest-vals) ∷ (‵ ftrue) ∷ []) ∵
       owned ! R (Is R) (LL.makes T.the-type T′.the-plain 𝓤 H A) h _ is $ fjoin ! $ move ! (1 ∷ 0 ∷ []) $ use2 W (raw (Callee 𝓤 H A at-mem run .pre to)) asked $ done !
 
-  exits : (r : AnsweredDue) (u : Val) → Is E.the-row (r .due) (u ∷ []) → _≡_ {A = AnsweredDue} (record { counters = (r .counters); due = r .due }) (syncOf h)
+  exits : (r : AnsweredDue) (u : Val) → Is E.the-row (r .due) (u ∷ []) → _≡_ {A = AnsweredDue} (record { counters = (r .counters); due = r .due }) (syncLog h)
       → ent 𝓤 (⋆ 𝓤 H A (‵ (fobs γ (R .coded .code (r .counters))) ∷ ‵ (fbor κ0 (Body (mem R) b o γ)) ∷ ‵ (flft κ0 q0) ∷ (‵ ftrue) ∷ [])) (Post u)
   exits r u is e =
       qed W (‵ (fobs γ (R .coded .code (r .counters))) ∷ ‵ (fbor κ0 (Body (mem R) b o γ)) ∷ ‵ (flft κ0 q0) ∷ (‵ ftrue) ∷ []) ∵
@@ -129,7 +129,7 @@ module _ {M : Type 1} (𝓤 : URA M) (H : Heap 𝓤) (A : Atoms 𝓤) (W : Given
         move ! (5 ∷ 4 ∷ []) $ use2 W (raw (Callee 𝓤 H A at-mem run .pre to)) (goes was) $
         calls-at ! fm (Callee 𝓤 H A at-mem run) known to (and-then ! (load ! (from ! (stop !)) (look ! 5 refl)) (no-more !)) (λ u.
         use1 W (later (some (λ (r : AnsweredDue). ((‵ ftrue) ⊛ ‵ (S.the-row .own r (u ∷ []))) ⊛ raw (ensured 𝓤 H A callee.ended (callee.clauses 𝓤 H A at-mem run) tt (h, rest) tt r)))) (id⊢ 𝓤 _) $ await ! tt $ pick ! (λ r. split ! $ move ! (1 ∷ []) $
-        use1 W (some (λ (z : Unit {0} × Unit {0}). ‵ (lasts callee.ended tt (h, rest) z) ⊛ raw (fact 𝓤 (_≡_ {A = AnsweredDue} (record { counters = (r .counters); due = r .due }) (syncOf h))))) (id⊢ 𝓤 _) $ pick ! (λ z. split ! $ move ! (1 ∷ []) $ heard ! (_≡_ {A = AnsweredDue} (record { counters = (r .counters); due = r .due }) (syncOf h)) (λ e.
+        use1 W (some (λ (z : Unit {0} × Unit {0}). ‵ (lasts callee.ended tt (h, rest) z) ⊛ raw (fact 𝓤 (_≡_ {A = AnsweredDue} (record { counters = (r .counters); due = r .due }) (syncLog h))))) (id⊢ 𝓤 _) $ pick ! (λ z. split ! $ move ! (1 ∷ []) $ heard ! (_≡_ {A = AnsweredDue} (record { counters = (r .counters); due = r .due }) (syncLog h)) (λ e.
         fsplit ! $
         move ! (2 ∷ []) $ split ! $
         move ! (1 ∷ []) $ peeks ! S.the-row (Is S.the-row) (shows 𝓤 H A S.the-row) r (u ∷ []) (λ is. drop ! $ let owed = LL.owed S.the-type S′.the-laws r _ (back-is r u is) in

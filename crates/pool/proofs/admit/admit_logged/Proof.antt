@@ -2,7 +2,7 @@
 use mathlib.Core.Path.{refl, ap, _∙_}
 use Rattle.turn.specs.Words.{orderForOf}
 use Rattle.answers.specs.Answers.{shown}
-use Rattle.pool.specs.Admit.{loggedBy}
+use Rattle.pool.specs.Admit.{recordedBy}
 use Rattle.pool.proofs.AdmitLaws.{logged-kept, logged-refused}
 use Rattle.pool.specs.Admit.{admitLogged}
 use borrow.Author.Needs.{needs}
@@ -55,7 +55,7 @@ returns c groups keys actors =
     let e4 = c .before .before .before .waiting .ensures in
     let e5 = c .before .set-log .ensures in
     let e6 = c .shown-now .ensures in
-    simp (e4, e5, e6) (logged-kept _ _ _ _ _ _ _ refl h1 e3 ∙ ap (loggedBy _ _ _) e2)
+    simp (e4, e5, e6) (logged-kept _ _ _ _ _ _ _ refl h1 e3 ∙ ap (recordedBy _ _ _) e2)
 
 log-refusal-requires : tie.Need-log-refusal-requires
 log-refusal-requires c κs = search needs
@@ -77,7 +77,7 @@ returns-2 c groups keys actors =
     let h1 = simp (c .before .before .before .is-due .ensures) at (c .before .before .if1 .left) in
     let e3 = c .before .log-refusal .ensures in
     let e4 = c .refused .ensures in
-    simp (e3, e4) (logged-refused _ _ _ _ _ _ refl h1 ∙ ap (loggedBy _ _ _) e2)
+    simp (e3, e4) (logged-refused _ _ _ _ _ _ refl h1 ∙ ap (recordedBy _ _ _) e2)
 
 pub admit-logged-spec : {M : Type 1} → statement M
 admit-logged-spec =

@@ -1,6 +1,6 @@
 -- `eval::dispatch_reply` meets its contract: each way out follows from what the calls ensured and the tests said.
 -- Assumes nothing.
-use Rattle.steps.specs.StepEval.{dispatchReply}
+use Rattle.steps.specs.StepEval.{evalDispatchReply}
 use borrow.Author.Needs.{needs}
 use Rattle.steps.proofs.eval.dispatch_reply.Statement.{statement}
 use Rattle.steps.proofs.eval.dispatch_reply.Tie as tie
@@ -27,7 +27,7 @@ same-length-2 : tie.Need-same-length-2
 same-length-2 c = search needs
 
 returns : tie.Need-returns
-unfolding dispatchReply
+unfolding evalDispatchReply
 returns c =
     let e1 = c .before .before .before .before .before .before .before .before .count-in .ensures in
     let h1 = simp (e1) at (c .before .before .before .before .before .before .came .given .1) in
@@ -35,7 +35,7 @@ returns c =
     simp (h1) e2
 
 returns-2 : tie.Need-returns-2
-unfolding dispatchReply
+unfolding evalDispatchReply
 returns-2 c =
     let e1 = c .before .before .before .count-in .ensures in
     let h1 = simp (e1) at (c .before .enum-told .given .1) in

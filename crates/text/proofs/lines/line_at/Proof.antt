@@ -2,7 +2,7 @@
 use mathlib.Core.Path.{sym, ap}
 use native.Mathlib.Omega.{arith}
 use borrow.Author.Needs.{needs}
-use Rattle.text.specs.Line.{firstOf}
+use Rattle.text.specs.Line.{firstText}
 use Rattle.text.proofs.NextLaws.{found, no-line}
 use Rattle.text.proofs.lines.line_at.Statement.{statement}
 use Rattle.text.proofs.lines.line_at.Tie as tie
@@ -51,12 +51,12 @@ returns c =
     let next-from = c .before .before .before .before .next-from in
     let line = c .before .before .line in
     let f = found _ _ _ (next-from .ensures) _ _ (line .given .1) in
-    sym (ap firstOf (f .whole))
+    sym (ap firstText (f .whole))
 
 returns-2 : tie.Need-returns-2
 returns-2 c =
     let next-from = c .before .before .before .next-from in
-    sym (ap firstOf (no-line _ _ _ (next-from .ensures) (c .before .enum-told .given .1)))
+    sym (ap firstText (no-line _ _ _ (next-from .ensures) (c .before .enum-told .given .1)))
 
 pub line-at-spec : {M : Type 1} → statement M
 line-at-spec =

@@ -47,7 +47,7 @@ use Rattle.log.specs.Log.{DidAppend, state, appendOf}
 use Rattle.log.specs.declared.Counters.{Counters}
 use Rattle.log.specs.declared.Answer.{Answer}
 use Rattle.turn.specs.declared.logged.LogAppend.{LogAppend}
-use Rattle.turn.specs.Logged.{answerBy, appendedOf, appendedAs}
+use Rattle.turn.specs.Logged.{appendAnswer, appendedOf, appendedAs}
 use Rattle.turn.specs.Words.{dueOf}
 use Rattle.log.specs.declared.Answered.{Answered}
 use Rattle.log.proofs.Counters as T
@@ -141,7 +141,7 @@ module _ {M : Type 1} (𝓤 : URA M) (H : Heap 𝓤) (A : Atoms 𝓤) (W : Given
       nothing ! $ owned ! E.the-row (Is E.the-row) (EL.makes E.the-type E′.the-plain 𝓤 H A) a _ isa $ fjoin ! $ owned ! R (Is R) (LL.makes T.the-type T′.the-plain 𝓤 H A) n _ isn $ fjoin ! $ nothing ! $ move ! (0 ∷ 1 ∷ []) $ join ! $ frame ! $ done !
 
   exits : (z0 : List ℕ) (z1 : List (List ℕ)) (r : LogAppend) (u : Val) → Is R n (mach n ∷ []) → Is S.the-row r (u ∷ []) → length z0 ≡ length (x0 .now) → length z1 ≡ length (x1 .now)
-      → _≡_ {A = DidAppend} (record { wal = state (z0) (z1) (r .counters); answer = answerBy (dueOf (r .due)) (r .refusal) }) (appendOf (state (x0 .now) (x1 .now) n) (x2 .now) (x3 .now))
+      → _≡_ {A = DidAppend} (record { wal = state (z0) (z1) (r .counters); answer = appendAnswer (dueOf (r .due)) (r .refusal) }) (appendOf (state (x0 .now) (x1 .now) n) (x2 .now) (x3 .now))
       → ent 𝓤 (⋆ 𝓤 H A (‵ (flft κ0 q0) ∷ ‵ (flft κ1 q1) ∷ ‵ (flft κ2 q2) ∷ ‵ (flft κ3 q3) ∷ ‵ (finally u8 (x0 .name) z0) ∷ ‵ (finally (Array u64 3) (x1 .name) z1) ∷ ‵ (ShrSlice (named 2) κ2 u8 .own x2 (s2 ∷ [])) ∷ ‵ (ShrSlice (named 3) κ3 u8 .own x3 (s3 ∷ [])) ∷ [])) (Post u)
   exits z0 z1 r u wasn is len0 len1 e =
       qed W (‵ (flft κ0 q0) ∷ ‵ (flft κ1 q1) ∷ ‵ (flft κ2 q2) ∷ ‵ (flft κ3 q3) ∷ ‵ (finally u8 (x0 .name) z0) ∷ ‵ (finally (Array u64 3) (x1 .name) z1) ∷ ‵ (ShrSlice (named 2) κ2 u8 .own x2 (s2 ∷ [])) ∷ ‵ (ShrSlice (named 3) κ3 u8 .own x3 (s3 ∷ [])) ∷ []) ∵

@@ -1,5 +1,5 @@
 -- `logged::appended` meets its contract: by its calls and its tests. Assumes nothing.
-use Rattle.turn.specs.Logged.{answerBy}
+use Rattle.turn.specs.Logged.{appendAnswer}
 use borrow.Author.Needs.{needs}
 use Rattle.turn.proofs.logged.appended.Statement.{statement}
 use Rattle.turn.proofs.logged.appended.Tie as tie
@@ -17,14 +17,14 @@ no-order-requires : tie.Need-no-order-requires
 no-order-requires c κs = search needs
 
 returns : tie.Need-returns
-unfolding answerBy
+unfolding appendAnswer
 returns c =
     let h1 = c .before .before .answer .given .1 in
     let e1 = c .order-words .ensures in
     simp (e1, h1)
 
 returns-2 : tie.Need-returns-2
-unfolding answerBy
+unfolding appendAnswer
 returns-2 c =
     let h1 = c .before .before .answer2 .given .1 in
     let e1 = c .no-order .ensures in

@@ -38,7 +38,7 @@ use denote.Triple.Spec.{Meets, tripleOf}
 use denote.Triple.Table.{entered, cited}
 use denote.Triple.Walked.{says, Stays, stay-none, walkOf, goes-none, Walks, ends-at, walked, walk-meets}
 use Rattle.log.specs.declared.AnsweredDue.{AnsweredDue}
-use Rattle.log.specs.Log.{syncOf}
+use Rattle.log.specs.Log.{syncLog}
 use Rattle.log.specs.declared.Counters.{Counters}
 use Rattle.log.specs.declared.Due.{Due}
 use Rattle.turn.specs.declared.logged.LogStep.{LogStep}
@@ -123,7 +123,7 @@ module _ {M : Type 1} (𝓤 : URA M) (H : Heap 𝓤) (A : Atoms 𝓤) (W : Given
       nothing ! $ owned ! E.the-row (Is E.the-row) (EL.makes E.the-type E′.the-plain 𝓤 H A) a _ isa $ fjoin ! $ owned ! R (Is R) (LL.makes T.the-type T′.the-plain 𝓤 H A) n _ isn $ fjoin ! $ nothing ! $ move ! (0 ∷ 1 ∷ []) $ join ! $ frame ! $ done !
 
   exits : (r : LogStep) (u : Val) → Is R n (mach n ∷ []) → Is S.the-row r (u ∷ [])
-      → _≡_ {A = AnsweredDue} (record { counters = r .counters; due = dueOf (r .due) }) (syncOf n)
+      → _≡_ {A = AnsweredDue} (record { counters = r .counters; due = dueOf (r .due) }) (syncLog n)
       → ent 𝓤 (⋆ 𝓤 H A ([])) (Post u)
   exits r u wasn is e =
       qed W ([]) ∵
@@ -151,7 +151,7 @@ module _ {M : Type 1} (𝓤 : URA M) (H : Heap 𝓤) (A : Atoms 𝓤) (W : Given
         move ! (2 ∷ 0 ∷ []) $ group ! 2 $ use1 W (raw (The-into 𝓤 H A at-mem run .pre (to-into α l2 δ))) (goes-into α l2 δ) $
         calls-at ! fm (The-into 𝓤 H A at-mem run) known-into (to-into α l2 δ) (and-then ! (load ! (from ! (stop !)) (look ! 4 refl)) (no-more !)) (λ u.
         use1 W (later (some (λ (a : Due). ((‵ (flft (α ∷ []) fullShare) ⊛ ‵ ftrue) ⊛ ‵ (E.the-row .own a (u ∷ []))) ⊛ raw (ensured 𝓤 H A into.ended (into.clauses 𝓤 H A at-mem run) (α ∷ [], tt) (into-args l2 δ) tt a)))) (id⊢ 𝓤 _) $ await ! tt $ pick ! (λ a. split ! $ move ! (1 ∷ []) $
-        use1 W (some (λ (z : Counters × Unit {0}). ‵ (lasts into.ended (α ∷ [], tt) (into-args l2 δ) z) ⊛ raw (fact 𝓤 (_≡_ {A = AnsweredDue} (record { counters = z .0; due = a }) (syncOf n))))) (id⊢ 𝓤 _) $ pick ! (λ z. split ! $ move ! (1 ∷ []) $ heard ! (_≡_ {A = AnsweredDue} (record { counters = z .0; due = a }) (syncOf n)) (λ e. fsplit ! $
+        use1 W (some (λ (z : Counters × Unit {0}). ‵ (lasts into.ended (α ∷ [], tt) (into-args l2 δ) z) ⊛ raw (fact 𝓤 (_≡_ {A = AnsweredDue} (record { counters = z .0; due = a }) (syncLog n))))) (id⊢ 𝓤 _) $ pick ! (λ z. split ! $ move ! (1 ∷ []) $ heard ! (_≡_ {A = AnsweredDue} (record { counters = z .0; due = a }) (syncLog n)) (λ e. fsplit ! $
         move ! (1 ∷ []) $ drop ! $
         move ! (1 ∷ []) $ split ! $ move ! (1 ∷ []) $ peeks ! E.the-row (Is E.the-row) (shows 𝓤 H A E.the-row) a (u ∷ []) (λ isa. drop ! $ let told = EL.tells E.the-type E′.the-laws a (u ∷ []) isa in
         land ! (from ! (stop !)) (init ! 7 {τ = E′.mir} {b = l3} {o = 0} {v = u} refl (EL.lawful E.the-type E′.the-laws 𝓤 H A W tt .typed a (u ∷ []) isa .0)) $ rewrite ! 7 (λ (y : Val). ‵ (fat fullShare E′.mir l3 0 y)) (ap only told) refl $

@@ -1,6 +1,6 @@
 -- `resume::sends_reply` meets its contract: by its calls and its tests. Assumes nothing.
 use Rattle.turn.specs.Resume.{sendsReply}
-use Rattle.turn.specs.Step.{stepOf}
+use Rattle.turn.specs.Step.{turnStep}
 use borrow.Author.Needs.{needs}
 use Rattle.turn.proofs.resume.sends_reply.Statement.{statement}
 use Rattle.turn.proofs.resume.sends_reply.Tie as tie
@@ -66,70 +66,70 @@ sends-requires-9 : tie.Need-sends-requires-9
 sends-requires-9 c κs = search needs
 
 returns : tie.Need-returns
-unfolding sendsReply stepOf
+unfolding sendsReply turnStep
 returns c =
     let h1 = c .before .enum-told .given .1 in
     let e1 = c .sends .ensures in
     simp (e1, h1)
 
 returns-2 : tie.Need-returns-2
-unfolding sendsReply stepOf
+unfolding sendsReply turnStep
 returns-2 c =
     let h1 = c .before .enum-told2 .given .1 in
     let e1 = c .sends2 .ensures in
     simp (e1, h1)
 
 returns-3 : tie.Need-returns-3
-unfolding sendsReply stepOf
+unfolding sendsReply turnStep
 returns-3 c =
     let h1 = c .before .enum-told3 .given .1 in
     let e1 = c .sends3 .ensures in
     simp (e1, h1)
 
 returns-4 : tie.Need-returns-4
-unfolding sendsReply stepOf
+unfolding sendsReply turnStep
 returns-4 c =
     let h1 = c .before .enum-told4 .given .1 in
     let e1 = c .sends4 .ensures in
     simp (e1, h1)
 
 returns-5 : tie.Need-returns-5
-unfolding sendsReply stepOf
+unfolding sendsReply turnStep
 returns-5 c =
     let h1 = c .before .enum-told5 .given .1 in
     let e1 = c .sends5 .ensures in
     simp (e1, h1)
 
 returns-6 : tie.Need-returns-6
-unfolding sendsReply stepOf
+unfolding sendsReply turnStep
 returns-6 c =
     let h1 = c .before .enum-told6 .given .1 in
     let e1 = c .sends6 .ensures in
     simp (e1, h1)
 
 returns-7 : tie.Need-returns-7
-unfolding sendsReply stepOf
+unfolding sendsReply turnStep
 returns-7 c =
     let h1 = c .before .enum-told7 .given .1 in
     let e1 = c .settle .ensures in
     simp (e1, h1)
 
 returns-8 : tie.Need-returns-8
-unfolding sendsReply stepOf
+unfolding sendsReply turnStep
 returns-8 c =
     let h1 = c .before .enum-told8 .given .1 in
     let e1 = c .sends7 .ensures in
     simp (e1, h1)
 
 returns-9 : tie.Need-returns-9
-unfolding sendsReply stepOf
+unfolding sendsReply turnStep
 returns-9 c =
     let h1 = c .before .enum-told9 .given .1 in
     let e1 = c .sends8 .ensures in
     simp (e1, h1)
 
 returns-10 : tie.Need-returns-10
-unfolding sendsReply stepOf
+unfolding sendsReply turnStep
 returns-10 c =
     let h1 = c .before .enum-told10 .given .1 in
     let e1 = c .sends9 .ensures in

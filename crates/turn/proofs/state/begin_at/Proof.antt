@@ -1,5 +1,5 @@
 -- `state::begin_at` meets its contract: by its calls and its tests. Assumes nothing.
-use Rattle.turn.specs.Words.{boolOf}
+use Rattle.turn.specs.Words.{isYes}
 use Rattle.turn.specs.Words.{poolOf}
 use mathlib.Core.Path.{refl}
 use borrow.Author.Needs.{needs}
@@ -64,7 +64,7 @@ element-copy-out-t60 : tie.Need-element-copy-out-t60
 element-copy-out-t60 c = search needs
 
 returns : tie.Need-returns
-unfolding poolOf boolOf
+unfolding poolOf isYes
 returns c =
     refl
 

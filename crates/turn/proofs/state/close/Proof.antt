@@ -1,5 +1,5 @@
 -- `state::close` meets its contract: by its calls and its tests. Assumes nothing.
-use Rattle.turn.specs.Words.{boolOf}
+use Rattle.turn.specs.Words.{isYes}
 use Rattle.turn.specs.Words.{poolOf}
 use mathlib.Core.Path.{refl}
 use borrow.Author.Needs.{needs}
@@ -88,7 +88,7 @@ element-copy-out-t82 : tie.Need-element-copy-out-t82
 element-copy-out-t82 c = search needs
 
 returns : tie.Need-returns
-unfolding poolOf boolOf
+unfolding poolOf isYes
 returns c =
     refl
 

@@ -1,6 +1,6 @@
 -- `state::start` meets its contract: by its calls and its tests. Assumes nothing.
 use Rattle.turn.specs.Words.{poolOf}
-use Rattle.turn.specs.Words.{boolOf}
+use Rattle.turn.specs.Words.{isYes}
 use Rattle.points.specs.Words.{atOf}
 use Rattle.points.specs.Words.{atKindOf}
 use borrow.Author.Needs.{needs}
@@ -11,7 +11,7 @@ flag-cell-requires : tie.Need-flag-cell-requires
 flag-cell-requires c κs = search needs
 
 returns : tie.Need-returns
-unfolding poolOf boolOf atOf atKindOf
+unfolding poolOf isYes atOf atKindOf
 returns c =
     let e1 = c .before .flag-cell .ensures in
     simp (e1)
