@@ -15,42 +15,23 @@ use Rattle.actor.specs.declared.state.Actor.{Actor}
 
 -- ---- cells
 
+-- 0 is fixed, any other number eval
 abbrev pub modeOf : ℕ → Mode
 modeOf n = pick (eqb n 0) mode.Fixed mode.Eval
 
-abbrev pub modeCell : Mode → ℕ
-modeCell mode.Fixed = 0
-modeCell mode.Eval = 1
-
+-- 0 is no, any other number yes
 abbrev pub boolOf : ℕ → Bool
 boolOf n = pick (eqb n 0) false true
 
-abbrev pub flagCell : Bool → ℕ
-flagCell true = 1
-flagCell false = 0
-
+-- when an actor is woken at the latest, read from its two cells: never if the tag is 0, else at ns
 abbrev pub wakeTimeOf : ℕ → ℕ → Wake
 wakeTimeOf tag ns = pick (eqb tag 0) wake.Never (wake.At ns)
 
-abbrev pub wakeTag : Wake → ℕ
-wakeTag (wake.At ns) = 1
-wakeTag wake.Never = 0
-
-abbrev pub wakeNumber : Wake → ℕ
-wakeNumber (wake.At ns) = ns
-wakeNumber wake.Never = 0
-
+-- an eval run, read from its two cells: none if the tag is 0, else one with the deadline ns
 abbrev pub evalRunOf : ℕ → ℕ → EvalRun
 evalRunOf tag ns = pick (eqb tag 0) run.Nothing (run.Until ns)
 
-abbrev pub runTag : EvalRun → ℕ
-runTag (run.Until ns) = 1
-runTag run.Nothing = 0
-
-abbrev pub runNumber : EvalRun → ℕ
-runNumber (run.Until ns) = ns
-runNumber run.Nothing = 0
-
+-- the actor that a row of twelve cells stands for; a missing cell is 0, so that an empty row is a new fixed actor
 unfoldable pub actorOf : List ℕ → Actor
 actorOf c =
     record {
@@ -66,19 +47,14 @@ actorOf c =
       run = evalRunOf (getD c 10 0) (getD c 11 0);
     }
 
-unfoldable pub actorCells : Actor → List ℕ
-actorCells a =
-    modeCell (a .mode) ∷ flagCell (a .started) ∷ flagCell (a .ran) ∷ flagCell (a .idle) ∷ flagCell (a .runnable) ∷
-    flagCell (a .scheduled)
-    ∷ flagCell (a .blocked) ∷ flagCell (a .consumed) ∷ wakeTag (a .«wake_at») ∷ wakeNumber (a .«wake_at») ∷ runTag
-    (a .run) ∷ runNumber (a .run) ∷ []
-
 -- ---- cells over those of an earlier row: a cell is written only where its meaning changes
 
+-- a flag over the earlier cell n: no is 0; yes is 1 where n is 0, and else n as it was
 abbrev pub flagOnto : ℕ → Bool → ℕ
 flagOnto n true = pick (eqb n 0) 1 n
 flagOnto n false = 0
 
+-- a mode over the earlier cell n: fixed is 0; eval is 1 where n is 0, and else n as it was
 abbrev pub modeOnto : ℕ → Mode → ℕ
 modeOnto n mode.Fixed = 0
 modeOnto n mode.Eval = flagOnto n true
@@ -87,22 +63,28 @@ modeOnto n mode.Eval = flagOnto n true
 abbrev pub keptNumber : ℕ → ℕ → ℕ
 keptNumber tag n = pick (eqb tag 0) n 0
 
+-- the tag of a wake_at over the earlier tag: 0 for never; for a time 1 where it was 0, and else as it was
 abbrev pub wakeTagOnto : ℕ → Wake → ℕ
 wakeTagOnto tag (wake.At ns) = flagOnto tag true
 wakeTagOnto tag wake.Never = 0
 
+-- the number of a wake_at over the earlier tag and number n: a time itself; for never n if the tag was 0, else 0
 abbrev pub wakeNumberOnto : ℕ → ℕ → Wake → ℕ
 wakeNumberOnto tag n (wake.At ns) = ns
 wakeNumberOnto tag n wake.Never = keptNumber tag n
 
+-- the tag of an eval run over the earlier tag: 0 for none; for a run 1 where it was 0, and else as it was
 abbrev pub runTagOnto : ℕ → EvalRun → ℕ
 runTagOnto tag (run.Until ns) = flagOnto tag true
 runTagOnto tag run.Nothing = 0
 
+-- the number of an eval run over the earlier tag and number n: its deadline; for none n if the tag was 0, else 0
 abbrev pub runNumberOnto : ℕ → ℕ → EvalRun → ℕ
 runNumberOnto tag n (run.Until ns) = ns
 runNumberOnto tag n run.Nothing = keptNumber tag n
 
+-- an actor as twelve cells over those of an earlier row, in which a missing cell counts as 0: a cell whose meaning is
+-- the same keeps its number
 unfoldable pub actorOnto : List ℕ → Actor → List ℕ
 actorOnto c a =
     modeOnto (getD c 0 0) (a .mode) ∷ flagOnto (getD c 1 0) (a .started) ∷ flagOnto (getD c 2 0) (a .ran) ∷
@@ -117,23 +99,26 @@ actorOnto c a =
 abbrev pub flagged : List ℕ → ℕ → List ℕ
 flagged c i = set c i (flagOnto (getD c i 0) true)
 
--- a tag says that there is a number, and a cell which; or that there is none
+-- the tag in cell i says that there is a number, and cell `at` which: n
 abbrev pub numbered : List ℕ → ℕ → ℕ → ℕ → List ℕ
 numbered c i at n = set (flagged c i) at n
 
+-- the tag in cell i becomes 0: there is no number; cell `at` becomes 0 too, but stays as it was if the tag was 0
 abbrev pub unnumbered : List ℕ → ℕ → ℕ → List ℕ
 unnumbered c i at = set (set c i 0) at (keptNumber (getD c i 0) (getD c at 0))
 
--- the row of an actor that waits, and of one whose wait ended
+-- the row of an actor that waits: blocked is yes, and it is woken at a time, or never
 abbrev pub blockedCells : List ℕ → Wake → List ℕ
 blockedCells c (wake.At ns) = numbered (flagged c 6) 8 9 ns
 blockedCells c wake.Never = unnumbered (flagged c 6) 8 9
 
+-- the row of an actor whose wait ended: runnable is yes, blocked is no, and there is no time to be woken at
 abbrev pub wokenCells : List ℕ → List ℕ
 wokenCells c = unnumbered (set (flagged c 4) 6 0) 8 9
 
 -- ---- the table
 
+-- the actor of slot k, by row k of the table; past the table's end a new fixed actor
 unfoldable pub actorAt : List (List ℕ) → ℕ → Actor
 actorAt l k = actorOf (getD l k [])
 
@@ -143,6 +128,7 @@ putActor l k a = set l k (actorOnto (getD l k []) a)
 
 -- ---- changes
 
+-- an actor of this mode that was never stepped: every flag is no, and it has no wake_at and no run
 abbrev pub newActor : Mode → Actor
 newActor m =
     record {
@@ -176,6 +162,7 @@ deliveredTo a =
       run = a .run;
     }
 
+-- scheduled becomes yes, when its key is put into the ready list, or no, when its key is popped from there
 abbrev pub scheduledAs : Actor → Bool → Actor
 scheduledAs a b =
     record {
@@ -208,6 +195,7 @@ beganStep a =
       run = a .run;
     }
 
+-- started becomes yes: its program was started
 abbrev pub startedAs : Actor → Actor
 startedAs a =
     record {
@@ -224,6 +212,7 @@ startedAs a =
       run = a .run;
     }
 
+-- idle becomes yes: it waits for mail alone
 abbrev pub idledAs : Actor → Actor
 idledAs a =
     record {
@@ -240,6 +229,7 @@ idledAs a =
       run = a .run;
     }
 
+-- consumed becomes yes: it took a message from its mailbox
 abbrev pub consumedAs : Actor → Actor
 consumedAs a =
     record {
@@ -256,6 +246,7 @@ consumedAs a =
       run = a .run;
     }
 
+-- runnable becomes yes: it yielded, and runs again even without mail
 abbrev pub yieldedAs : Actor → Actor
 yieldedAs a =
     record {
@@ -272,6 +263,7 @@ yieldedAs a =
       run = a .run;
     }
 
+-- its eval run is r from now on: one under way with its deadline, or none
 abbrev pub runningTo : Actor → EvalRun → Actor
 runningTo a r =
     record {
@@ -324,10 +316,12 @@ wokenAs a =
 
 -- ---- reads
 
+-- whether an eval run is under way
 abbrev pub hasRun : EvalRun → Bool
 hasRun (run.Until ns) = true
 hasRun run.Nothing = false
 
+-- the deadline of an eval run; 0 where there is none
 abbrev pub deadlineOf : EvalRun → ℕ
 deadlineOf (run.Until ns) = ns
 deadlineOf run.Nothing = 0

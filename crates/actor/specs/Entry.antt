@@ -31,13 +31,18 @@ pub record Arrival : Type 0 where
 unfoldable pub putBytes : List ℕ → ℕ → List ℕ → List ℕ
 putBytes store at bytes = pick (leb (at + length bytes) (length store)) (write store at bytes) store
 
+-- the name is written from the first byte of entry e on, the body from its byte 32 on, each only where it ends inside
+-- the store; past the last entry nothing is written
 unfoldable pub storeEntry : List ℕ → ℕ → List ℕ → List ℕ → List ℕ
 storeEntry store e name body =
     pick (ltb e ENTRIES) (putBytes (putBytes store (ENTRY * e) name) (ENTRY * e + NAME) body) store
 
+-- a new message: attempts 0, the two lengths, who waits for its outcome, and the id that it is logged under
 abbrev pub newRow : ℕ → ℕ → Caller → Logged → Message
 newRow name body caller id = record { attempts = 0; «name_len» = name; «body_len» = body; caller = caller; id = id }
 
+-- a message that comes gets its bytes and its row in entry e, and the first free entry, which e is to be, goes to the
+-- end of list `to`
 unfoldable pub keepAt : Messages → ℕ → Arrival → ℕ → Messages
 keepAt m e a to =
     record {
@@ -46,6 +51,7 @@ keepAt m e a to =
       rows = putMessage (m .rows) e (newRow (length (a .name)) (length (a .body)) (a .caller) (a .id));
     }
 
+-- by the first free entry: the message is kept there; with none free nothing changes
 abbrev pub keepFound : Messages → Arrival → ℕ → Found → Messages
 keepFound m a to (found.Entry e) = keepAt m e a to
 keepFound m a to found.Nothing = m

@@ -35,7 +35,7 @@ rowPart m e = record { name = spanOf (ENTRY * e) (m .«name_len»); body = spanO
 abbrev pub inLimits : Message → ℕ → Bool
 inLimits m e = ltb e ENTRIES && leb (m .«name_len») NAME && leb (m .«body_len») BODY
 
--- the part of an entry
+-- the part of an entry; none past the last entry, or where a length is over its limit
 unfoldable pub partAt : Table → ℕ → Part
 partAt rows e = pick (inLimits (messageAt rows e) e) (rowPart (messageAt rows e) e) noPart
 

@@ -17,11 +17,11 @@ use Rattle.actor.specs.declared.question.CountIn.the-variants as count
 use Rattle.actor.specs.declared.question.RanIn.{RanIn}
 use Rattle.actor.specs.declared.question.RanIn.the-variants as ran
 
--- the slot of an actor among the lists, 16 for each of 8 groups
+-- the slot of an actor among the lists, 16 for each of 8 groups; 128, which is no slot, of a group or key past these
 unfoldable pub slotOf : Who → ℕ
 slotOf who = pick (leb GROUPS (who .group)) SLOTS (pick (leb KEYS (who .key)) SLOTS (KEYS * who .group + who .key))
 
--- a reply read by its kind
+-- a reply read as yes or no; every other reply is neither
 abbrev pub yesIn : Reply → YesIn
 yesIn reply.Yes = yes.Yes
 yesIn reply.No = yes.No
@@ -34,6 +34,7 @@ yesIn reply.Told = yes.Other
 yesIn reply.Stored = yes.Other
 yesIn reply.Failed = yes.Other
 
+-- a reply read as a clock: its nanoseconds, of any size; every other reply is no clock
 abbrev pub clockIn : Reply → ClockIn
 clockIn reply.Yes = clock.Other
 clockIn reply.No = clock.Other
@@ -46,6 +47,7 @@ clockIn reply.Told = clock.Other
 clockIn reply.Stored = clock.Other
 clockIn reply.Failed = clock.Other
 
+-- a reply read as a count: its number; every other reply is no count
 abbrev pub countIn : Reply → CountIn
 countIn reply.Yes = count.Other
 countIn reply.No = count.Other
@@ -58,6 +60,7 @@ countIn reply.Told = count.Other
 countIn reply.Stored = count.Other
 countIn reply.Failed = count.Other
 
+-- a reply read as the status of a run; every other reply is no status
 abbrev pub ranIn : Reply → RanIn
 ranIn reply.Yes = ran.Other
 ranIn reply.No = ran.Other
@@ -70,6 +73,7 @@ ranIn reply.Told = ran.Other
 ranIn reply.Stored = ran.Other
 ranIn reply.Failed = ran.Other
 
+-- whether a reply is that a caller was told
 abbrev pub isTold : Reply → Bool
 isTold reply.Yes = false
 isTold reply.No = false
@@ -95,6 +99,7 @@ kindOf reply.Told = 6
 kindOf reply.Stored = 7
 kindOf reply.Failed = 7
 
+-- the kind of reply that a question wants, numbered as in `kindOf`; none wants kind 0, a clock from 2^63 on
 abbrev pub kindWanted : Question → ℕ
 kindWanted (ask.Boot g) = 1
 kindWanted ask.Clock = 2
@@ -109,5 +114,6 @@ kindWanted (ask.Trapped w) = 1
 kindWanted (ask.Tell c o) = 6
 kindWanted (ask.Store o) = 7
 
+-- whether a reply fits a question: it is of the kind that the question wants
 unfoldable pub fitsOf : Question → Reply → Bool
 fitsOf q r = eqb (kindWanted q) (kindOf r)

@@ -56,25 +56,30 @@ refused s r = record { state = s; answer = answer.Refused r }
 unfoldable pub shown : State → Did
 shown s = record { state = s; answer = answer.Open (openIn s) }
 
--- a message that comes is kept in the first free entry, at the end of a list
+-- the body store, the lists of messages and their rows, into which a message that comes is put
 abbrev pub messagesIn : State → Messages
 messagesIn s = record { store = s .store; links = s .links; rows = s .rows }
 
+-- the body store, the lists of messages and their rows are these; all else is as it was
 abbrev pub withMessages : State → Messages → State
 withMessages s m = withRows (withLinks (withStore s (m .store)) (m .links)) (m .rows)
 
+-- a message that comes takes the first free entry, at the end of list `to`; with none free nothing changes
 abbrev pub kept : State → Arrival → ℕ → State
 kept s a to = withMessages s (keepOf (messagesIn s) a to)
 
 -- ---- what the words of an answer mean: what is open is told by the pool, the lists and the rows
 
+-- what is open: Store while an order waits, nothing after a failed one, else the turn's question, if it is at one
 abbrev pub openBy : Pool → Table → Table → Asked
 openBy p t rows = askedIn (p .turn .disk) (p .turn .at) t rows
 
+-- by the kind: refused, for the words' reason; what is open now; or the turn's end, with the words' busy and waiters
 abbrev pub answerBy : AnswerKind → Called → Pool → Table → Table → Answer
 answerBy kind.Refused w p t rows = answer.Refused (w .refusal)
 answerBy kind.Open w p t rows = answer.Open (openBy p t rows)
 answerBy kind.Ended w p t rows = answer.Ended (w .busy) (w .waiters)
 
+-- the answer that the words of a call mean, with this pool, these lists and these rows
 abbrev pub answerOf : Called → Pool → Table → Table → Answer
 answerOf w p t rows = answerBy (w .kind) w p t rows

@@ -43,6 +43,7 @@ pub record RefusalLine : Type 0 where
   pub holds : Bool
   pub refusal : Refusal
 
+-- the line that refuses with r where b is so
 abbrev pub when : Bool → Refusal → RefusalLine
 when b r = record { holds = b; refusal = r }
 
@@ -142,6 +143,7 @@ pub record Lent : Type 0 where
   pub keys : Table
   pub actors : Table
 
+-- the file that is given to an opening: the lent log's first `size` bytes, or all of them where it has fewer
 abbrev pub fileIn : Lent → List ℕ
 fileIn l = take (l .size) (l .bytes)
 
@@ -150,6 +152,7 @@ unfoldable pub tablesSized : ℕ → ℕ → ℕ → ℕ → ℕ → Bool
 tablesSized groups links rows keys actors =
     eqb groups GROUPS && eqb links LISTS && eqb rows ENTRIES && eqb keys ROWS && eqb actors SLOTS
 
+-- the lent tables of groups, lists of messages, their rows, keys and actors have their sizes
 abbrev pub tablesFit : Lent → Bool
 tablesFit l =
     tablesSized (length (l .groups)) (length (l .links)) (length (l .rows)) (length (l .keys)) (length (l .actors))
@@ -175,6 +178,7 @@ openRefusalsLogged l =
     refusal.TooMuch
     ∷ []
 
+-- the table of an opening: 1; 2, of the pool's tables; 2, of what the log is lent; 3; 4
 abbrev pub openRefusals : Lent → List RefusalLine
 openRefusals l = openRefusalsFirst l ++ openRefusalsLogged l
 
@@ -200,11 +204,13 @@ admitRefusalsLogged s name body who =
     ∷ when (isLogged who && noRoomLeft s name body) refusal.NoRoom
     ∷ []
 
+-- the table of an admit: 14, 11, 5, 17, 6, 7, 8; if nobody waits also 8 (no row for an open record is free), 9, 10
 abbrev pub admitRefusals : State → List ℕ → List ℕ → Caller → List RefusalLine
 admitRefusals s name body who = admitRefusalsFirst s name body ++ admitRefusalsLogged s name body who
 
 -- ---- turn, reply, sync, close
 
+-- the table of a turn: 14 after a failed order, 11 while an order waits, 13 while a turn is under way
 unfoldable pub turnRefusals : Pool → List RefusalLine
 turnRefusals p =
     when (isFailed (p .turn .disk)) refusal.StoreFailed
@@ -217,12 +223,14 @@ abbrev pub sentRefusals : Bool → Table → List ℕ → List ℕ → List Refu
 sentRefusals message t name body =
     when (message && tooLong name body) refusal.TooLong ∷ when (message && noEntryFree t) refusal.TooMany ∷ []
 
+-- the table of a reply: 14 after a failed order, 12 where it does not fit what is open; of a message sent also 5, 8
 unfoldable pub replyRefusals : State → Reply → List ℕ → List ℕ → List RefusalLine
 replyRefusals s r name body =
     when (isFailed (s .pool .turn .disk)) refusal.StoreFailed
     ∷ when (not (fitsIn (openIn s) r)) refusal.NoFit
     ∷ sentRefusals (isMessage r) (s .links) name body
 
+-- the table of a sync: 14 after a failed order, 11 while an order waits
 unfoldable pub syncRefusals : Pool → List RefusalLine
 syncRefusals p =
     when (isFailed (p .turn .disk)) refusal.StoreFailed

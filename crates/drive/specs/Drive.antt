@@ -22,6 +22,7 @@ use Rattle.drive.specs.declared.Shown.{Shown}
 
 -- ---- what is given
 
+-- five numbers: max_actors, inbox, backlog, compact_at and tick_ns, in this order; one that is missing is 0
 abbrev pub settingsIn : List ℕ → Settings
 settingsIn s = record {
   «max_actors» = getD s 0 0;
@@ -60,9 +61,11 @@ abbrev pub entryNumber : Found → ℕ
 entryNumber found.Nothing = ENTRIES
 entryNumber (found.Entry e) = e
 
+-- of an answer in numbers: its kind and values as they are, and the entry of the message that it shows, or 256
 abbrev pub shownAs : AnswerNumbers → Shown
 shownAs n = record { kind = n .kind; a = n .a; b = n .b; c = n .c; entry = entryNumber (n .message) }
 
+-- an answer as the host is shown it: kind and values in numbers, and the entry of its message, or 256
 abbrev pub shownBy : Answer → Shown
 shownBy a = shownAs (numbersOf a)
 
@@ -71,5 +74,6 @@ pub record Driven : Type 0 where
   pub state : State
   pub shown : Shown
 
+-- the state that a call left, and its answer in numbers
 abbrev pub driven : Did → Driven
 driven d = record { state = d .state; shown = shownBy (d .answer) }

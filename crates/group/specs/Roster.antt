@@ -19,28 +19,35 @@ use Rattle.points.specs.At.{whoOf}
 
 -- ---- the rows of the table of key lists: four for each of 8 groups, and two for the turn
 
+-- how many rows there are; as the number of a row it is past the table's end
 abbrev pub ROWS : ℕ
 ROWS = 34
 
--- what is left of the waiting list that is being gone through, and the keys that answered Trapped with yes
+-- the row of what is left of the waiting list that is being gone through
 abbrev pub REST : ℕ
 REST = 32
 
+-- the row of the keys that answered Trapped with yes, each until its actor is retired
 abbrev pub TRAPPED : ℕ
 TRAPPED = 33
 
+-- the row of group g's slab, which gives its actors their keys; from g = 8 on it is past the table's end
 abbrev pub slabRow : ℕ → ℕ
 slabRow g = pick (ltb g GROUPS) (4 * g) ROWS
 
+-- the row of group g's ready list, the keys to be popped and run; from g = 8 on it is past the table's end
 abbrev pub readyRow : ℕ → ℕ
 readyRow g = pick (ltb g GROUPS) (4 * g + 1) ROWS
 
+-- the row of group g's idle list, where routing looks for an idle actor; from g = 8 on it is past the table's end
 abbrev pub idleRow : ℕ → ℕ
 idleRow g = pick (ltb g GROUPS) (4 * g + 2) ROWS
 
+-- the row of group g's waiting list, the keys that waking goes through; from g = 8 on it is past the table's end
 abbrev pub waitingRow : ℕ → ℕ
 waitingRow g = pick (ltb g GROUPS) (4 * g + 3) ROWS
 
+-- the slot of the actor with key k in group g, 16 g + k; from group 8 or key 16 on it is 128, which is no slot
 abbrev pub slotAt : ℕ → ℕ → ℕ
 slotAt g k = slotOf (whoOf g k)
 
@@ -53,6 +60,7 @@ pub record Keyed : Type 0 where
   pub keys : Table
   pub actors : Table
 
+-- these key lists and these actors, for an operation on keys to work on
 abbrev pub keyed : Table → Table → Keyed
 keyed keys actors = record { keys = keys; actors = actors }
 
@@ -61,6 +69,7 @@ pub record Mailed : Type 0 where
   pub links : Table
   pub queued : ℕ
 
+-- these lists of messages, with so many messages in mailboxes
 abbrev pub mailed : Table → ℕ → Mailed
 mailed t queued = record { links = t; queued = queued }
 
@@ -76,18 +85,23 @@ pub record TurnTables : Type 0 where
   pub actors : Table
   pub queued : ℕ
 
+-- these lists of messages, key lists and actors, with so many messages in mailboxes
 abbrev pub turnTables : Table → Table → Table → ℕ → TurnTables
 turnTables t keys actors queued = record { links = t; keys = keys; actors = actors; queued = queued }
 
+-- the key lists and actors after a spawn, and the new actor's key; no key where the group had none to give
 pub record Spawned : Type 0 where
   pub keys : Table
   pub actors : Table
   pub key : Key
 
+-- the key lists without the idle keys that were taken, and the key of the idle actor that was found, if one was
 pub record IdlePopped : Type 0 where
   pub keys : Table
   pub key : Key
 
+-- a key goes to the end of the list in a row; a full list is squeezed first, and then gets the key if it is absent;
+-- past the table's end nothing changes
 unfoldable pub pushKey : Table → ℕ → ℕ → Table
 pushKey keys row k = set keys row (pushOf (keysAt keys row) k)
 
@@ -95,6 +109,7 @@ pushKey keys row k = set keys row (pushOf (keysAt keys row) k)
 unfoldable pub liveOf : Table → ℕ → ℕ → Bool
 liveOf keys g k = ltb (slotAt g k) SLOTS && containsOf (keysAt keys (slabRow g)) k
 
+-- how many actors the group has: the keys that were ever given, less those that are free
 unfoldable pub liveLen : Table → ℕ → ℕ
 liveLen keys g = liveCount (keysAt keys (slabRow g))
 
@@ -110,6 +125,7 @@ scheduleOf keys actors g k =
     }))
     (record { keys = keys; actors = actors })
 
+-- the mode of an actor, by whether its group is eval: eval if it is, else fixed
 abbrev pub modeFor : Bool → Mode
 modeFor true = mode.Eval
 modeFor false = mode.Fixed
@@ -123,19 +139,22 @@ spawnKey keys actors g k eval =
     g
     k
 
+-- these key lists and actors after a spawn, with k as the new actor's key
 abbrev pub spawnedAs : Keyed → ℕ → Spawned
 spawnedAs s k = record { keys = s .keys; actors = s .actors; key = key.At k }
 
+-- by the next key of the group: a new actor gets it and is queued to run; with no key to give, nothing changes
 abbrev pub spawnBy : Table → Table → ℕ → Bool → Key → Spawned
 spawnBy keys actors g eval (key.At k) = spawnedAs (spawnKey keys actors g k eval) k
 spawnBy keys actors g eval key.Nothing = record { keys = keys; actors = actors; key = key.Nothing }
 
--- Keys follow slab 0.4: the last freed key is given first.
+-- an actor is spawned under the next key of the group, as slab 0.4 gives it: the last freed one first
 unfoldable pub spawnOf : Table → Table → ℕ → Bool → Spawned
 spawnOf keys actors g eval = spawnBy keys actors g eval (vacantOf (keysAt keys (slabRow g)))
 
 -- ---- an idle actor
 
+-- the group has an actor of this key, and it is idle
 unfoldable pub idleKey : Table → Table → ℕ → ℕ → Bool
 idleKey keys actors g k = liveOf keys g k && actorAt actors (slotAt g k) .idle
 
@@ -144,10 +163,11 @@ pub record Popped : Type 0 where
   pub row : List ℕ
   pub key : Key
 
--- the last of n keys of an idle list whose actor is still there and idle; it and those after it leave the list
+-- this row of an idle list, and the key that was popped from it, if any
 abbrev pub popped : List ℕ → Key → Popped
 popped row k = record { row = row; key = k }
 
+-- at most n keys are taken off the list's end, until one has an actor that is idle; the key is that one, else none
 unfoldable pub popIdleRow : Table → Table → ℕ → ℕ → List ℕ → Popped
 popIdleRow keys actors g zero row = popped row key.Nothing
 popIdleRow keys actors g (suc n) row = elim (lastOf row) [
@@ -156,18 +176,22 @@ popIdleRow keys actors g (suc n) row = elim (lastOf row) [
   | key.Nothing ↦ popIdleRow keys actors g n (popEnd row)
 ]
 
+-- the group's idle list becomes the row that the pops left, and the key is the one popped, if any
 abbrev pub popIdleIn : Table → ℕ → Popped → IdlePopped
 popIdleIn keys g p = record { keys = set keys (idleRow g) (p .row); key = p .key }
 
+-- keys are taken off the end of the group's idle list until one has an idle actor; where none has, the list is empty
 unfoldable pub popIdleOf : Table → Table → ℕ → IdlePopped
 popIdleOf keys actors g =
     popIdleIn keys g (popIdleRow keys actors g (countOf (keysAt keys (idleRow g))) (keysAt keys (idleRow g)))
 
 -- ---- the least loaded, first of the equals
 
+-- the load of the actor with key k in group g: how many messages its mailbox has
 abbrev pub loadOf : Table → ℕ → ℕ → ℕ
 loadOf links g k = lenOf links (mailboxOf (slotAt g k))
 
+-- the less loaded of key k and the best so far, of equals the best so far; k where there is none so far
 unfoldable pub betterOf : Table → ℕ → Key → ℕ → Key
 betterOf links g (key.At b) k = pick (ltb (loadOf links g k) (loadOf links g b)) (key.At k) (key.At b)
 betterOf links g key.Nothing k = key.At k
@@ -178,6 +202,7 @@ leastFrom given better zero k best = best
 leastFrom given better (suc n) k best =
     leastFrom given better n (k + 1) (pick (containsOf given k) (better best k) best)
 
+-- the key of the group's actor with the shortest mailbox, of equals the lowest; none where the group has no actor
 unfoldable pub leastOf : Table → Table → ℕ → Key
 leastOf keys links g = leastFrom (keysAt keys (slabRow g)) (betterOf links g) 16 0 key.Nothing
 

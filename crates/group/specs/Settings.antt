@@ -12,6 +12,7 @@ use Rattle.group.specs.declared.settings.Group.{Group}
 use Rattle.group.specs.declared.settings.Named.{Named}
 use Rattle.group.specs.declared.settings.Named.the-variants as found
 
+-- a group's settings, its row's first cells: ceiling, eval (0 no, any other yes), timeout, retry; a missing cell is 0
 abbrev pub groupOf : List ℕ → Group
 groupOf c =
     record {
@@ -21,6 +22,7 @@ groupOf c =
       retry = getD c 3 0;
     }
 
+-- the settings of group g; past the table's end it is a fixed group with ceiling, timeout and retry 0
 unfoldable pub groupAt : Table → ℕ → Group
 groupAt groups g = groupOf (getD groups g [])
 

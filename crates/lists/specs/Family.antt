@@ -43,9 +43,11 @@ unfoldable pub chain : Table → ℕ → ℕ → List ℕ
 chain t zero h = []
 chain t (suc n) h = h ∷ chain t n (nextOf t h)
 
+-- list k as its entries in order: from its first one on along the links, as many as its length says
 unfoldable pub view : Table → ℕ → List ℕ
 view t k = chain t (lenOf t k) (headOf t k)
 
+-- the links are well formed: 262 rows, tails that are last entries, and each of 256 entries in one list, at one place
 pub record Good (t : Table) : Type 0 where
   pub sized : length t ≡ LISTS
   -- the tail of a list that is not empty is its last entry

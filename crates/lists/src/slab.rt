@@ -1,7 +1,7 @@
 // The keys of a group's actors, at most 16, as slab 0.4 gives them: the last freed key first, else the next that never
 // was one. A row of 65 bytes of a table: the free keys as a list of `keys`, last freed last, and in the last cell how
-// many keys were ever given. Its one invariant is `Sound` (specs/Slabs.antt): at most 16 keys were given, and the free
-// ones are different ones of them. `contains_at` and `remove_at` scan the free keys; `insert_at` and `len_at` take
+// many keys were ever given. Its one invariant is `SlabSound` (specs/Slabs.antt): at most 16 keys were given, and the
+// free ones are different ones of them. `contains_at` and `remove_at` scan the free keys; `insert_at` and `len_at` take
 // constant time; `next_key_at` walks in rising key order. What each does to every key is said by the theorems of
 // proofs/Slabs.antt: `inserted-live`, `removed-dead`, `last-freed-first`, `next-least`.
 ghost use mathlib.Core.Path.{_≡_};

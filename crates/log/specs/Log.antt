@@ -34,12 +34,15 @@ logNumberOf NoRoom = 10
 abbrev pub row : ℕ → ℕ → ℕ → List ℕ
 row id at len = id ∷ at ∷ len ∷ []
 
+-- the id of a row; 0 where the row has no cell
 abbrev pub rowId : List ℕ → ℕ
 rowId r = getD r 0 0
 
+-- where the record of a row begins in the log; 0 where the row has no second cell
 abbrev pub rowAt : List ℕ → ℕ
 rowAt r = getD r 1 0
 
+-- the length of a row's record; 0 where the row has no third cell
 abbrev pub rowLen : List ℕ → ℕ
 rowLen r = getD r 2 0
 
@@ -50,9 +53,11 @@ pub record Wal : Type 0 where
   pub table : List (List ℕ)
   pub counters : Counters
 
+-- the state of a log: its lent bytes, its lent table and its counters
 abbrev pub state : List ℕ → List (List ℕ) → Counters → Wal
 state bytes table counters = record { bytes = bytes; table = table; counters = counters }
 
+-- the rows of the open records: the first `count` of the table, or all where it has fewer
 abbrev pub openRows : Wal → List (List ℕ)
 openRows w = take (w .counters .count) (w .table)
 
@@ -66,6 +71,7 @@ pub record DidMark : Type 0 where
   pub wal : Wal
   pub due : Due
 
+-- a refused append: the log is as it was, and the answer is the refusal
 abbrev pub turnedAway : Wal → Refusal → DidAppend
 turnedAway w r = record { wal = w; answer = Refused r }
 
@@ -132,6 +138,7 @@ withRecord w m = record {
   };
 }
 
+-- a message logged: its row and the counters, and its record written behind the file, whose size grows by it
 abbrev pub logged : Wal → Message → Wal
 logged w m = extended (withRecord w m) (recordLine m)
 
@@ -173,6 +180,7 @@ appended w m = elim (leb (w .counters .size + length (recordLine m)) (length (w 
   }
 ]
 
+-- with no refusal the message is logged, else it is turned away with this one
 abbrev pub appendJudged : Wal → Message → Option Refusal → DidAppend
 appendJudged w m none = appended w m
 appendJudged w m (some r) = turnedAway w r
@@ -181,7 +189,7 @@ appendJudged w m (some r) = turnedAway w r
 unfoldable pub appendOf : Wal → List ℕ → List ℕ → DidAppend
 appendOf w name body = appendJudged w (newMessage w name body) (appendRefusal w (newMessage w name body))
 
--- a message that is not turned away, whose record is `len` bytes long
+-- there is an id, a row and room for a message, whose record is `len` bytes long (not 8, 9 or 10)
 pub record CanAppend (w : Wal) (m : Message) (len : ℕ) : Type 0 where
   pub len-is : len ≡ length (recordLine m)
   pub id : w .counters .next < 2 ^ 64 - 1
@@ -241,6 +249,8 @@ keeps compactAt long live to = leb to long && ltb to (max compactAt (2 * live))
 abbrev pub withDone : Wal → ℕ → ℕ
 withDone w id = w .counters .size + length (doneLine id)
 
+-- the row of the id is out already: its done line is written behind the file and the append of it ordered, as long as
+-- `keeps` allows it; else the log is rewritten to the records still open, and a replace by live ordered
 unfoldable pub markedDone : ℕ → Wal → ℕ → DidMark
 markedDone compactAt w id = elim (keeps compactAt (length (w .bytes)) (w .counters .live) (withDone w id)) [
   | true ↦ record {
@@ -250,6 +260,8 @@ markedDone compactAt w id = elim (keeps compactAt (length (w .bytes)) (w .counte
   | false ↦ record { wal = compacted w; due = due.Ordered (Replace (w .counters .live)) }
 ]
 
+-- by the place of its row: an id without one changes nothing, and no order is due; else the row is taken out, and
+-- the id is done
 abbrev pub markFound : ℕ → Wal → ℕ → Option ℕ → DidMark
 markFound compactAt w id none = record { wal = w; due = due.Nothing }
 markFound compactAt w id (some i) = markedDone compactAt (withoutRow w i) id

@@ -34,6 +34,7 @@ sized log n store table left =
 unfoldable pub storedAt : ℕ → Message → List ℕ → List ℕ
 storedAt i m store = write (write store (ENTRY * i) (m .name)) (ENTRY * i + NAME) (m .body)
 
+-- messages put into the store in their order, an entry each, from entry i on; all other bytes keep their value
 unfoldable pub stored : ℕ → List Message → List ℕ → List ℕ
 stored i [] store = store
 stored i (m ∷ ms) store = stored (suc i) ms (storedAt i m store)
@@ -47,6 +48,7 @@ unfoldable pub rowsFrom : ℕ → List Message → List (List ℕ)
 rowsFrom at [] = []
 rowsFrom at (m ∷ ms) = row (m .id) at (length (recordLine m)) ∷ rowsFrom (at + length (recordLine m)) ms
 
+-- the counters where no log was opened: all 0, and dirty is no
 abbrev pub noCounters : Counters
 noCounters = record { next = 0; live = 0; size = 0; dirty = false; count = 0 }
 
@@ -80,6 +82,7 @@ openedLogBy log store table left r = record {
   };
 }
 
+-- a file that is refused changes nothing; one that is accepted leaves its messages in the store and in a new log
 abbrev pub openJudged : List ℕ → List ℕ → List (List ℕ) → List (List ℕ) → Opening → Opened
 openJudged log store table left (refused r) = closedBy log store table left r
 openJudged log store table left (opened r) = openedLogBy log store table left r

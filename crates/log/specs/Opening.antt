@@ -18,6 +18,7 @@ RECORDS = 256
 abbrev pub NAME : ℕ
 NAME = 32
 
+-- the most bytes of a body
 abbrev pub BODY : ℕ
 BODY = 128
 
@@ -25,6 +26,7 @@ BODY = 128
 abbrev pub ENTRY : ℕ
 ENTRY = 160
 
+-- the bytes of the body store: 256 entries of 160
 abbrev pub STORE : ℕ
 STORE = 40960
 
@@ -52,15 +54,19 @@ pub record Read : Type 0 where
   pub left : List Message
   pub next : ℕ
 
+-- a record sets its id, and raises next to 1 + the id where it is lower; a done line removes its id, and leaves next;
+-- any other line changes nothing
 unfoldable pub takeIn : Read → Line → Read
 takeIn r (put m) = record { left = insert m (r .left); next = max (r .next) (suc (m .id)) }
 takeIn r (done id) = record { left = remove id (r .left); next = r .next }
 takeIn r other = r
 
+-- lines taken in one after the other, in their order, on top of what has been read
 unfoldable pub readLines : Read → List (List ℕ) → Read
 readLines r [] = r
 readLines r (text ∷ texts) = readLines (takeIn r (readLine text)) texts
 
+-- before the first line: no message is left, and the next id is 0
 abbrev pub nothingRead : Read
 nothingRead = record { left = []; next = 0 }
 
@@ -72,10 +78,12 @@ readFile file = readLines nothingRead (lines file)
 unfoldable pub fits : Message → Bool
 fits m = leb (length (m .name)) NAME && leb (length (m .body)) BODY
 
+-- every message is within the limits
 unfoldable pub allFit : List Message → Bool
 allFit [] = true
 allFit (m ∷ ms) = fits m && allFit ms
 
+-- what is decided on a file: refused, and why; or accepted, with the messages left and the next id
 pub data Opening : Type 0 where
   refused : Refusal → Opening
   opened : Read → Opening
@@ -89,6 +97,7 @@ judge r = elim (ltb (r .next) (2 ^ 64)) [
       elim (leb (length (r .left)) RECORDS && allFit (r .left)) [ false ↦ refused TooMuch | true ↦ opened r ]
 ]
 
+-- the decision on a file, once all its whole lines were read
 unfoldable pub opening : List ℕ → Opening
 opening file = judge (readFile file)
 

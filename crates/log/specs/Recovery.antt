@@ -30,6 +30,7 @@ abbrev pub orderOfAnswer : Answer → Option Order
 orderOfAnswer (Ordered o) = some o
 orderOfAnswer (Refused r) = none
 
+-- the order that a mark or a sync has due; none where nothing is due
 abbrev pub orderedDue : Due → Option Order
 orderedDue (due.Ordered o) = some o
 orderedDue due.Nothing = none
@@ -39,12 +40,15 @@ pub record Called : Type 0 where
   pub wal : Wal
   pub order : Option Order
 
+-- the log after an append, and its order; none where it was refused
 abbrev pub byAppend : DidAppend → Called
 byAppend d = record { wal = d .wal; order = orderOfAnswer (d .answer) }
 
+-- the log after a mark, and its order; none where nothing is due
 abbrev pub byMark : DidMark → Called
 byMark d = record { wal = d .wal; order = orderedDue (d .due) }
 
+-- the log after a sync: bytes and table as they were, the counters those that it answered; and the order due, if any
 abbrev pub bySync : Wal → AnsweredDue → Called
 bySync w s =
     record { wal = record { bytes = w .bytes; table = w .table; counters = s .counters }; order = orderedDue (s .due) }
@@ -61,6 +65,7 @@ pub data Sent : Type 0 where
   replacing : List ℕ → Sent
   flushing : Sent
 
+-- what an order sends: an append bytes a to b of the log, a replace its first n bytes, a flush none
 unfoldable pub sent : List ℕ → Order → Sent
 sent bytes (Append a b) = appending (part bytes a b)
 sent bytes (Replace n) = replacing (take n bytes)
@@ -95,6 +100,7 @@ PossibleIn settled sure since file = Cut sure since file
 PossibleIn (waits s) sure since file = Unconfirmed s sure since file
 PossibleIn (lost s) sure since file = Unconfirmed s sure since file
 
+-- the files that a cut may leave on a disk, by its status and by what is sure and what came since
 abbrev pub Possible : Disk → List ℕ → Type 0
 Possible disk file = PossibleIn (disk .status) (disk .sure) (disk .since) file
 
@@ -139,10 +145,13 @@ issue w wal now s = record {
   firm = w .firm;
 }
 
+-- with an order: it goes out, with bytes of the log after the call, and its moment has the call's effect;
+-- without one only the log changes, to what the call left
 abbrev pub issued : LogWorld → LogCall → Wal → Option Order → LogWorld
 issued w c wal (some o) = issue w wal (callEffect (w .wal) c (w .now)) (sent (wal .bytes) o)
 issued w c wal none = record { wal = wal; disk = w .disk; moments = w .moments; now = w .now; firm = w .firm }
 
+-- a call made: the log is what it left, and if it has an order, that goes out and makes a moment
 unfoldable pub called : LogWorld → LogCall → Called → LogWorld
 called w c did = issued w c (did .wal) (did .order)
 
@@ -156,6 +165,7 @@ storedOrder w s = record {
   firm = firmMoment s (w .firm) (length (w .moments) - 1);
 }
 
+-- the order failed: a cut may leave what it might while the order waited; log, moments and firm are as they were
 unfoldable pub failedOrder : LogWorld → Sent → LogWorld
 failedOrder w s = record {
   wal = w .wal;
@@ -181,19 +191,22 @@ stepLog compactAt (waits s) w stored = storedOrder w s
 stepLog compactAt (waits s) w failed = failedOrder w s
 stepLog compactAt (lost s) w e = w
 
+-- calls and answers of the disk one after the other, each on what the one before left
 unfoldable pub runLog : ℕ → LogWorld → List Event → LogWorld
 runLog compactAt w [] = w
 runLog compactAt w (e ∷ es) = runLog compactAt (stepLog compactAt (w .disk .status) w e) es
 
+-- the log as an opening left it: the bytes, the table of open records and the counters
 abbrev pub openedWal : Opened → Wal
 openedWal o = record { bytes = o .log; table = o .table; counters = o .step .counters }
 
--- the accepted opening of a file, which left these messages, with its replace not yet answered; the file given counts
--- as confirmed
+-- the disk after an opening: its replace waits, not yet answered; where it was refused nothing does
 abbrev pub statusOf : List ℕ → Answer → Status
 statusOf bytes (Ordered o) = waits (sent bytes o)
 statusOf bytes (Refused r) = settled
 
+-- where a list of calls begins, after the opening of a file which left these messages: the file given counts as
+-- confirmed, the opening's replace is not yet answered, and the messages left are the first moment, the firm one
 unfoldable pub beginLog : Opened → List ℕ → List Message → LogWorld
 beginLog o file left = record {
   wal = openedWal o;

@@ -12,12 +12,14 @@ use Rattle.log.specs.Opening.{Opening, refused, opened, opening, image}
 use Rattle.log.specs.Log.{Wal, logNumberOf, appendOf}
 use Rattle.log.specs.Recovery.{LogCall, append, mark, didCall}
 
+-- two texts (or lists of ids) are the same: equally long, and equal at every place
 unfoldable pub sameBytes : List ℕ → List ℕ → Bool
 sameBytes [] [] = true
 sameBytes [] (b ∷ bs) = false
 sameBytes (a ∷ more) [] = false
 sameBytes (a ∷ more) (b ∷ bs) = eqb a b && sameBytes more bs
 
+-- the ids of messages, in their order
 unfoldable pub ids : List Message → List ℕ
 ids [] = []
 ids (m ∷ ms) = m .id ∷ ids ms
@@ -27,14 +29,17 @@ unfoldable pub leaves : Opening → List ℕ → ℕ → List ℕ → Bool
 leaves (refused r) is next new = false
 leaves (opened r) is next new = sameBytes (ids (r .left)) is && eqb (r .next) next && sameBytes (image (r .left)) new
 
+-- the opening was refused, and with this number
 unfoldable pub refusedBy : Opening → ℕ → Bool
 refusedBy (refused r) n = eqb (logNumberOf r) n
 refusedBy (opened r) n = false
 
+-- the append was refused, and with this number
 unfoldable pub turnedAwayBy : Answer → ℕ → Bool
 turnedAwayBy (Ordered o) n = false
 turnedAwayBy (Refused r) n = eqb (logNumberOf r) n
 
+-- a message with this id, name and body
 unfoldable pub message : ℕ → List ℕ → List ℕ → Message
 message id name body = record { id = id; name = name; body = body }
 
@@ -50,10 +55,12 @@ emptyLog l next = record {
   counters = record { next = next; live = 0; size = 0; dirty = false; count = 0 };
 }
 
+-- the log after calls, one after the other; what they order plays no part
 unfoldable pub walAfter : ℕ → Wal → List LogCall → Wal
 walAfter compactAt w [] = w
 walAfter compactAt w (c ∷ cs) = walAfter compactAt (didCall compactAt w c .wal) cs
 
+-- the size of the file after calls, made on a log of l bytes that had no message and the next id 0
 unfoldable pub sizeAfter : ℕ → ℕ → List LogCall → ℕ
 sizeAfter l compactAt calls = walAfter compactAt (emptyLog l 0) calls .counters .size
 
@@ -61,6 +68,7 @@ sizeAfter l compactAt calls = walAfter compactAt (emptyLog l 0) calls .counters 
 unfoldable pub two : List LogCall
 two = append rowName (120 ∷ []) ∷ append rowName (121 ∷ []) ∷ []
 
+-- n records one behind the other, with rising ids from `first` on, and with name and body empty
 unfoldable pub records : ℕ → ℕ → List ℕ
 records zero first = []
 records (suc n) first = recordLine (message first [] []) ++ records n (suc first)
@@ -69,9 +77,11 @@ records (suc n) first = recordLine (message first [] []) ++ records n (suc first
 unfoldable pub doneThree : List ℕ
 doneThree = 51 ∷ 9 ∷ 114 ∷ 111 ∷ 119 ∷ 9 ∷ 120 ∷ 10 ∷ 49 ∷ 9 ∷ 114 ∷ 111 ∷ 119 ∷ 9 ∷ 121 ∷ 10 ∷ 51 ∷ 10 ∷ []
 
+-- 12 row x, 1 row y, and a 1 without its LF, which is torn and no line
 unfoldable pub tornOne : List ℕ
 tornOne = 49 ∷ 50 ∷ 9 ∷ 114 ∷ 111 ∷ 119 ∷ 9 ∷ 120 ∷ 10 ∷ 49 ∷ 9 ∷ 114 ∷ 111 ∷ 119 ∷ 9 ∷ 121 ∷ 10 ∷ 49 ∷ []
 
+-- the row ends 1 to 7 (docs/RULES.md, 9): of each example whether the definitions give its result
 unfoldable pub rowEnds : List Bool
 rowEnds =
     -- 1
@@ -130,9 +140,11 @@ respelled id name body = line (id ++ TAB ∷ name ++ TAB ∷ body)
 unfoldable pub five : List ℕ
 five = 53 ∷ []
 
+-- 05: 5 with a leading zero, which is no id
 unfoldable pub zeroFive : List ℕ
 zeroFive = 48 ∷ 53 ∷ []
 
+-- +5: 5 with a plus sign, which is no id
 unfoldable pub plusFive : List ℕ
 plusFive = 43 ∷ 53 ∷ []
 
@@ -157,6 +169,7 @@ spellings =
     refusedBy (opening (respelled lastId (97 ∷ []) (98 ∷ []))) 3 ∷
     []
 
+-- every example of a list holds
 unfoldable pub allTrue : List Bool → Bool
 allTrue [] = true
 allTrue (b ∷ bs) = b && allTrue bs

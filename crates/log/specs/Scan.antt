@@ -33,6 +33,7 @@ abbrev pub rowMessage : List ℕ → List ℕ → Message
 rowMessage file r =
     record { id = rowId r; name = nameOf (lineAt file (rowAt r)); body = bodyOf (lineAt file (rowAt r)) }
 
+-- the messages of rows, in their order
 abbrev pub rowMessages : List ℕ → List (List ℕ) → List Message
 rowMessages file rs = map (rowMessage file) rs
 
@@ -50,6 +51,7 @@ insertRow e (x ∷ xs) = elim (ltb (rowId e) (rowId x)) [
       elim (eqb (rowId e) (rowId x)) [ true ↦ e ∷ xs | false ↦ x ∷ insertRow e xs ]
 ]
 
+-- the rows without those of an id; the others stay in their order
 unfoldable pub removeRow : ℕ → List (List ℕ) → List (List ℕ)
 removeRow id [] = []
 removeRow id (x ∷ xs) = elim (eqb (rowId x) id) [ true ↦ removeRow id xs | false ↦ x ∷ removeRow id xs ]
@@ -86,11 +88,14 @@ TookNext lo p table (done id) at q table' =
 TookNext lo p table other at q table' =
     (passRows q table' ≡ passRows p table) × (q .hi ≡ p .hi) × (q .next ≡ p .next)
 
+-- the line is a record whose id is 2 ^ 64 - 1 or more, so that there is no next id; no other line is one
 abbrev pub LastId : Line → Type 0
 LastId (put m) = 2 ^ 64 - 1 ≤ m .id
 LastId (done id) = ⊥
 LastId other = ⊥
 
+-- what a line did to a pass: it goes on, changed as above, with no more rows than the table has; or it is over, and the
+-- line is a record with the last id
 abbrev pub TookLine : ℕ → Pass → List (List ℕ) → Line → ℕ → Taken → List (List ℕ) → Type 0
 TookLine lo p table l at (Next q) table' = (q .count ≤ length table') × TookNext lo p table l at q table'
 TookLine lo p table l at Over table' = LastId l
@@ -99,6 +104,7 @@ TookLine lo p table l at Over table' = LastId l
 abbrev pub passBegun : Passing
 passBegun = record { taken = Next (record { count = 0; hi = 18446744073709551615; next = 0 }); on = true }
 
+-- a pass goes on unless it is over
 abbrev pub going : Taken → Bool
 going (Next p) = true
 going Over = false
@@ -112,6 +118,8 @@ CanTake lo file table (Next p) End = Unit {0}
 CanTake lo file table Over (At a e) = Unit {0}
 CanTake lo file table Over End = Unit {0}
 
+-- a line that the reader found was taken in, and the pass goes on unless it is over now; with no line left, or over
+-- before, the pass stops as it is, and the table keeps its rows
 abbrev pub TookNextLine : ℕ → List ℕ → List (List ℕ) → Taken → reader.Line → Passing → List (List ℕ) → Type 0
 TookNextLine lo file table (Next p) (At a e) r table' =
     TookLine lo p table (readLine (part file a e)) a (r .taken) table' × (r .on ≡ going (r .taken))
@@ -135,6 +143,7 @@ pub record Passed (file : List ℕ) (lo : ℕ) (p : Pass) (table : List (List �
   pub next : p .next ≡ readFile file .next
   pub window : Window file lo (p .hi) (passRows p table)
 
+-- one whole pass over the file, with the rows from lo on and the next id; or over, since that would be 2 ^ 64 or more
 abbrev pub Scanned : List ℕ → ℕ → Taken → List (List ℕ) → Type 0
 Scanned file lo (Next p) table = Passed file lo p table
 Scanned file lo Over table = 2 ^ 64 ≤ readFile file .next
@@ -145,6 +154,8 @@ pub record AllRows (file : List ℕ) (count next : ℕ) (table : List (List ℕ)
   pub next-is : next ≡ readFile file .next
   pub left-are : readFile file .left ≡ rowMessages file (take count table)
 
+-- by the answer: the next id would be 2 ^ 64 or more; or it is below, and more than 256 messages are left; or the first
+-- `count` rows are those of all messages left, and `next` is the next id
 abbrev pub LeftIn : List ℕ → LeftRows → List (List ℕ) → Type 0
 LeftIn file NoNext table = 2 ^ 64 ≤ readFile file .next
 LeftIn file Many table = (readFile file .next < 2 ^ 64) × (RECORDS < length (readFile file .left))
@@ -156,6 +167,7 @@ pub record Accepted (file : List ℕ) (count next : ℕ) (table : List (List ℕ
   pub fit : allFit (readFile file .left) ≡ true
   pub opens : opening file ≡ opened (readFile file)
 
+-- `opening` decides the same on the file: refused by the same refusal; or accepted, with the rows of all messages left
 abbrev pub Decided : List ℕ → Decision → List (List ℕ) → Type 0
 Decided file (Refuse r) table = opening file ≡ refused r
 Decided file (Accept count next) table = Accepted file count next table
@@ -185,6 +197,8 @@ pub record Imaged : Type 0 where
   pub table : List (List ℕ)
   pub size : ℕ
 
+-- the messages' records written over the log from its first byte on, their rows over the table's first ones, and the
+-- length of these records
 abbrev pub imaged : List ℕ → List (List ℕ) → List Message → Imaged
 imaged log table ms =
     record { log = write log 0 (image ms); table = write table 0 (rowsFrom 0 ms); size = length (image ms) }

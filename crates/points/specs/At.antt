@@ -14,9 +14,11 @@ use Rattle.points.specs.declared.at.At.the-variants as at
 use Rattle.points.specs.declared.at.Ask.the-variants as asks
 use Rattle.points.specs.declared.at.Point.the-variants as point
 
+-- the actor with this key in this group, as a question names it
 abbrev pub whoOf : ℕ → ℕ → Who
 whoOf g key = record { group = g; key = key }
 
+-- the group after group g; from group 7, the last, on it is 8, which no group has
 abbrev pub nextGroup : ℕ → ℕ
 nextGroup g = pick (ltb g GROUPS) (g + 1) GROUPS
 
@@ -24,11 +26,12 @@ nextGroup g = pick (ltb g GROUPS) (g + 1) GROUPS
 abbrev pub readyAfter : Cursor → At
 readyAfter c = at.Runs (point.Ready (c .group) (c .now) (c .pops))
 
--- a step is at its next question, or ended
+-- a step of a fixed actor is at its next question, or ended, and what it finished gets its marks
 abbrev pub fixedAfter : Cursor → FixedNext → At
 fixedAfter c (fixed.Asks a) = at.Asks (asks.Fixed c a)
 fixedAfter c (fixed.Ended s) = at.Runs (point.StepEnd c (end.Fixed s))
 
+-- a step of an eval actor is at its next question, or ended, and what it finished gets its marks
 abbrev pub evalAfter : Cursor → EvalNext → At
 evalAfter c (eval.Asks a) = at.Asks (asks.Eval c a)
 evalAfter c (eval.Ended p) = at.Runs (point.StepEnd c (end.Eval p))

@@ -20,21 +20,26 @@ use Rattle.points.specs.declared.words.PointKind.{PointKind}
 use Rattle.points.specs.declared.words.PointKind.the-variants as pointKind
 use Rattle.points.specs.declared.words.Where.{Where}
 
--- a key is below 256
+-- a key is below 256; any other number is read as 0
 abbrev pub keyOf : ℕ → ℕ
 keyOf n = pick (ltb n 256) n 0
 
+-- the step under way: its actor's group and key (0 if not below 256), the tick's clock, and the pops left to the group
 abbrev pub cursorOf : Where → Cursor
 cursorOf w = record { group = w .group; key = keyOf (w .key); now = w .now; pops = w .left }
 
+-- how the step ended, as words of its own: the number of the end, and the deadline of one that has it
 abbrev pub endOf : Where → StepWords
 endOf w = record { end = w .step; until = w .more }
 
 -- ---- the numbers of places: 0 is no turn, then the points, then the questions
 
+-- 0 is at rest, 1 to 12 a point, any other number a question
 unfoldable pub atKindOf : ℕ → AtKind
 atKindOf n = pick (eqb n 0) kind.Rest (pick (ltb n 13) kind.Runs kind.Asks)
 
+-- 1 to 11 are the points from Seed to AskTrap, with two for the end of a step, a fixed actor's and an eval one's;
+-- any other number is CrashTrapped
 unfoldable pub pointKindOf : ℕ → PointKind
 pointKindOf n =
     pick (eqb n 1) pointKind.Seed
@@ -50,6 +55,7 @@ pointKindOf n =
     (pick (eqb n 11) pointKind.AskTrap
     pointKind.CrashTrapped))))))))))
 
+-- 13 to 20 are the questions from SeedBoot to Trap, any other number is Trapped
 unfoldable pub askKindOf : ℕ → AskKind
 askKindOf n =
     pick (eqb n 13) askKind.SeedBoot
@@ -64,6 +70,7 @@ askKindOf n =
 
 -- ---- what they mean
 
+-- the question of this kind, with what a turn keeps at it taken from the words; their other parts play no role
 abbrev pub askBy : AskKind → Where → Ask
 askBy askKind.SeedBoot w = asks.SeedBoot (w .group)
 askBy askKind.RouteBoot w = asks.RouteBoot (w .group) (w .left)
@@ -75,9 +82,11 @@ askBy askKind.Sends w = asks.Sends (cursorOf w) (stepOf (endOf w))
 askBy askKind.Trap w = asks.Trap (cursorOf w)
 askBy askKind.Trapped w = asks.Trapped (cursorOf w) (keyOf (w .more))
 
+-- the question that the words mean, by the number of their place; any number but 13 to 20 is read as Trapped
 abbrev pub askOf : Where → Ask
 askOf w = askBy (askKindOf (w .place)) w
 
+-- the point of this kind, with what a turn keeps at it taken from the words; a step's end is one point for both modes
 abbrev pub pointBy : PointKind → Where → Point
 pointBy pointKind.Seed w = point.Seed (w .group)
 pointBy pointKind.Intake w = point.Intake (w .left)
@@ -92,13 +101,16 @@ pointBy pointKind.Crash w = point.Crash (cursorOf w)
 pointBy pointKind.AskTrap w = point.AskTrap (cursorOf w)
 pointBy pointKind.CrashTrapped w = point.CrashTrapped (cursorOf w) (w .more)
 
+-- the point that the words mean, by the number of their place; any number but 1 to 11 is read as CrashTrapped
 abbrev pub pointOf : Where → Point
 pointOf w = pointBy (pointKindOf (w .place)) w
 
+-- by the kind: at rest, whatever else the words say; at the question that they mean; or at the point that they mean
 abbrev pub atBy : AtKind → Where → At
 atBy kind.Rest w = at.Rest
 atBy kind.Asks w = at.Asks (askOf w)
 atBy kind.Runs w = at.Runs (pointOf w)
 
+-- where a turn stands by these words: at rest, at a question or at a point, with what it keeps there
 unfoldable pub atOf : Where → At
 atOf w = atBy (atKindOf (w .place)) w

@@ -31,11 +31,11 @@ use Rattle.answers.specs.declared.refusals.Check.the-variants as check
 use Rattle.answers.specs.Answers.{Did, logRefusal, refused}
 use Rattle.answers.specs.Refusals.{Lent, fileIn, logSized, judged, byTable, openRefusalsFirst, openRefusalsLogged}
 use Rattle.answers.proofs.RefusalLaws.{first-refuses, first-fine}
-use Rattle.pool.specs.Open.{limitsFrom, Tables, Found, PoolFilled, filledBy, noLeft, unopened, openedBy}
+use Rattle.pool.specs.Open.{limitsFrom, Tables, FillFrom, PoolFilled, filledBy, noLeft, unopened, openedBy}
 use Rattle.pool.specs.Open.{openEffect, openOf}
 
 -- the tables filled one by one, with the pool and the answer
-pub filled : (f : Found) (o : Order) (t : Tables) (groups links rows keys : Table) (p : Pool) (a : Answer)
+pub filled : (f : FillFrom) (o : Order) (t : Tables) (groups links rows keys : Table) (p : Pool) (a : Answer)
     → groups ≡ groupsFrom (f .settings .«max_actors») (t .groups) (f .given)
     → _≡_ {A = LeftPlaced} (record { links = links; rows = rows })
     (putLeft (startFrom 0 (length (t .links))) (t .rows) (f .left) 0 (f .counters .count))

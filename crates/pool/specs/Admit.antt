@@ -19,6 +19,7 @@ use Rattle.turn.specs.State.{State, walOf, withPool, withLog, withDisk}
 use Rattle.answers.specs.Answers.{Did, logRefusal, refused, shown, kept}
 use Rattle.answers.specs.Refusals.{judged, byTable, admitRefusals}
 
+-- the id that the next record gets
 abbrev pub nextId : State → LogId
 nextId s = record { 0 = s .pool .turn .counters .next }
 
@@ -37,6 +38,7 @@ recordedIn s name body d (logged.Ordered o) =
     INBOX)
 recordedIn s name body d (logged.Refused r) = refused (withLog s (d .wal .bytes) (d .wal .table)) (logRefusal r)
 
+-- the log was asked to append the message: it is in the inbox and its record ordered, or it is refused
 unfoldable pub recordedBy : State → List ℕ → List ℕ → log.DidAppend → Did
 recordedBy s name body d = recordedIn s name body d (d .answer)
 
@@ -49,9 +51,11 @@ unfoldable pub admitCalled : State → List ℕ → List ℕ → CallerId → Di
 admitCalled s name body who =
     shown (kept s (record { name = name; body = body; caller = caller.From who; id = id.Never }) INBOX)
 
+-- with a caller the message goes to the inbox alone; with nobody waiting it is logged, and goes there too
 abbrev pub admitEffect : State → List ℕ → List ℕ → Caller → Did
 admitEffect s name body (caller.From who) = admitCalled s name body who
 admitEffect s name body caller.Nobody = admitLogged s name body
 
+-- admit, of a name, a body and who waits for the outcome: refused by its table, or with its effect
 unfoldable pub admitOf : State → List ℕ → List ℕ → Caller → Did
 admitOf s name body who = byTable s (judged (admitRefusals s name body who)) (admitEffect s name body who)

@@ -32,9 +32,11 @@ abbrev pub firstPoint : Bool → At
 firstPoint true = at.Runs (point.Intake ENTRIES)
 firstPoint false = at.Runs (point.Seed 0)
 
+-- the pool as a turn begins: at its first point, with no actor stepped in it yet, and the first turn taken
 abbrev pub begunTurn : Pool → Pool
 begunTurn p = begunAt p (firstPoint (p .seeded))
 
+-- turn: refused by its table; else a turn begins, and runs up to a question, an order or its end
 unfoldable pub turnOf : State → Did
 turnOf s = byTable s (judged (turnRefusals (s .pool))) (runOf (withPool s (begunTurn (s .pool))))
 
@@ -53,10 +55,11 @@ storedIn reply.Told = stored.Other
 storedIn reply.Stored = stored.Stored
 storedIn reply.Failed = stored.Failed
 
--- the order is stored: the turn runs on, or its question is shown again; with no turn under way nothing is open then
+-- the order is stored: the disk is free, and all else is as it was
 abbrev pub freed : State → State
 freed s = withPool s (withDisk (s .pool) (s .pool .turn .counters) disk.Free)
 
+-- stored: the turn runs on, or its question is shown again; with no turn under way nothing is open then
 unfoldable pub storedOf : State → Did
 storedOf s = pick (inTurn (s .pool .turn .at)) (runOf (freed s)) (shown (freed s))
 
@@ -75,6 +78,7 @@ resumeIn s at.Rest r = s
 resumeIn s (at.Asks a) r = resumeOf s a r
 resumeIn s (at.Runs p) r = s
 
+-- the reply goes to the question at which the turn stands; where it stands at none, nothing changes
 unfoldable pub resumeAt : State → Reply → State
 resumeAt s r = resumeIn s (s .pool .turn .at) r
 
@@ -82,11 +86,13 @@ resumeAt s r = resumeIn s (s .pool .turn .at) r
 unfoldable pub resumedOf : State → Reply → Did
 resumedOf s r = runOf (resumeAt s r)
 
+-- stored and failed answer the order, a message that was sent goes to pending, any other answers the turn's question
 abbrev pub replyBy : State → Reply → List ℕ → List ℕ → StoredIn → Did
 replyBy s r name body stored.Stored = storedOf s
 replyBy s r name body stored.Failed = failedOf s
 replyBy s r name body stored.Other = pick (isMessage r) (collectSend s name body) (resumedOf s r)
 
+-- what an accepted reply does: it answers the order, brings a message that was sent, or answers the turn's question
 unfoldable pub replyEffect : State → Reply → List ℕ → List ℕ → Did
 replyEffect s r name body = replyBy s r name body (storedIn r)
 
@@ -96,6 +102,7 @@ replyOf s r name body = byTable s (judged (replyRefusals s r name body)) (replyE
 
 -- ---- sync, close
 
+-- an order that is due waits, and the log's counters are new; with none due the pool is as it was
 abbrev pub syncedIn : Pool → AnsweredDue → Due → Pool
 syncedIn p d (due.Ordered o) = withDisk p (d .counters) (disk.Waits o orderFor.Nothing)
 syncedIn p d due.Nothing = p
@@ -104,12 +111,15 @@ syncedIn p d due.Nothing = p
 unfoldable pub syncedBy : Pool → AnsweredDue → Pool
 syncedBy p d = syncedIn p d (d .due)
 
+-- the pool after a sync: if the log was dirty, a flush waits and dirty is no; else it is as it was
 unfoldable pub syncEffect : Pool → Pool
 syncEffect p = syncedBy p (log.syncLog (p .turn .counters))
 
+-- a flush is ordered, if the log is dirty, and the answer is what is open now
 abbrev pub syncDid : State → Did
 syncDid s = shown (withPool s (syncEffect (s .pool)))
 
+-- sync: refused by its table; else a flush is ordered, if one is due
 unfoldable pub syncOf : State → Did
 syncOf s = byTable s (judged (syncRefusals (s .pool))) (syncDid s)
 

@@ -25,6 +25,7 @@ use Rattle.answers.specs.declared.answer.Answer.the-variants as answer
 use Rattle.answers.specs.Answers.{Did, logRefusal, refused}
 use Rattle.answers.specs.Refusals.{Lent, judged, byTable, openRefusals}
 
+-- the limits of a pool: how many groups it has, and its settings but for max_actors, which is in the ceilings
 abbrev pub limitsFrom : Settings → ℕ → Limits
 limitsFrom s groups = record {
   groups = groups;
@@ -48,7 +49,7 @@ pub record Tables : Type 0 where
   pub keys : Table
 
 -- what they are filled from: the settings, and what the log left
-pub record Found : Type 0 where
+pub record FillFrom : Type 0 where
   pub settings : Settings
   pub given : Table
   pub left : Table
@@ -64,7 +65,7 @@ pub record PoolFilled : Type 0 where
   pub answer : Answer
 
 -- the order of the replace waits, and is shown
-abbrev pub filledWith : Found → Order → Tables → LeftPlaced → PoolFilled
+abbrev pub filledWith : FillFrom → Order → Tables → LeftPlaced → PoolFilled
 filledWith f o t p = record {
   groups = groupsFrom (f .settings .«max_actors») (t .groups) (f .given);
   links = p .links;
@@ -74,21 +75,24 @@ filledWith f o t p = record {
   answer = answer.Open (asked.Open (question.Store o));
 }
 
-unfoldable pub filledBy : Found → Order → Tables → PoolFilled
+-- lists with every entry free at first; then the messages left, as many as records are open, go to pending
+unfoldable pub filledBy : FillFrom → Order → Tables → PoolFilled
 filledBy f o t =
     filledWith f o t (putLeft (startFrom 0 (length (t .links))) (t .rows) (f .left) 0 (f .counters .count))
 
 -- ---- the opening
 
--- the messages left by the log: a table of 256 rows
+-- the table that the log fills with the rows of the messages left: 256 blank rows
 abbrev pub noLeft : Table
 noLeft = replicate RECORDS (0 ∷ 0 ∷ 0 ∷ [])
 
+-- the lent tables that an opening fills: groups, lists of messages, their rows, and keys
 abbrev pub tablesIn : Lent → Tables
 tablesIn l = record { groups = l .groups; links = l .links; rows = l .rows; keys = l .keys }
 
-abbrev pub foundBy : Lent → log.Opened → Found
-foundBy l o = record {
+-- the settings and groups as given, and the messages left and the counters as the log has them once opened
+abbrev pub fillFrom : Lent → log.Opened → FillFrom
+fillFrom l o = record {
   settings = l .settings;
   given = l .groupsGiven;
   left = o .left;
@@ -109,6 +113,7 @@ unopened l = record {
   actors = l .actors;
 }
 
+-- accepted: log, records and body store as the log left them, the other tables and the pool as filled; actors as lent
 abbrev pub openedWith : Lent → log.Opened → PoolFilled → Did
 openedWith l o f = record {
   state = record {
@@ -141,9 +146,10 @@ leftAlone l o = record {
 
 -- by what the log answered
 abbrev pub openedIn : Lent → log.Opened → of-log.Answer → Did
-openedIn l o (logged.Ordered order) = openedWith l o (filledBy (foundBy l o) order (tablesIn l))
+openedIn l o (logged.Ordered order) = openedWith l o (filledBy (fillFrom l o) order (tablesIn l))
 openedIn l o (logged.Refused r) = refused (leftAlone l o) (logRefusal r)
 
+-- the log was asked to open: the tables are filled and its replace is open, or the opening is refused
 unfoldable pub openedBy : Lent → log.Opened → Did
 openedBy l o = openedIn l o (o .step .answer)
 
@@ -151,5 +157,6 @@ openedBy l o = openedIn l o (o .step .answer)
 unfoldable pub openEffect : Lent → Did
 openEffect l = openedBy l (log.openLog (l .bytes) (l .size) (l .store) (l .records) noLeft)
 
+-- open: refused by its table, and then what was lent is as it was; else the log is opened, and the tables filled
 unfoldable pub openOf : Lent → Did
 openOf l = byTable (unopened l) (judged (openRefusals l)) (openEffect l)

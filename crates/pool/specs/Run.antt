@@ -17,6 +17,7 @@ unfoldable pub waitersFrom : Table → ℕ → Bool
 waitersFrom keys zero = false
 waitersFrom keys (suc g) = pick (ltb 0 (countOf (keysAt keys (waitingRow g)))) true (waitersFrom keys g)
 
+-- an actor was stepped in this turn, or pending is not empty
 unfoldable pub busyOf : Counts → Table → Bool
 busyOf n t = pick (n .stepped) true (ltb 0 (lenOf t PENDING))
 

@@ -19,6 +19,7 @@ reopenedBy (answer.Ordered (Replace n)) = Log n
 reopenedBy (answer.Ordered Flush) = Log 0
 reopenedBy (answer.Refused r) = Refused (logNumberOf r)
 
+-- the lent log after it was opened, and the length of the new log or the number of the refusal
 pub record Reopening : Type 0 where
   pub log : List ℕ
   pub answer : Reopened
@@ -28,6 +29,7 @@ unfoldable pub freshly : List ℕ → ℕ → Opened
 freshly log n =
     openLog log n (replicate STORE 0) (replicate RECORDS (0 ∷ 0 ∷ 0 ∷ [])) (replicate RECORDS (0 ∷ 0 ∷ 0 ∷ []))
 
+-- what a lent log becomes when its first n bytes are opened, and the answer; store and tables are not kept
 abbrev pub reopenOf : List ℕ → ℕ → Reopening
 reopenOf log n = record { log = freshly log n .log; answer = reopenedBy (freshly log n .step .answer) }
 

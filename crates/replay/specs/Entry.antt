@@ -61,6 +61,7 @@ outputTables show d x =
     (x .keys))
     (x .actors))
 
+-- the six tables of a state: open records, groups, links, messages, lists of keys, actors
 abbrev pub shownTables : State → ShownTables
 shownTables s = record {
   records = s .records;

@@ -29,6 +29,7 @@ use Rattle.replay.specs.Entry.{outputEntry}
 
 -- ---- calls
 
+-- the call of a kind: an admit and a reply have the name and the body, turn, sync and close ignore them
 abbrev pub decodedAs : Kind → List ℕ → List ℕ → Call
 decodedAs (kind.Admit who) name body = admit name body who
 decodedAs kind.Turn name body = turn
@@ -46,10 +47,12 @@ pub data Calls : Type 0 where
   malformed : Calls
   next : Call → Calls → Calls
 
+-- where a call ends, and the next one may begin; 0 of a malformed one
 abbrev pub callEnd : CallRead → ℕ
 callEnd call.Malformed = 0
 callEnd (call.Next c) = c .end
 
+-- a call that could be read, and then the rest; a malformed one ends the calls, and the rest is not looked at
 abbrev pub follows : List ℕ → CallRead → Calls → Calls
 follows s call.Malformed rest = malformed
 follows s (call.Next c) rest = next (decoded s c) rest
@@ -67,9 +70,11 @@ pub record Played : Type 0 where
   pub store : List ℕ
   pub output : Output
 
+-- what a script has left: this log, this store and this output
 abbrev pub played : List ℕ → List ℕ → Output → Played
 played bytes store d = record { bytes = bytes; store = store; output = d }
 
+-- nothing more is run: log and store are those of the state, and the output is as far as it got
 abbrev pub stopped : State → Output → Played
 stopped s d = played (s .bytes) (s .store) d
 
@@ -121,6 +126,7 @@ playOpened show s start did d =
     (play show (did .state) (outputEntry show d did) (callsAt (length s) s start))
     (stopped (did .state) (outputEntry show d did))
 
+-- a script with a header and lengths that are right: the opening on what it gives, then, if accepted, its calls
 abbrev pub playFrom : List ℕ → Header → List ℕ → List ℕ → Output → Played
 playFrom s h bytes store d =
     playOpened (h .show) s (h .file + h .n) (openOf (lentBy s h bytes store)) d
@@ -133,6 +139,7 @@ playHeaded s (header.Fields h) bytes store d =
     (pick (eqb (length store) (h .stored)) (playFrom s h bytes store d) (played bytes store (coded d 3)))
     (played bytes store (coded d 3))
 
+-- a whole script, run where its header is right and log and store have the lengths that it says
 unfoldable pub playScript : List ℕ → List ℕ → List ℕ → Output → Played
 playScript s bytes store d = playHeaded s (headerOf s) bytes store d
 
@@ -145,6 +152,7 @@ pub record Replayed : Type 0 where
   pub out : List ℕ
   pub code : ℕ
 
+-- log, store and output as they are left, with the number returned
 abbrev pub replayed : List ℕ → List ℕ → List ℕ → ℕ → Replayed
 replayed bytes store out code = record { bytes = bytes; store = store; out = out; code = code }
 

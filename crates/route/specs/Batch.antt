@@ -29,7 +29,7 @@ use Rattle.route.specs.declared.batch.Routed as words
 use Rattle.route.specs.Intake.{Linked}
 use Rattle.points.specs.Words.{atOf}
 
--- where the turn stands then, and the new counts
+-- where the turn stands then, and the new queued
 pub record Routed : Type 0 where
   pub at : At
   pub queued : ℕ
@@ -45,15 +45,17 @@ pub record RoutedTables : Type 0 where
   pub actors : Table
   pub routed : Routed
 
--- the groups that are loaded, how many, and the body store, which has the names in messages
+-- the table of groups, how many of its rows are groups, and the body store, which has the names in messages
 pub record Programs : Type 0 where
   pub groups : Table
   pub count : ℕ
   pub store : List ℕ
 
+-- this table of groups, how many of its rows are groups, and this body store
 abbrev pub programs : Table → ℕ → List ℕ → Programs
 programs groups count store = record { groups = groups; count = count; store = store }
 
+-- the turn stands there, with so many messages in mailboxes
 abbrev pub routedTo : At → ℕ → Routed
 routedTo a queued = record { at = a; queued = queued }
 
@@ -81,6 +83,7 @@ unfoldable pub deliverTo : Table → ℕ → ℕ → Mailed
 deliverTo t slot queued =
     mailed (moveFirst t BATCH (mailboxOf slot)) (queuedAfter t (moveFirst t BATCH (mailboxOf slot)) slot queued)
 
+-- the lists, queued, keys and actors after a delivery; the turn routes on, with one message less to go
 abbrev pub deliveredBy : Mailed → Keyed → ℕ → RoutedTables
 deliveredBy m k left =
     record {
@@ -111,6 +114,7 @@ abbrev pub spawnedSent : Table → TurnTables → ℕ → ℕ → Key → Routed
 spawnedSent rows x g left (key.At k) = deliver x g k left
 spawnedSent rows x g left key.Nothing = routeLeast rows x g left
 
+-- with keys and actors as the spawn left them: to the new actor; where none was spawned, to the least loaded
 abbrev pub spawnSent : Table → Mailed → ℕ → ℕ → Spawned → RoutedTables
 spawnSent rows m g left s = spawnedSent rows (turnTables (m .links) (s .keys) (s .actors) (m .queued)) g left (s .key)
 
@@ -154,13 +158,16 @@ routeOne p rows x entry left =
 
 -- ---- the batch's first message, or the tick where none is left
 
+-- routing has ended: Clock is asked for the tick, and nothing else changes
 abbrev pub clockNext : TurnTables → RoutedTables
 clockNext x = sameTo x (at.Asks asks.TickClock)
 
+-- the batch's first message is routed; where the batch has none, Clock is asked for the tick
 abbrev pub routeFirst : Programs → Table → TurnTables → ℕ → Found → RoutedTables
 routeFirst p rows x left (found.Entry e) = routeOne p rows x e left
 routeFirst p rows x left found.Nothing = clockNext x
 
+-- one message of the batch is routed, its first; with none left to route, or none in it, Clock is asked for the tick
 unfoldable pub routeOf : Programs → Table → TurnTables → ℕ → RoutedTables
 routeOf p rows x left = pick (eqb left 0) (clockNext x) (routeFirst p rows x left (firstOf (x .links) BATCH))
 
@@ -169,10 +176,12 @@ unfoldable pub routeBooted : Table → TurnTables → ℕ → ℕ → Bool → R
 routeBooted rows x g left true = routeSpawned rows x g false left
 routeBooted rows x g left false = routeLeast rows x g left
 
+-- Boot yes: an actor is spawned for it; no: to the least loaded; any other reply: nothing changes, and Boot stays open
 abbrev pub routeBy : Table → TurnTables → ℕ → ℕ → YesIn → RoutedTables
 routeBy rows x g left yes.Yes = routeBooted rows x g left true
 routeBy rows x g left yes.No = routeBooted rows x g left false
 routeBy rows x g left yes.Other = sameTo x (at.Asks (asks.RouteBoot g left))
 
+-- the reply to the Boot that routing asked of group g; one that is neither yes nor no leaves it open
 unfoldable pub routeReply : Table → TurnTables → ℕ → ℕ → Reply → RoutedTables
 routeReply rows x g left r = routeBy rows x g left (yesIn r)

@@ -11,9 +11,11 @@ pub record Linked : Type 0 where
   pub links : Table
   pub at : At
 
+-- how many messages of a batch of n are to be routed: n, but at most 256
 abbrev pub batchSize : ℕ → ℕ
 batchSize n = pick (ltb n ENTRIES) n ENTRIES
 
+-- all of pending goes to the end of the batch, in its order, and the batch is to be routed, at most 256 messages
 unfoldable pub batchOf : Table → Linked
 batchOf t =
     record {

@@ -22,9 +22,11 @@ pub record Seeded : Type 0 where
   pub actors : Table
   pub at : At
 
+-- these key lists and actors, and the turn stands there
 abbrev pub seededTo : Table → Table → At → Seeded
 seededTo keys actors a = record { keys = keys; actors = actors; at = a }
 
+-- the key lists and actors after a spawn, and the turn stands there
 abbrev pub spawnedTo : Spawned → At → Seeded
 spawnedTo s a = record { keys = s .keys; actors = s .actors; at = a }
 
@@ -42,10 +44,12 @@ unfoldable pub seedBooted : Table → Table → ℕ → Bool → Seeded
 seedBooted keys actors g true = spawnedTo (spawnOf keys actors g false) (at.Runs (point.Seed (nextGroup g)))
 seedBooted keys actors g false = seededTo keys actors (at.Runs (point.Seed (nextGroup g)))
 
+-- Boot yes: a spawn, and the next group; no: the next group; any other reply: nothing changes, and Boot stays open
 abbrev pub seedBy : Table → Table → ℕ → YesIn → Seeded
 seedBy keys actors g yes.Yes = seedBooted keys actors g true
 seedBy keys actors g yes.No = seedBooted keys actors g false
 seedBy keys actors g yes.Other = seededTo keys actors (at.Asks (asks.SeedBoot g))
 
+-- the reply to the Boot of group g's seed; one that is neither yes nor no leaves it open
 unfoldable pub seedReply : Table → Table → ℕ → Reply → Seeded
 seedReply keys actors g r = seedBy keys actors g (yesIn r)

@@ -8,9 +8,11 @@ use Rattle.log.specs.Opening.{NAME}
 use Rattle.lists.specs.Links.{pick, Table, ENTRIES, GROUPS, KEYS}
 use Rattle.settings.specs.declared.ranges.Settings.{Settings}
 
+-- n is in a range: at least `least`, and at most `most`
 unfoldable pub within : ℕ → ℕ → ℕ → Bool
 within least n most = pick (ltb n least) false (leb n most)
 
+-- every number of the list is a byte, at most 255
 unfoldable pub allBytes : List ℕ → Bool
 allBytes [] = true
 allBytes (b ∷ bs) = pick (ltb 255 b) false (allBytes bs)
@@ -23,6 +25,7 @@ rowFits row =
     (pick (ltb 86400 (getD row 2 0)) false
     (pick (ltb 255 (getD row 3 0)) false (pick (ltb NAME (getD row 4 0)) false (allBytes (drop 5 row))))))
 
+-- every group's settings are in their ranges
 unfoldable pub rowsFit : Table → Bool
 rowsFit [] = true
 rowsFit (row ∷ rows) = rowFits row && rowsFit rows

@@ -8,6 +8,7 @@ use Rattle.actor.specs.declared.message.Logged.the-variants as logged
 use Rattle.actor.specs.declared.message.Message.{Message}
 use Rattle.actor.specs.Messages.{putMessage}
 
+-- the lists of messages and the messages' rows, with what the log left put into them
 pub record LeftPlaced : Type 0 where
   pub links : Table
   pub rows : Table

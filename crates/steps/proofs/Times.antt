@@ -15,7 +15,7 @@ use Rattle.steps.specs.declared.eval.EvalAsk.the-variants as ask
 use Rattle.steps.specs.declared.eval.EvalNext.the-variants as next
 use Rattle.steps.specs.declared.eval.Limit.{Limit}
 use Rattle.actor.specs.Messages.{messageAt}
-use Rattle.actor.specs.Actors.{actorOf, actorOnto, actorCells, actorAt, putActor, deadlineOf}
+use Rattle.actor.specs.Actors.{actorOf, actorOnto, actorAt, putActor, deadlineOf}
 use Rattle.steps.specs.Steps.{callerFirst}
 use Rattle.steps.specs.StepEval.{deadlineFrom, evalTell, evalFinish, evalClocked, evalStarted, evalClockReply}
 use Rattle.steps.specs.StepEval.{startReply, stepEval}
@@ -57,7 +57,7 @@ deadline-exact c limit low day = (exact, omega (arith, exact, whole-fits (limit 
 deadlines-hold : allTrue deadlines ≡ true
 unfolding allTrue deadlines begun asked stepEval startReply evalStarted evalClockReply evalClocked evalFinish evalTell
     deadlineFrom capped moveFirst startFrom leaveOf joinEnd setEnds setNext linkAt handOf mailboxOf callerFirst
-    messageAt putActor actorAt actorOf actorOnto actorCells
+    messageAt putActor actorAt actorOf actorOnto
 deadlines-hold = refl
 
 both-hold : (a b : List Bool) → allTrue a ≡ true → allTrue b ≡ true → allTrue (a ++ b) ≡ true

@@ -13,7 +13,7 @@ use Rattle.steps.specs.declared.fixed.FixedKind.the-variants as fixes
 use Rattle.steps.specs.declared.eval.EvalKind.{EvalKind}
 use Rattle.steps.specs.declared.eval.EvalKind.the-variants as evals
 use Rattle.steps.specs.Words.{parkedKindOf, parkedOf, stepKindOf, stepOf}
-use Rattle.steps.specs.Words.{fixedNumber, fixedKindOf, evalNumber, evalKindOf, outcomeCell, outcomeOf}
+use Rattle.steps.specs.Words.{fixedNumber, fixedKindOf, evalNumber, evalKindOf, outcomeWord, outcomeOf}
 
 pub fixed-kind : (k : FixedKind) → fixedKindOf (fixedNumber k) ≡ k
 unfolding fixedKindOf
@@ -49,7 +49,7 @@ eval-open evals.Resume = refl
 eval-open evals.Dispatch = refl
 eval-open evals.Tell = refl
 
-pub outcome-kind : (o : Outcome) → outcomeOf (outcomeCell o) ≡ o
+pub outcome-kind : (o : Outcome) → outcomeOf (outcomeWord o) ≡ o
 unfolding outcomeOf
 outcome-kind outcome.Ran = refl
 outcome-kind outcome.Unbooted = refl

@@ -19,7 +19,7 @@ use Rattle.steps.specs.declared.eval.EvalNext.{EvalNext}
 use Rattle.steps.specs.declared.eval.EvalNext.the-variants as next
 use Rattle.steps.specs.declared.eval.Limit.{Limit}
 use Rattle.actor.specs.Messages.{messageCells}
-use Rattle.actor.specs.Actors.{actorCells, actorAt, newActor, deadlineOf}
+use Rattle.actor.specs.Actors.{actorOnto, actorAt, newActor, deadlineOf}
 use Rattle.steps.specs.StepEval.{EvalBoth, stepEval}
 use Rattle.steps.specs.Steps.{stepTables}
 
@@ -33,6 +33,7 @@ isLate outcome.Late = true
 isLate outcome.StuckHostCall = false
 isLate outcome.StuckReceive = false
 
+-- the question is Tell, with the outcome late
 abbrev pub asksLate : EvalAsk → Bool
 asksLate ask.Clock = false
 asksLate ask.Boot = false
@@ -41,6 +42,7 @@ asksLate (ask.Run start) = false
 asksLate ask.Dispatch = false
 asksLate (ask.Tell o) = isLate o
 
+-- the step goes on with Tell, and the outcome is late
 abbrev pub tellsLate : EvalNext → Bool
 tellsLate (next.Asks a) = asksLate a
 tellsLate (next.Ended p) = false
@@ -54,6 +56,7 @@ asksResume (ask.Run start) = pick start false true
 asksResume ask.Dispatch = false
 asksResume (ask.Tell o) = false
 
+-- the step goes on with Run, and the run is resumed
 abbrev pub resumes : EvalNext → Bool
 resumes (next.Asks a) = asksResume a
 resumes (next.Ended p) = false
@@ -79,15 +82,17 @@ rows =
     ∷ []
 
 abbrev actors : Table
-actors = actorCells (newActor mode.Eval) ∷ []
+actors = actorOnto [] (newActor mode.Eval) ∷ []
 
 -- its run is started at clock 100, and later the clock is asked again
 unfoldable pub begun : EvalBoth
 begun = stepEval (stepTables links rows actors) 0 limit ask.StartClock (reply.Clock 100)
 
+-- what Clock of that run, answered c, leads to
 unfoldable pub asked : ℕ → EvalNext
 asked c = stepEval (stepTables (begun .links) rows (begun .actors)) 0 limit ask.Clock (reply.Clock c) .next
 
+-- row end 8: the deadline is 900,000,100; with this clock the caller is told late, with one less the run is resumed
 unfoldable pub deadlines : List Bool
 deadlines =
     eqb (deadlineOf (actorAt (begun .actors) 0 .run)) 900000100

@@ -49,12 +49,13 @@ pub record EvalStarted : Type 0 where
   pub actors : Table
   pub step : EvalStep
 
+-- what a reply in an eval step changes, and what comes next; queued is as it was
 pub record EvalBoth : Type 0 where
   pub links : Table
   pub actors : Table
   pub next : EvalNext
 
--- the clock, and the timeout in whole ticks of it; a timeout past a day gives no time
+-- the clock, and the timeout in whole ticks of it, up to the largest number; a timeout past a day gives no time
 unfoldable pub deadlineFrom : ℕ → Limit → ℕ
 deadlineFrom c limit =
     pick (ltb 86400 (limit .timeout)) c (capped (c + limit .timeout * 1000000000 / limit .tick * limit .tick))
@@ -79,13 +80,14 @@ evalStart t l slot queued =
     (record { links = t; actors = l; step = record { next = next.Asks ask.Clock; queued = queued } })
     (evalMail (takeMail t l slot queued))
 
--- the message in the step's hand is over; the next one starts on a later step
+-- the step ends: without mail waiting, and the actor is idle; with mail by yield, so that a later step starts the next
 abbrev pub nextRun : Table → Table → ℕ → EvalBoth
 nextRun t l slot =
     pick (eqb (lenOf t (mailboxOf slot)) 0)
     (record { links = t; actors = idledAt l slot; next = next.Ended parked.Waiting })
     (record { links = t; actors = l; next = next.Ended parked.Yield })
 
+-- the message in the step's hand is over, and the step ends: waiting and idle without mail, with mail yield
 unfoldable pub evalOver : StepTables → ℕ → EvalBoth
 evalOver x slot = nextRun (overFirst (x .links) (x .rows) HAND) (x .actors) slot
 
@@ -94,6 +96,7 @@ abbrev pub evalTold : StepTables → ℕ → Outcome → Caller → EvalBoth
 evalTold x slot o (From id) = record { links = x .links; actors = x .actors; next = next.Asks (ask.Tell o) }
 evalTold x slot o Nobody = evalOver x slot
 
+-- with an outcome, its message in the step's hand: Tell is asked, or with nobody waiting the message is over at once
 unfoldable pub evalTell : StepTables → ℕ → Outcome → EvalBoth
 evalTell x slot o = evalTold x slot o (callerFirst (x .rows) (firstOf (x .links) HAND))
 
@@ -154,39 +157,50 @@ evalDispatched x slot n =
 abbrev pub still : Table → Table → EvalAsk → EvalBoth
 still t l a = record { links = t; actors = l; next = next.Asks a }
 
+-- a clock ends the run, late, or lets it resume; any other reply leaves Clock open
 abbrev pub evalClockBy : StepTables → ℕ → ClockIn → EvalBoth
 evalClockBy x slot (clock.Of ns) = evalClocked x slot ns
 evalClockBy x slot clock.Other = still (x .links) (x .actors) ask.Clock
 
+-- after yes Clock of the start is asked, after no the outcome is unbooted; any other reply leaves Boot open
 abbrev pub bootBy : StepTables → ℕ → YesIn → EvalBoth
 bootBy x slot yes.Yes = evalBooted x slot true
 bootBy x slot yes.No = evalBooted x slot false
 bootBy x slot yes.Other = still (x .links) (x .actors) ask.Boot
 
+-- with a clock the run begins; any other reply leaves Clock of the start open
 abbrev pub startBy : Table → Table → ℕ → Limit → ClockIn → EvalBoth
 startBy t l slot limit (clock.Of ns) = evalStarted t l slot limit ns
 startBy t l slot limit clock.Other = still t l ask.StartClock
 
+-- a status ends the run, ends the step with yield, or leads to Dispatch; any other reply leaves the same Run open
 abbrev pub evalRunBy : StepTables → ℕ → Bool → RanIn → EvalBoth
 evalRunBy x slot start (ran.Of s) = evalRan x slot s
 evalRunBy x slot start ran.Other = still (x .links) (x .actors) (ask.Run start)
 
+-- a count above 0 ends the step, blocked until the run's deadline, and 0 ends the run, stuck in a host call; any other
+-- reply leaves Dispatch open
 abbrev pub evalDispatchBy : StepTables → ℕ → CountIn → EvalBoth
 evalDispatchBy x slot (count.Of n) = evalDispatched x slot n
 evalDispatchBy x slot count.Other = still (x .links) (x .actors) ask.Dispatch
 
+-- what a reply to Clock of a run under way leads to; only a clock changes anything
 unfoldable pub evalClockReply : StepTables → ℕ → Reply → EvalBoth
 evalClockReply x slot r = evalClockBy x slot (clockIn r)
 
+-- what a reply to Boot of a message leads to; only yes and no change anything
 unfoldable pub bootReply : StepTables → ℕ → Reply → EvalBoth
 bootReply x slot r = bootBy x slot (yesIn r)
 
+-- what a reply to Clock at the start of a run leads to; only a clock changes anything
 unfoldable pub startReply : Table → Table → ℕ → Limit → Reply → EvalBoth
 startReply t l slot limit r = startBy t l slot limit (clockIn r)
 
+-- what a reply to Run of an eval actor leads to, be it to start or resume; only a status changes anything
 unfoldable pub evalRunReply : StepTables → ℕ → Bool → Reply → EvalBoth
 evalRunReply x slot start r = evalRunBy x slot start (ranIn r)
 
+-- what a reply to Dispatch of an eval actor leads to; only a count changes anything
 unfoldable pub evalDispatchReply : StepTables → ℕ → Reply → EvalBoth
 evalDispatchReply x slot r = evalDispatchBy x slot (countIn r)
 
@@ -194,6 +208,7 @@ evalDispatchReply x slot r = evalDispatchBy x slot (countIn r)
 unfoldable pub tellReply : StepTables → ℕ → Outcome → Reply → EvalBoth
 tellReply x slot o r = pick (isTold r) (evalOver x slot) (still (x .links) (x .actors) (ask.Tell o))
 
+-- from the open question of an eval step, and a reply to it, to the next question or the step's end
 unfoldable pub stepEval : StepTables → ℕ → Limit → EvalAsk → Reply → EvalBoth
 stepEval x slot limit ask.Clock r = evalClockReply x slot r
 stepEval x slot limit ask.Boot r = bootReply x slot r
@@ -204,14 +219,18 @@ stepEval x slot limit (ask.Tell o) r = tellReply x slot o r
 
 -- ---- the question that is open, as it is shown; Run shows the message of a start, which is the program
 
+-- the message that Run shows: at a start the first one in the actor's hand, at a resume none
 unfoldable pub evalShown : Table → Who → Bool → Found
 evalShown t who true = firstOf t (handOf (slotOf who))
 evalShown t who false = found.Nothing
 
+-- Tell, of the caller and with the outcome; with nobody waiting nothing is open
 abbrev pub askTell : Caller → Outcome → Asked
 askTell (From id) o = asked.Open (question.Tell id o)
 askTell Nobody o = asked.Nothing
 
+-- the open question of an eval step as the host sees it: Clock looks the same for a start and a run under way, and Tell
+-- is asked of the caller of the message in the step's hand
 unfoldable pub evalAsks : Table → Table → Who → EvalAsk → Asked
 evalAsks t rows who ask.Clock = asked.Open question.Clock
 evalAsks t rows who ask.Boot = asked.Open (question.Boot (who .group))
@@ -222,5 +241,6 @@ evalAsks t rows who (ask.Tell o) = askTell (callerFirst rows (firstOf t HAND)) o
 
 -- ---- a step as code hands it on
 
+-- what comes next, by its words, and the new queued
 abbrev pub evalStepOf : words.EvalStep → EvalStep
 evalStepOf w = record { next = evalNextOf (w .next); queued = w .queued }

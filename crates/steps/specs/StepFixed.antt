@@ -40,10 +40,12 @@ pub record FixedActors : Type 0 where
   pub actors : Table
   pub ask : FixedAsk
 
+-- what a reply to Run or Dispatch changes, and what comes next; actors and queued are as they were
 pub record FixedLinks : Type 0 where
   pub links : Table
   pub next : FixedNext
 
+-- what any reply in a fixed step changes, what comes next, and the new queued
 pub record FixedBoth : Type 0 where
   pub links : Table
   pub actors : Table
@@ -57,7 +59,7 @@ fixedStart l slot =
       ask = pick (actorAt l slot .started) (ask.Run false) (ask.Run true);
     }
 
--- it raised, or its interpreter broke: the message that it was at goes to the step's hand
+-- it raised, its interpreter broke, or it is stuck in a host call: the message that it was at goes to the step's hand
 unfoldable pub fixedFailed : Table → ℕ → FixedLinks
 fixedFailed t slot = record { links = moveFirst t (handOf slot) HAND; next = next.Ended end.Failed }
 
@@ -120,34 +122,43 @@ fixedDispatched t slot n =
 
 -- ---- from a question and its reply to the next; a reply that does not fit changes nothing
 
+-- a status ends the step, or leads to Drain or Dispatch; any other reply leaves the same Run open
 abbrev pub runBy : Table → Table → ℕ → Bool → RanIn → FixedLinks
 runBy t rows slot start (ran.Of s) = fixedRan t rows slot s
 runBy t rows slot start ran.Other = record { links = t; next = next.Asks (ask.Run start) }
 
+-- a count above 0 leads to Run, and 0 to Push or, without mail, to waiting; any other reply leaves Drain open
 abbrev pub drainBy : Table → Table → ℕ → ℕ → CountIn → FixedBoth
 drainBy t l slot queued (count.Of n) = fixedDrained t l slot queued n
 drainBy t l slot queued count.Other =
     record { links = t; actors = l; step = record { next = next.Asks ask.Drain; queued = queued } }
 
+-- after yes the actor has the message and is resumed, after no the mailbox has it again and the step ends waiting; any
+-- other reply leaves Push open
 abbrev pub pushBy : Table → Table → ℕ → ℕ → YesIn → FixedBoth
 pushBy t l slot queued yes.Yes = fixedPushed t l slot queued true
 pushBy t l slot queued yes.No = fixedPushed t l slot queued false
 pushBy t l slot queued yes.Other =
     record { links = t; actors = l; step = record { next = next.Asks ask.Push; queued = queued } }
 
+-- a count above 0 ends the step blocked, with no deadline, and 0 failed; any other reply leaves Dispatch open
 abbrev pub dispatchBy : Table → ℕ → CountIn → FixedLinks
 dispatchBy t slot (count.Of n) = fixedDispatched t slot n
 dispatchBy t slot count.Other = record { links = t; next = next.Asks ask.Dispatch }
 
+-- what a reply to Run of a fixed actor leads to, be it to start or resume; only a status changes anything
 unfoldable pub runReply : Table → Table → ℕ → Bool → Reply → FixedLinks
 runReply t rows slot start r = runBy t rows slot start (ranIn r)
 
+-- what a reply to Drain leads to; only a count changes anything
 unfoldable pub drainReply : Table → Table → ℕ → ℕ → Reply → FixedBoth
 drainReply t l slot queued r = drainBy t l slot queued (countIn r)
 
+-- what a reply to Push leads to; only yes and no change anything
 unfoldable pub pushReply : Table → Table → ℕ → ℕ → Reply → FixedBoth
 pushReply t l slot queued r = pushBy t l slot queued (yesIn r)
 
+-- what a reply to Dispatch of a fixed actor leads to; only a count changes anything
 unfoldable pub dispatchReply : Table → ℕ → Reply → FixedLinks
 dispatchReply t slot r = dispatchBy t slot (countIn r)
 
@@ -155,6 +166,7 @@ dispatchReply t slot r = dispatchBy t slot (countIn r)
 abbrev pub keptFixed : Table → ℕ → FixedLinks → FixedBoth
 keptFixed l queued f = record { links = f .links; actors = l; step = record { next = f .next; queued = queued } }
 
+-- from the open question of a fixed step, and a reply to it, to the next question or the step's end
 unfoldable pub stepFixed : StepTables → ℕ → ℕ → FixedAsk → Reply → FixedBoth
 stepFixed x slot queued (ask.Run start) r =
     keptFixed (x .actors) queued (runReply (x .links) (x .rows) slot start r)
@@ -164,6 +176,7 @@ stepFixed x slot queued ask.Dispatch r = keptFixed (x .actors) queued (dispatchR
 
 -- ---- the question that is open, as it is shown; Run of a fixed actor shows no message
 
+-- the open question of a fixed step as the host sees it; Push shows the first message in the step's hand
 unfoldable pub fixedAsks : Table → Who → FixedAsk → Asked
 fixedAsks t who (ask.Run start) = asked.Open (question.Run who start found.Nothing)
 fixedAsks t who ask.Drain = asked.Open (question.Drain who)
@@ -172,5 +185,6 @@ fixedAsks t who ask.Dispatch = asked.Open (question.Dispatch who)
 
 -- ---- a step as code hands it on
 
+-- what comes next, by its words, and the new queued
 abbrev pub fixedStepOf : words.FixedStep → FixedStep
 fixedStepOf w = record { next = fixedNextOf (w .next); queued = w .queued }

@@ -19,6 +19,7 @@ pub record StepTables : Type 0 where
   pub rows : Table
   pub actors : Table
 
+-- these lists, rows and actors together, as a step works on them
 abbrev pub stepTables : Table → Table → Table → StepTables
 stepTables t rows l = record { links = t; rows = rows; actors = l }
 
@@ -27,10 +28,12 @@ abbrev pub placeLogged : Logged → ℕ
 placeLogged (As id) = OVER
 placeLogged Never = FREE
 
+-- the list for a message that is over, by the row of its entry; the free one where there is no message
 unfoldable pub placeOver : Table → Found → ℕ
 placeOver rows (Entry e) = placeLogged (messageAt rows e .id)
 placeOver rows Nothing = FREE
 
+-- who waits for the outcome of a message, by the row of its entry; nobody where there is no message
 unfoldable pub callerFirst : Table → Found → Caller
 callerFirst rows (Entry e) = messageAt rows e .caller
 callerFirst rows Nothing = Nobody
@@ -39,9 +42,11 @@ callerFirst rows Nothing = Nobody
 unfoldable pub overFirst : Table → Table → ℕ → Table
 overFirst t rows from = moveFirst t from (placeOver rows (firstOf t from))
 
+-- the actor of a slot becomes idle; a slot past the table changes nothing
 unfoldable pub idledAt : Table → ℕ → Table
 idledAt actors slot = putActor actors slot (idledAs (actorAt actors slot))
 
+-- what taking mail changes, whether there was any, and the new queued
 pub record MailTaken : Type 0 where
   pub links : Table
   pub actors : Table

@@ -25,7 +25,7 @@ ghost use Rattle.steps.specs.StepEval.{
   evalAsks,
   evalStepOf,
 };
-ghost use Rattle.steps.specs.Words.{parkedOf, evalNumber, evalKindOf, outcomeCell, outcomeOf};
+ghost use Rattle.steps.specs.Words.{parkedOf, evalNumber, evalKindOf, outcomeWord, outcomeOf};
 ghost use Rattle.steps.specs.Words.{evalAskOf, evalNextOf};
 ghost use Rattle.steps.specs.Steps.{stepTables};
 use crate::step;
@@ -155,7 +155,7 @@ pub fn kind_of(ask: u64) -> EvalKind
 
 // The number of an outcome.
 fn outcome_number(o: Outcome) -> u64
-    ensures { λ r. ⌜ r ≡ outcomeCell o ⌝ }
+    ensures { λ r. ⌜ r ≡ outcomeWord o ⌝ }
 {
     match o {
         Outcome::Ran => 0,

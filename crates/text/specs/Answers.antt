@@ -15,6 +15,7 @@ use Rattle.text.specs.declared.escape.Measure.the-variants.{Len, Over}
 use Rattle.text.specs.declared.line.LineKind.{LineKind}
 use Rattle.text.specs.declared.line.LineKind.the-variants.{Put, Done, Other}
 
+-- what reading a text as an id answers: the number, or that it is no id
 abbrev pub idOf : Option ℕ → IdRead
 idOf none = Not
 idOf (some n) = Is n
@@ -47,10 +48,12 @@ pub record FirstFrom (text : List ℕ) (start sep place : ℕ) : Type 0 where
   pub within : place ≤ length text
   pub first : First (drop start text) sep (place - start)
 
+-- a line of one field: with an id it says that the id is done, else nothing
 abbrev pub doneKind : IdRead → LineKind
 doneKind (Is id) = Done id
 doneKind Not = Other
 
+-- a line of three fields: with an id it is a record whose name stands from a to b and body from c to d, else nothing
 abbrev pub putKind : IdRead → ℕ → ℕ → ℕ → ℕ → LineKind
 putKind (Is id) a b c d = Put id a b c d
 putKind Not a b c d = Other
@@ -67,6 +70,7 @@ lineKindIn (a ∷ b ∷ c ∷ []) =
     putKind (idOf (readId a)) name (name + length b) body (body + length c)
 lineKindIn (a ∷ b ∷ c ∷ d ∷ rest) = Other
 
+-- what a line, given without its LF, says; of a record, with the places of its name and body in the line
 unfoldable pub lineKind : List ℕ → LineKind
 lineKind text = lineKindIn (fields text)
 

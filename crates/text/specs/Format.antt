@@ -11,18 +11,23 @@ use lib.Dec.{eqb, leb, ltb}
 abbrev pub TAB : ℕ
 TAB = 9
 
+-- the byte that ends a line
 abbrev pub LF : ℕ
 LF = 10
 
+-- the digit 0; the digits 1 to 9 are the nine bytes after it
 abbrev pub DIGIT0 : ℕ
 DIGIT0 = 48
 
+-- the byte that an escape begins with
 abbrev pub BACKSLASH : ℕ
 BACKSLASH = 92
 
+-- the byte that stands for LF after a backslash
 abbrev pub LETTER-n : ℕ
 LETTER-n = 110
 
+-- the byte that stands for TAB after a backslash
 abbrev pub LETTER-t : ℕ
 LETTER-t = 116
 
@@ -38,6 +43,7 @@ escapeByte b = elim (eqb b BACKSLASH) [
       ]
 ]
 
+-- a text escaped byte by byte, as a name or body is written
 unfoldable pub escape : List ℕ → List ℕ
 escape [] = []
 escape (b ∷ bs) = escapeByte b ++ escape bs
@@ -77,6 +83,7 @@ decimal high (b ∷ bs) = elim (leb DIGIT0 b) [
       elim (ltb b (DIGIT0 + 10)) [ false ↦ none | true ↦ decimal (high * 10 + (b - DIGIT0)) bs ]
 ]
 
+-- only a number below 2 ^ 64 stays; all else is none
 unfoldable pub below64 : Option ℕ → Option ℕ
 below64 none = none
 below64 (some n) = elim (ltb n (2 ^ 64)) [ true ↦ some n | false ↦ none ]
@@ -116,9 +123,11 @@ pub record Message : Type 0 where
 unfoldable pub recordText : Message → List ℕ
 recordText m = printId (m .id) ++ TAB ∷ escape (m .name) ++ TAB ∷ escape (m .body)
 
+-- a text made a line: with LF at its end
 unfoldable pub line : List ℕ → List ℕ
 line text = text ++ (LF ∷ [])
 
+-- the record of a message as a whole line
 unfoldable pub recordLine : Message → List ℕ
 recordLine m = line (recordText m)
 
@@ -126,15 +135,17 @@ recordLine m = line (recordText m)
 unfoldable pub doneLine : ℕ → List ℕ
 doneLine id = line (printId id)
 
--- the pieces between the separators: one more than there are separators
+-- a byte goes to the front of the first piece
 unfoldable pub joinHead : ℕ → List (List ℕ) → List (List ℕ)
 joinHead b [] = (b ∷ []) ∷ []
 joinHead b (p ∷ ps) = (b ∷ p) ∷ ps
 
+-- the pieces of a text between its separators, one more than there are separators; an empty text is one empty piece
 unfoldable pub split : ℕ → List ℕ → List (List ℕ)
 split sep [] = [] ∷ []
 split sep (b ∷ bs) = elim (eqb b sep) [ true ↦ [] ∷ split sep bs | false ↦ joinHead b (split sep bs) ]
 
+-- the pieces without the last one; where there are none, none
 unfoldable pub allButLast : List (List ℕ) → List (List ℕ)
 allButLast [] = []
 allButLast (p ∷ []) = []

@@ -12,10 +12,12 @@ pub data Line : Type 0 where
   done : ℕ → Line
   other : Line
 
+-- a line of three fields: with an id a record, its name and body unescaped; else nothing that opening takes in
 unfoldable pub putOf : Option ℕ → List ℕ → List ℕ → Line
 putOf none name body = other
 putOf (some id) name body = put (record { id = id; name = unescape name; body = unescape body })
 
+-- a line of one field: with an id it says that the id is done; else nothing that opening takes in
 unfoldable pub doneOf : Option ℕ → Line
 doneOf none = other
 doneOf (some id) = done id
@@ -28,6 +30,7 @@ readFields (a ∷ b ∷ []) = other
 readFields (a ∷ b ∷ c ∷ []) = putOf (readId a) b c
 readFields (a ∷ b ∷ c ∷ d ∷ rest) = other
 
+-- what a line, given without its LF, says
 unfoldable pub readLine : List ℕ → Line
 readLine text = readFields (fields text)
 
@@ -55,6 +58,7 @@ nameOf (put m) = m .name
 nameOf (done id) = []
 nameOf other = []
 
+-- the body of a record; empty for any other line
 abbrev pub bodyOf : Line → List ℕ
 bodyOf (put m) = m .body
 bodyOf (done id) = []
@@ -65,6 +69,7 @@ abbrev pub ofRecord : Option ℕ → List ℕ → List ℕ
 ofRecord none field = []
 ofRecord (some id) field = field
 
+-- the name by a line's fields: the second of exactly three, where the first is an id; else empty
 unfoldable pub nameIn : List (List ℕ) → List ℕ
 nameIn [] = []
 nameIn (a ∷ []) = []
@@ -72,6 +77,7 @@ nameIn (a ∷ b ∷ []) = []
 nameIn (a ∷ b ∷ c ∷ []) = ofRecord (readId a) b
 nameIn (a ∷ b ∷ c ∷ d ∷ rest) = []
 
+-- the body by a line's fields: the third of exactly three, where the first is an id; else empty
 unfoldable pub bodyIn : List (List ℕ) → List ℕ
 bodyIn [] = []
 bodyIn (a ∷ []) = []
@@ -79,9 +85,11 @@ bodyIn (a ∷ b ∷ []) = []
 bodyIn (a ∷ b ∷ c ∷ []) = ofRecord (readId a) c
 bodyIn (a ∷ b ∷ c ∷ d ∷ rest) = []
 
+-- the name as it stands in a record's line, still escaped; empty for any other line
 unfoldable pub nameField : List ℕ → List ℕ
 nameField text = nameIn (fields text)
 
+-- the body as it stands in a record's line, still escaped; empty for any other line
 unfoldable pub bodyField : List ℕ → List ℕ
 bodyField text = bodyIn (fields text)
 

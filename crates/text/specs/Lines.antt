@@ -11,5 +11,6 @@ abbrev pub firstLine : List (List ℕ) → ℕ → NextLine
 firstLine [] at = record { line = End; at = at }
 firstLine (l ∷ ls) at = record { line = At at (at + length l); at = at + length l + 1 }
 
+-- the next whole line from a place on, and the place past its LF; with none, or a torn one alone, the place stays
 unfoldable pub nextAt : List ℕ → ℕ → NextLine
 nextAt log at = firstLine (lines (drop at log)) at

@@ -1,4 +1,4 @@
-// Lines: where the next whole line of a file ends, and what a line says. (The crate `lines` has the reader over them.)
+// Lines: where the next whole line of a file ends, and what a line says. (The module `lines` has the reader over them.)
 ghost use mathlib.Core.Path.{_≡_};
 ghost use Prim.Native.Nat.{_≤_};
 ghost use lib.ListN.{length};

@@ -19,7 +19,7 @@ unfolding allTrue sameBytes shown.examples shown.dealt shown.waiting shown.deliv
     shown.sentBack shown.inHand shown.frontOfNone shown.thenEnd shown.unread shown.idsOver
     links.mailboxOf links.handOf links.capped links.linkAt links.setEnds links.setNext links.startFrom links.leaveOf
     links.joinEnd links.joinFront links.moveFirst links.moveFirstToFront links.moveAll
-    family.chain family.view family.upFrom messages.messageAt actors.actorAt actors.actorOf actors.actorCells
+    family.chain family.view family.upFrom messages.messageAt actors.actorAt actors.actorOf actors.actorOnto
     questions.slotOf
     steps.placeOver steps.overFirst steps.takeMail fixed.stepFixed fixed.pushReply fixed.fixedPushed roster.overAll
     route.deliver route.deliverTo settle.leftoverOf settle.releaseOf

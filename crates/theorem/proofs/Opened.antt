@@ -25,7 +25,7 @@ use Rattle.answers.specs.declared.refusals.Check.{Check}
 use Rattle.answers.specs.declared.refusals.Check.the-variants as check
 use Rattle.answers.specs.Answers.{Did}
 use Rattle.answers.specs.Refusals.{Lent, judged, byTable, tablesSized, tablesFit, openRefusals}
-use Rattle.pool.specs.Open.{unopened, noLeft, tablesIn, foundBy, filledWith, filledBy, openedWith, openedBy}
+use Rattle.pool.specs.Open.{unopened, noLeft, tablesIn, fillFrom, filledWith, filledBy, openedWith, openedBy}
 use Rattle.pool.specs.Open.{openEffect, openOf}
 use Rattle.theorem.specs.Rail.{accepted, Accepts, Untouched}
 use Rattle.theorem.proofs.Refusals.{Taken, fine-taken, taken-fine, log-opens, judged-stays, by-the-table}
@@ -86,7 +86,7 @@ module _ (l : Lent) where
   abbrev madeWith : Read → LeftPlaced → Did
   madeWith r placed =
       openedWith l (logMade r)
-      (filledWith (foundBy l (logMade r)) (Replace (length (image (r .left)))) (tablesIn l) placed)
+      (filledWith (fillFrom l (logMade r)) (Replace (length (image (r .left)))) (tablesIn l) placed)
 
   -- the messages left are put into pending
   abbrev pub opensAs : Read → Did

@@ -15,9 +15,8 @@ use Rattle.actor.specs.Messages.{messageAt, putMessage}
 use Rattle.actor.proofs.Back.{message-put}
 use Rattle.steps.specs.Steps.{overFirst}
 use Rattle.steps.proofs.Times.{capped-fits}
-use Rattle.group.specs.Roster.{overAll}
+use Rattle.group.specs.Roster.{overAll, queuedAfter}
 use Rattle.theorem.specs.Places.{isId, idCount, stands, mailTotal, Sound, Keeps, NotMailbox, Comes, Goes}
-use Rattle.theorem.specs.Places.{mailChange}
 use Rattle.theorem.proofs.Totals.{id-first, id-append, id-split, rows-length, stands-row, stands-free}
 use Rattle.theorem.proofs.Through.{mailbox-is, aside-not-mailbox, aside-mailbox, Through, mail-not-mailbox}
 use Rattle.theorem.proofs.Through.{mail-fits, mail-by}
@@ -76,19 +75,19 @@ module _ (t rows : Table) (q : ℕ) (sound : Sound t rows q) where
 
   -- whatever the slot: where there is no such mailbox nothing moves
   pub to-mailbox : (from slot : ℕ) → NotMailbox from → Keeps t rows (moveFirst t from (mailboxOf slot)) rows
-      (mailChange t (moveFirst t from (mailboxOf slot)) slot q)
+      (queuedAfter t (moveFirst t from (mailboxOf slot)) slot q)
   to-mailbox from slot f =
       through-keeps t rows _ q slot sound (first-through t rows (sound .good) from slot (aside-not-mailbox slot from f)
       (mailboxOf slot) (aside-mailbox slot))
 
   pub empty-mailbox : (slot to : ℕ) → NotMailbox to → Keeps t rows (moveAll t (mailboxOf slot) to) rows
-      (mailChange t (moveAll t (mailboxOf slot) to) slot q)
+      (queuedAfter t (moveAll t (mailboxOf slot) to) slot q)
   empty-mailbox slot to g =
       through-keeps t rows _ q slot sound (all-through t rows (sound .good) (mailboxOf slot) slot (aside-mailbox slot)
       to (aside-not-mailbox slot to g))
 
   pub over-mailbox : (slot n : ℕ) → Keeps t rows (overAll t rows (mailboxOf slot) n) rows
-      (mailChange t (overAll t rows (mailboxOf slot) n) slot q)
+      (queuedAfter t (overAll t rows (mailboxOf slot) n) slot q)
   over-mailbox slot n =
       through-keeps t rows _ q slot sound (over-all-through n t rows (sound .good) (mailboxOf slot) slot
       (aside-mailbox slot))

@@ -17,8 +17,8 @@ use Rattle.actor.specs.declared.message.Logged.the-variants as logged
 use Rattle.actor.specs.Messages.{messageAt}
 use Rattle.steps.specs.Steps.{placeLogged, placeOver, overFirst}
 use Rattle.steps.proofs.Times.{capped-fits}
-use Rattle.group.specs.Roster.{overAll}
-use Rattle.theorem.specs.Places.{idCount, stands, mailTotal, Sound, Keeps, NotMailbox, mailChange}
+use Rattle.group.specs.Roster.{overAll, queuedAfter}
+use Rattle.theorem.specs.Places.{idCount, stands, mailTotal, Sound, Keeps, NotMailbox}
 use Rattle.theorem.proofs.Totals.{total-same, total-at, id-append, id-split, id-none, id-single, stands-all}
 use Rattle.theorem.proofs.Totals.{mail-few}
 
@@ -159,8 +159,8 @@ module _ (t rows r : Table) (q slot : ℕ) (sound : Sound t rows q) (through : T
   ))
 
   -- queued changes as the rules write it, and is never capped
-  pub through-keeps : Keeps t rows r rows (mailChange t r slot q)
-  through-keeps = through-by (mailChange t r slot q) (rw fits (omega (arith, mail-by)))
+  pub through-keeps : Keeps t rows r rows (queuedAfter t r slot q)
+  through-keeps = through-by (queuedAfter t r slot q) (rw fits (omega (arith, mail-by)))
     where
       fits : capped (q + lenOf r (mailboxOf slot)) ≡ q + lenOf r (mailboxOf slot)
       fits = capped-fits (q + lenOf r (mailboxOf slot)) (omega (

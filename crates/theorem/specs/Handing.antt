@@ -26,6 +26,7 @@ messageIn store rows e = record {
 abbrev pub handed : List ℕ → Table → Table → List Message
 handed store t rows = map (messageIn store rows) (view t PENDING)
 
+-- the ids of these messages, in their order
 abbrev pub idsOf : List Message → List ℕ
 idsOf ms = map (λ (m : Message). m .id) ms
 

@@ -12,6 +12,7 @@ use Rattle.theorem.specs.Places.{HandFull}
 
 -- ---- between the steps of actors: none is under way, and what the last one left is dealt with
 
+-- at a question: any but Sends and those of a step
 abbrev pub AskBetween : Ask → Type 0
 AskBetween (asks.SeedBoot g) = 0 ≤ 0
 AskBetween (asks.RouteBoot g left) = 0 ≤ 0
@@ -23,6 +24,7 @@ AskBetween (asks.Sends c s) = ⊥
 AskBetween (asks.Trap c) = 0 ≤ 0
 AskBetween (asks.Trapped c k) = 0 ≤ 0
 
+-- at a point: any but StepEnd, Settle and Crash, where a step that ended is still to be dealt with
 abbrev pub PointBetween : Point → Type 0
 PointBetween (point.Seed g) = 0 ≤ 0
 PointBetween (point.Intake left) = 0 ≤ 0
@@ -36,6 +38,7 @@ PointBetween (point.Crash c) = ⊥
 PointBetween (point.AskTrap c) = 0 ≤ 0
 PointBetween (point.CrashTrapped c left) = 0 ≤ 0
 
+-- a turn between steps: at rest, or at such a question or point
 abbrev pub BetweenSteps : At → Type 0
 BetweenSteps at.Rest = 0 ≤ 0
 BetweenSteps (at.Asks a) = AskBetween a
@@ -55,6 +58,7 @@ AskOk (asks.Sends c s) t = 0 ≤ 0
 AskOk (asks.Trap c) t = 0 ≤ 0
 AskOk (asks.Trapped c k) t = 0 ≤ 0
 
+-- wherever a turn stands: at a question as above; at rest and at a point nothing is said
 abbrev pub PointOk : At → Table → Type 0
 PointOk at.Rest t = 0 ≤ 0
 PointOk (at.Asks a) t = AskOk a t

@@ -31,9 +31,11 @@ use Rattle.group.specs.Roster.{slotAt, liveOf, ROWS}
 abbrev pub mailLen : Table → ℕ → ℕ → ℕ
 mailLen t g k = lenOf t (6 + 2 * (KEYS * g + k))
 
+-- how many messages are in the hand of the actor of key k in group g
 abbrev pub handLen : Table → ℕ → ℕ → ℕ
 handLen t g k = lenOf t (7 + 2 * (KEYS * g + k))
 
+-- how many messages are in the hand of the step under way
 abbrev pub stepHand : Table → ℕ
 stepHand t = lenOf t HAND
 
@@ -60,6 +62,7 @@ StepHands c step.Done t = (stepHand t ≤ 0) × (handLen t (c .group) (c .key) �
 StepHands c (step.Parked p) t = stepHand t ≤ 0
 StepHands c step.Failed t = (stepHand t ≤ 1) × (handLen t (c .group) (c .key) ≤ 0)
 
+-- a step ended: that of a fixed actor as above, that of an eval actor with nothing in the step's hand
 abbrev pub EndHands : Cursor → End → Table → Type 0
 EndHands c (end.Fixed s) t = StepHands c s t
 EndHands c (end.Eval p) t = stepHand t ≤ 0
@@ -71,6 +74,8 @@ FixedHands c fixed.Drain t = (stepHand t ≤ 0) × (handLen t (c .group) (c .key
 FixedHands c fixed.Push t = (stepHand t ≤ 1) × (handLen t (c .group) (c .key) ≤ 0)
 FixedHands c fixed.Dispatch t = stepHand t ≤ 0
 
+-- a question of an eval step is open: at Boot, Clock at the start and Tell the step's hand holds at most one message,
+-- else none; at the first two the actor's hand is empty
 abbrev pub EvalHands : Cursor → EvalAsk → Table → Type 0
 EvalHands c eval.Clock t = stepHand t ≤ 0
 EvalHands c eval.Boot t = (stepHand t ≤ 1) × (handLen t (c .group) (c .key) ≤ 0)
@@ -83,6 +88,7 @@ EvalHands c (eval.Tell o) t = stepHand t ≤ 1
 abbrev pub Lively : Table → Cursor → Type 0
 Lively keys c = liveOf keys (c .group) (c .key) ≡ true
 
+-- the actor of a step is a fixed one
 abbrev pub IsFixed : Table → Cursor → Type 0
 IsFixed actors c = actorAt actors (slotAt (c .group) (c .key)) .mode ≡ mode.Fixed
 
@@ -112,6 +118,7 @@ AskLives (asks.Sends c s) t keys actors = StepHands c s t
 AskLives (asks.Trap c) t keys actors = stepHand t ≤ 0
 AskLives (asks.Trapped c k) t keys actors = stepHand t ≤ 0
 
+-- wherever a turn stands: at rest nothing is in the step's hand, at a question and at a point it is as above
 abbrev pub AtLives : At → Table → Table → Table → Type 0
 AtLives at.Rest t keys actors = stepHand t ≤ 0
 AtLives (at.Asks a) t keys actors = AskLives a t keys actors

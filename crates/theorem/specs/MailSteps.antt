@@ -1,5 +1,5 @@
--- What each part of a turn, and each message that comes, does to the mailboxes (crates/theorem/specs): nothing, or
--- one of the operations on one of them. After an opening nothing else changes a mailbox, or the order in it.
+-- What each part of a turn, and each message that comes, does to the mailboxes (specs/Mailboxes, Operations): nothing,
+-- or one of the operations on one of them. After an opening nothing else changes a mailbox, or the order in it.
 use mathlib.Core.Path.{_≡_}
 use Prim.Native.Nat.{ℕ, _<_}
 use Rattle.lists.specs.Links.{Table, PENDING, BATCH, HAND, SLOTS}

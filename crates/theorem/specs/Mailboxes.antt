@@ -39,6 +39,8 @@ mailList slot = 6 + 2 * slot
 abbrev pub mailbox : Table → ℕ → List ℕ
 mailbox t slot = view t (mailList slot)
 
+-- the mailbox of a slot is one chain of entries 0 to 255: its links are read whole and in one way, no message is met
+-- twice, and none stands in another list
 pub record ChainedAt (t : Table) (slot : ℕ) : Type 0 where
   -- the mailbox is what stands along its links, up to the last message, and nothing else does
   pub reads : IsChain t (mailList slot) (mailbox t slot)
@@ -56,6 +58,8 @@ Chained t = (slot : ℕ) → slot < SLOTS → ChainedAt t slot
 
 -- ---- the operations: on a mailbox, and on the list that its messages come from or go to
 
+-- a list's first message, if any, comes to the mailbox's end or front; the mailbox's first one, if any, goes to the
+-- list's end; or all of the mailbox does, in order
 pub data Operation : Type 0 where
   putAtEnd : Operation
   putAtFront : Operation
@@ -82,6 +86,7 @@ pub record FullMessage : Type 0 where
   pub name : List ℕ
   pub body : List ℕ
 
+-- the message of entry e; past the last entry, or with a length over its limit in the row, name and body are empty
 abbrev pub fullMessage : List ℕ → Table → ℕ → FullMessage
 fullMessage store rows e = record {
   row = messageAt rows e;
@@ -89,6 +94,7 @@ fullMessage store rows e = record {
   body = bytesIn store (partAt rows e .body);
 }
 
+-- the messages of these entries, in their order
 abbrev pub messagesOf : List ℕ → Table → List ℕ → List FullMessage
 messagesOf store rows es = map (fullMessage store rows) es
 
@@ -110,14 +116,17 @@ pub record Operated (op : Operation) (slot k : ℕ) (t r : Table) : Type 0 where
 
 -- ---- emptied unread: what is logged is over and waits for its mark, the other entries are free
 
+-- a message is logged, under whatever id
 abbrev pub hasLogId : Logged → Bool
 hasLogId (logged.As id) = true
 hasLogId logged.Never = false
 
+-- of these entries, those whose messages are logged, in order ..
 unfoldable pub loggedIn : Table → List ℕ → List ℕ
 loggedIn rows [] = []
 loggedIn rows (e ∷ es) = pick (hasLogId (messageAt rows e .id)) (e ∷ loggedIn rows es) (loggedIn rows es)
 
+-- .. and those whose messages are not
 unfoldable pub unloggedIn : Table → List ℕ → List ℕ
 unloggedIn rows [] = []
 unloggedIn rows (e ∷ es) = pick (hasLogId (messageAt rows e .id)) (unloggedIn rows es) (e ∷ unloggedIn rows es)

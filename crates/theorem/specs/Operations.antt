@@ -34,6 +34,7 @@ use Rattle.steps.specs.Steps.{stepTables}
 abbrev pub slotNumber : ℕ → ℕ → ℕ
 slotNumber g k = KEYS * g + k
 
+-- the hand of the actor of a slot, 0 to 127, is list 7 + 2 × slot
 abbrev pub handList : ℕ → ℕ
 handList slot = 7 + 2 * slot
 
@@ -76,10 +77,12 @@ DropsUnread =
 abbrev pub retries : Table → Table → ℕ → ℕ → Bool
 retries groups rows g e = ltb (messageAt rows e .attempts) (groupAt groups g .retry)
 
+-- of a hand's messages, the first one if it is tried again, and else none ..
 unfoldable pub triedAgain : Table → Table → ℕ → List ℕ → List ℕ
 triedAgain groups rows g [] = []
 triedAgain groups rows g (e ∷ es) = pick (retries groups rows g e) (e ∷ []) []
 
+-- .. and the first one if it is not tried again, and else none
 unfoldable pub notTried : Table → Table → ℕ → List ℕ → List ℕ
 notTried groups rows g [] = []
 notTried groups rows g (e ∷ es) = pick (retries groups rows g e) [] (e ∷ [])
@@ -98,6 +101,7 @@ pub record Retired (groups rows : Table) (g slot : ℕ) (t r : Table) : Type 0 w
   pub good : Good r
   pub chained : Chained r
 
+-- retiring a trapped actor does just this to the lists, whether it ever took a message or not
 abbrev pub Retires : Type 0
 Retires =
     (groups t rows keys : Table) (c : Cursor) (k left queued : ℕ) (l : Losses) → Good t → c .group < GROUPS → k < KEYS

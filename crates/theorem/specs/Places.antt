@@ -5,10 +5,10 @@ use mathlib.Core.Path.{_≡_}
 use mathlib.Core.Bool.{Bool, false}
 use mathlib.Core.Logic.{_≢_}
 use mathlib.Core.List.{List, [], _∷_}
-use Prim.Native.Nat.{ℕ, suc, _+_, _-_, _*_, _≤_, _<_}
+use Prim.Native.Nat.{ℕ, suc, _+_, _*_, _≤_, _<_}
 use lib.Dec.{eqb}
 use lib.ListN.{length}
-use Rattle.lists.specs.Links.{pick, LISTS, Table, lenOf, capped, mailboxOf, ENTRIES, HAND, SLOTS}
+use Rattle.lists.specs.Links.{pick, LISTS, Table, lenOf, ENTRIES, HAND, SLOTS}
 use Rattle.lists.specs.Family.{total, view, Good}
 use Rattle.actor.specs.declared.message.Logged.{Logged}
 use Rattle.actor.specs.declared.message.Logged.the-variants as logged
@@ -63,10 +63,6 @@ pub record Goes (t rows t′ rows′ : Table) (queued′ : ℕ) (id : Logged) : 
   pub sound : Sound t′ rows′ queued′
   pub less : (x : ℕ) → stands x t′ rows′ + pick (isId x id) 1 0 ≡ stands x t rows
 
--- queued changes as a mailbox's length does
-abbrev pub mailChange : Table → Table → ℕ → ℕ → ℕ
-mailChange t t′ slot queued = capped (queued + lenOf t′ (mailboxOf slot)) - lenOf t (mailboxOf slot)
-
 -- while Push is open its message is in the step's hand
 abbrev pub HandFull : FixedAsk → Table → Type 0
 HandFull (fixed.Run start) t = 0 ≤ 0
@@ -74,6 +70,7 @@ HandFull fixed.Drain t = 0 ≤ 0
 HandFull fixed.Push t = 0 < lenOf t HAND
 HandFull fixed.Dispatch t = 0 ≤ 0
 
+-- a fixed step that goes on to Push has its message in the step's hand; of all else that it goes on to nothing is said
 abbrev pub NextFull : FixedNext → Table → Type 0
 NextFull (next.Asks a) t = HandFull a t
 NextFull (next.Ended s) t = 0 ≤ 0

@@ -48,6 +48,7 @@ use Rattle.pool.specs.Calls.{turnOf, storedIn, replyOf, syncOf, closeOf}
 
 -- ---- a call
 
+-- the five calls that may follow an opening, with what each is given
 pub data Call : Type 0 where
   -- a group's name, a body, and who waits for the outcome, if anybody
   admit : List ℕ → List ℕ → Caller → Call
@@ -67,6 +68,7 @@ callOf s close = closeOf s
 
 -- ---- what an answer shows
 
+-- a call with this answer was not refused
 abbrev pub accepted : Answer → Bool
 accepted (answer.Refused r) = false
 accepted (answer.Open a) = true
@@ -77,6 +79,7 @@ pub data Shown : Type 0 where
   nothing : Shown
   shows : Order → Shown
 
+-- the order that a question shows: that of Store; no other question has one
 abbrev pub orderAsked : Question → Shown
 orderAsked (ask.Boot g) = nothing
 orderAsked ask.Clock = nothing
@@ -91,10 +94,12 @@ orderAsked (ask.Trapped who) = nothing
 orderAsked (ask.Tell to outcome) = nothing
 orderAsked (ask.Store o) = shows o
 
+-- the order in what is open: that of the open question; where nothing is open, none
 abbrev pub orderOpen : Asked → Shown
 orderOpen (asked.Open q) = orderAsked q
 orderOpen asked.Nothing = nothing
 
+-- the order that an answer shows: the one that is open; a refusal and a turn's end show none
 abbrev pub orderShown : Answer → Shown
 orderShown (answer.Refused r) = nothing
 orderShown (answer.Open a) = orderOpen a
@@ -158,16 +163,20 @@ effect next s (ofRecord name body) now = now ++ (record { id = next; name = name
 effect next s ofMark now = inPlaces s now
 effect next s ofNeither now = now
 
+-- the next id, after an order: one more after a record; after any other order the same
 abbrev pub nextBy : Purpose → ℕ → ℕ
 nextBy (ofRecord name body) next = next + 1
 nextBy ofMark next = next
 nextBy ofNeither next = next
 
+-- the ids logged or handed back, after an order: a record adds the next id; any other order adds none
 abbrev pub loggedBy : ℕ → Purpose → List ℕ → List ℕ
 loggedBy next (ofRecord name body) ids = ids ++ (next ∷ [])
 loggedBy next ofMark ids = ids
 loggedBy next ofNeither ids = ids
 
+-- the ids done, after an order: a mark adds those of the messages that were logged and not done, and stand in none of
+-- the six places now; any other order adds none
 abbrev pub doneBy : State → List Message → Purpose → List ℕ → List ℕ
 doneBy s now (ofRecord name body) ids = ids
 doneBy s now ofMark ids = ids ++ idsOf (outOfPlaces s now)
@@ -187,6 +196,7 @@ orderedFor w s j o for = record {
 abbrev pub moved : disk.LogWorld → Wal → disk.LogWorld
 moved j wal = record { wal = wal; disk = j .disk; moments = j .moments; now = j .now; firm = j .firm }
 
+-- no order goes out: the state and the log are as the call left them, and neither a moment nor an id is added
 abbrev pub unordered : World → State → disk.LogWorld → World
 unordered w s j = record {
   state = s;
@@ -207,11 +217,13 @@ orderAnswered j s stored.Stored = disk.storedOrder j s
 orderAnswered j s stored.Failed = disk.failedOrder j s
 orderAnswered j s stored.Other = j
 
+-- by the disk's status: an order that waits is answered so; with none waiting, or after a failed one, nothing changes
 abbrev pub answeredBy : disk.LogWorld → disk.Status → StoredIn → disk.LogWorld
 answeredBy j disk.settled r = j
 answeredBy j (disk.waits s) r = orderAnswered j s r
 answeredBy j (disk.lost s) r = j
 
+-- by the call: a reply may be the answer to the order that waits; any other call is none
 abbrev pub answered : disk.LogWorld → Call → disk.LogWorld
 answered j (admit name body who) = j
 answered j turn = j
@@ -225,12 +237,15 @@ worldAfter w c s (answer.Refused r) = unordered w s (w .journal)
 worldAfter w c s (answer.Open a) = ordered c w s (answered (w .journal) c) (orderOpen a)
 worldAfter w c s (answer.Ended busy waiters) = unordered w s (answered (w .journal) c)
 
+-- the world after a call that left this state and gave this answer
 abbrev pub stepDid : World → Call → Did → World
 stepDid w c d = worldAfter w c (d .state) (d .answer)
 
+-- the world after a call, which is made on the state that the call before left
 unfoldable pub step : World → Call → World
 step w c = stepDid w c (callOf (w .state) c)
 
+-- the world after the calls of a list, made one after the other
 unfoldable pub run : World → List Call → World
 run w [] = w
 run w (c ∷ cs) = run (step w c) cs
@@ -246,6 +261,7 @@ abbrev pub leftBy : Opening → List Message
 leftBy (opened r) = r .left
 leftBy (refused r) = []
 
+-- the messages that the file of these bytes leaves; none where it is refused (3, 4)
 abbrev pub leftOf : List ℕ → List Message
 leftOf file = leftBy (opening file)
 
@@ -292,6 +308,7 @@ Placed w x =
 abbrev pub mailboxAt : Table → ℕ → ℕ → List ℕ
 mailboxAt t g k = view t (6 + 2 * (KEYS * g + k))
 
+-- the messages in the hand of the actor of key k in group g
 abbrev pub handAt : Table → ℕ → ℕ → List ℕ
 handAt t g k = view t (7 + 2 * (KEYS * g + k))
 
@@ -332,6 +349,8 @@ pub record Reopens (l : Lent) (file : List ℕ) (moments : List (List Message)) 
   pub accepts : (next : Lent) → NextOpening l next file → Accepts next
   pub back : (next : Lent) → NextOpening l next file → handedBack (openOf next .state) ≡ found
 
+-- what holds of a world: each id logged or handed back is done or in one place, any other in none; queued is right;
+-- only the living hold messages, a hand at most one; any file that a cut leaves gives a moment not before the firm one
 pub record Holds (l : Lent) (w : World) : Type 0 where
   -- each message logged or handed back is in its place, and no other id stands anywhere
   pub placed : (x : ℕ) → 0 < count x (w .logged) → Placed w x
@@ -365,6 +384,7 @@ EveryCall P = (l : Lent) → Accepts l → (before : List Call) (c : Call) → P
 abbrev pub KeepsTail : ℕ → List ℕ → List ℕ → Type 0
 KeepsTail size before now = drop size now ≡ drop size before
 
+-- after a call the log's bytes at and after the size that it leaves are those from before it
 abbrev pub CallKeepsTail : World → Call → Type 0
 CallKeepsTail w c =
     KeepsTail (callOf (w .state) c .state .pool .turn .counters .size) (w .state .bytes)
@@ -409,6 +429,7 @@ Untouched l s =
       actors = l .actors;
     }
 
+-- a refused opening leaves all that it was lent as it was, and a refused call of any list the whole state
 pub record RefusedSame : Type 0 where
   pub openings : (l : Lent) → accepted (openOf l .answer) ≡ false → Untouched l (openOf l .state)
   pub calls : EveryCall CallRefusedSame
@@ -424,6 +445,7 @@ OrderFits w (reply r name body) s o = length (outOfPlaces s (w .journal .now)) �
 OrderFits w sync s o = (o ≡ nothing) ⊎ (o ≡ shows Flush)
 OrderFits w close s o = ordersIn o ≡ 0
 
+-- what an accepted call orders fits it so; of a refused one nothing is said
 abbrev pub CallOrderFits : World → Call → Type 0
 CallOrderFits w c =
     accepted (callOf (w .state) c .answer) ≡ true
@@ -441,6 +463,7 @@ pub record ComesLoaded (s s′ : State) : Type 0 where
   pub last : view (s′ .links) INBOX ≡ view (s .links) INBOX ++ (entry ∷ [])
   pub loaded : LoadedAt (s′ .groups) (s′ .pool .limits .groups) (s′ .store) (s′ .rows) entry
 
+-- an admission of this name and body, for this caller or nobody, comes so if it is accepted
 abbrev pub AcceptsLoaded : State → List ℕ → List ℕ → Caller → Type 0
 AcceptsLoaded s name body who =
     accepted (callOf s (admit name body who) .answer) ≡ true → ComesLoaded s (callOf s (admit name body who) .state)
@@ -453,6 +476,7 @@ RefusesUnloaded s name body who =
     → (e : ℕ) → e < ENTRIES
     → Routes (s .groups) (s .pool .limits .groups) (storeEntry (s .store) e name body) e (length name) → ⊥
 
+-- both hold of every admission after every list of calls, whatever its name, its body and who waits
 pub record AdmitsLoaded : Type 0 where
   pub comes : (l : Lent) → Accepts l → (before : List Call) (name body : List ℕ) (who : Caller)
       → AcceptsLoaded (after l before .state) name body who

@@ -12,6 +12,7 @@ use Rattle.pool.specs.Open.{unopened, openOf}
 use Rattle.pool.specs.Admit.{admitOf}
 use Rattle.pool.specs.Calls.{turnOf, replyOf, syncOf, closeOf}
 
+-- each of the six calls, on any state and with any arguments, is refused just as its table says, with nothing changed
 pub record ByTheTable : Type 0 where
   pub openings : (l : Lent) → JudgedBy (judged (openRefusals l)) (unopened l) (openOf l)
   pub admits : (s : State) (name body : List ℕ) (who : Caller)

@@ -7,6 +7,7 @@ use Rattle.answers.specs.Refusals.{Lent}
 use Rattle.pool.specs.Open.{openOf}
 use Rattle.theorem.specs.Rail.{Call, callOf, after}
 
+-- nothing runs after an opening, after a call made where nothing ran, and after any list of calls
 pub record CallsStop : Type 0 where
   -- nothing runs in a pool that was opened, accepted or not
   pub openings : (l : Lent) → Stops (openOf l .state)

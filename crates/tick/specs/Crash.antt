@@ -41,14 +41,17 @@ pub record Crashed : Type 0 where
 abbrev pub crashedOf : words.Crashed → Crashed
 crashedOf w = record { at = atOf (w .at); queued = w .queued; losses = w .losses }
 
+-- what a crashed message changes: lists of messages, their rows, and how many messages are dead
 pub record Dying : Type 0 where
   pub links : Table
   pub rows : Table
   pub dead : ℕ
 
+-- the lists of messages, their rows and the dead count, as one record
 abbrev pub dying : Table → Table → ℕ → Dying
 dying t rows dead = record { links = t; rows = rows; dead = dead }
 
+-- what a failed step's crash changes: lists of messages, their rows, and the dead and crash counts
 pub record Losing : Type 0 where
   pub links : Table
   pub rows : Table
@@ -62,9 +65,11 @@ pub record Retiring : Type 0 where
   pub queued : ℕ
   pub losses : Losses
 
+-- the tables and counts that retiring works on, as one record
 abbrev pub retiring : Table → Table → Table → ℕ → Losses → Retiring
 retiring t rows keys queued l = record { links = t; rows = rows; keys = keys; queued = queued; losses = l }
 
+-- what retiring changes, and where the turn stands then
 pub record Crashing : Type 0 where
   pub links : Table
   pub rows : Table
@@ -78,6 +83,7 @@ crashedEntry groups x g from e =
     (dying (moveFirst (x .links) from PENDING) (putMessage (x .rows) e (triedOf (messageAt (x .rows) e))) (x .dead))
     (dying (overFirst (x .links) (x .rows) from) (x .rows) (capped (x .dead + 1)))
 
+-- the entry that was found has crashed; where none was found nothing changes
 abbrev pub crashedFound : Table → Dying → ℕ → ℕ → Found → Dying
 crashedFound groups x g from (found.Entry e) = crashedEntry groups x g from e
 crashedFound groups x g from found.Nothing = x
@@ -86,6 +92,7 @@ crashedFound groups x g from found.Nothing = x
 unfoldable pub handleCrash : Table → Dying → ℕ → ℕ → Dying
 handleCrash groups x g from = crashedFound groups x g from (firstOf (x .links) from)
 
+-- what a crashed message changed, and this number of crashes beside its dead count
 abbrev pub losing : Dying → ℕ → Losing
 losing d crashes = record { links = d .links; rows = d .rows; losses = record { dead = d .dead; crashes = crashes } }
 
@@ -96,48 +103,65 @@ crashOf groups t rows c l =
 
 -- ---- Trap, and Trapped of each actor in key order
 
+-- Trapped is asked of the actor with this key; with none left the trapped ones are retired, at most 16
 abbrev pub trappedAt : Cursor → Key → At
 trappedAt c (key.At k) = at.Asks (asks.Trapped c k)
 trappedAt c key.Nothing = at.Runs (point.CrashTrapped c KEYS)
 
+-- Trapped is asked of the group's first actor from this key on; with none left the trapped ones are retired
 unfoldable pub trappedNext : Table → Cursor → ℕ → At
 trappedNext keys c from = trappedAt c (nextKey (keysAt keys (slabRow (c .group))) (KEYS - from) from)
 
+-- these lists of keys, and where the turn stands
 abbrev pub listedAt : Table → At → Listed
 listedAt keys a = record { keys = keys; at = a }
 
+-- yes: no key is trapped so far, and Trapped is asked from key 0 on; no: the ready list goes on; any other reply: Trap
+-- stays open
 abbrev pub trapBy : Table → Cursor → YesIn → Listed
 trapBy keys c yes.Yes = listedAt (set keys TRAPPED blankRow) (trappedNext (set keys TRAPPED blankRow) c 0)
 trapBy keys c yes.No = listedAt keys (readyAfter c)
 trapBy keys c yes.Other = listedAt keys (at.Asks (asks.Trap c))
 
+-- the reply to Trap: yes leads to Trapped of the group's actors, no to the ready list; one that does not fit changes
+-- nothing
 unfoldable pub trapReply : Table → Cursor → Reply → Listed
 trapReply keys c r = trapBy keys c (yesIn r)
 
+-- the key after a key, held at 16, which no actor has
 abbrev pub nextAsked : ℕ → ℕ
 nextAsked k = pick (ltb k KEYS) (k + 1) KEYS
 
+-- yes: the key goes to the end of the trapped ones; after yes and after no the next actor is asked; any other reply:
+-- Trapped stays open
 abbrev pub trappedBy : Table → Cursor → ℕ → YesIn → Listed
 trappedBy keys c k yes.Yes = listedAt (pushKey keys TRAPPED k) (trappedNext (pushKey keys TRAPPED k) c (nextAsked k))
 trappedBy keys c k yes.No = listedAt keys (trappedNext keys c (nextAsked k))
 trappedBy keys c k yes.Other = listedAt keys (at.Asks (asks.Trapped c k))
 
+-- the reply to Trapped: who answers yes is kept to be retired, and the next actor is asked; one that does not fit
+-- changes nothing
 unfoldable pub trappedReply : Table → Cursor → ℕ → Reply → Listed
 trappedReply keys c k r = trappedBy keys c k (yesIn r)
 
 -- ---- those that were trapped are retired
 
+-- where the turn stands, queued, and the dead and crash counts, as one record
 abbrev pub crashedAt : At → ℕ → ℕ → ℕ → Crashed
 crashedAt a queued dead crashes =
     record { at = a; queued = queued; losses = record { dead = dead; crashes = crashes } }
 
+-- what the crash of a trapped actor's message left, with these keys, where the turn stands, queued and crashes
 abbrev pub crashTrappedBy : Dying → Table → At → ℕ → ℕ → Crashing
 crashTrappedBy d keys a queued crashes =
     record { links = d .links; rows = d .rows; keys = keys; crashed = crashedAt a queued (d .dead) crashes }
 
+-- all mail of a slot goes to pending's end, in order
 abbrev pub mailBack : Table → ℕ → Table
 mailBack t slot = moveAll t (mailboxOf slot) PENDING
 
+-- a trapped actor is retired: its key is free, its mail goes back to pending, queued changes as its mailbox does, the
+-- crash count rises by 1 up to its largest, and the message in its hand, if any, has crashed
 unfoldable pub crashTrappedKey : Table → Retiring → Cursor → ℕ → ℕ → Crashing
 crashTrappedKey groups x c k left =
     crashTrappedBy
@@ -148,6 +172,7 @@ crashTrappedKey groups x c k left =
     (queuedAfter (x .links) (mailBack (x .links) (slotAt (c .group) k)) (slotAt (c .group) k) (x .queued))
     (capped (x .losses .crashes + 1))
 
+-- no trapped actor is left: the ready list goes on, and nothing else changes
 abbrev pub crashTrappedDone : Retiring → Cursor → Crashing
 crashTrappedDone x c =
     record {
@@ -157,15 +182,17 @@ crashTrappedDone x c =
       crashed = record { at = readyAfter c; queued = x .queued; losses = x .losses };
     }
 
--- without the first of those that were trapped
-abbrev pub doomedPopped : Retiring → Retiring
-doomedPopped x =
+-- what retiring works on, without the first trapped key
+abbrev pub trappedPopped : Retiring → Retiring
+trappedPopped x =
     retiring (x .links) (x .rows) (set (x .keys) TRAPPED (popFront (keysAt (x .keys) TRAPPED))) (x .queued) (x .losses)
 
+-- the first trapped key is popped and its actor retired, with one less left; with no key the ready list goes on
 abbrev pub crashTrappedFront : Table → Retiring → Cursor → ℕ → Key → Crashing
-crashTrappedFront groups x c left (key.At k) = crashTrappedKey groups (doomedPopped x) c k (left - 1)
+crashTrappedFront groups x c left (key.At k) = crashTrappedKey groups (trappedPopped x) c k (left - 1)
 crashTrappedFront groups x c left key.Nothing = crashTrappedDone x c
 
+-- the next trapped actor is retired; with `left` 0 or no trapped key the ready list goes on
 unfoldable pub crashTrapped : Table → Retiring → Cursor → ℕ → Crashing
 crashTrapped groups x c left =
     pick (eqb left 0) (crashTrappedDone x c) (crashTrappedFront groups x c left (frontOf (keysAt (x .keys) TRAPPED)))

@@ -30,7 +30,7 @@ pub record Listed : Type 0 where
   pub keys : Table
   pub at : At
 
--- and over actors
+-- what a step over keys and actors changes, and where the turn stands then
 pub record Waked : Type 0 where
   pub keys : Table
   pub actors : Table
@@ -40,7 +40,8 @@ pub record Waked : Type 0 where
 abbrev pub atMost64 : ℕ → ℕ
 atMost64 n = pick (ltb n FULL) n FULL
 
--- group g, of `count` groups: its waiting list is gone through, and grows anew
+-- group g, of n groups: its waiting list is set aside to be gone through, and grows anew; past the last group the turn
+-- is at its end
 unfoldable pub wakeOf : Table → ℕ → ℕ → ℕ → Listed
 wakeOf keys n g clock =
     pick (leb n g) (record { keys = keys; at = at.Rest })
@@ -55,10 +56,12 @@ unfoldable pub lateAt : Wake → ℕ → Bool
 lateAt (wake.At ns) clock = leb ns clock
 lateAt wake.Never clock = false
 
+-- a fixed actor is polled if it is blocked, an eval actor if it is blocked and has a run
 abbrev pub pollsBy : Bool → Bool → Mode → Bool
 pollsBy blocked run mode.Fixed = blocked
 pollsBy blocked run mode.Eval = blocked && run
 
+-- Poll is asked of this actor, unless its deadline has passed
 unfoldable pub pollsOf : Actor → Bool
 pollsOf a = pollsBy (a .blocked) (hasRun (a .run)) (a .mode)
 
@@ -70,6 +73,7 @@ wokenTo keys actors g k false =
     pick (actorAt actors (slotAt g k) .idle) (record { keys = keys; actors = actors })
     (record { keys = pushKey keys (waitingRow g) k; actors = actors })
 
+-- these keys and actors, and where the turn stands
 abbrev pub wakedTo : Keyed → At → Waked
 wakedTo k a = record { keys = k .keys; actors = k .actors; at = a }
 
@@ -89,11 +93,13 @@ abbrev pub readyNow : Keyed → ℕ → ℕ → Waked
 readyNow x g clock =
     wakedTo x (at.Runs (point.Ready g clock (atMost64 (countOf (keysAt (x .keys) (readyRow g))))))
 
+-- the first key of the rest is popped and its actor looked at, with one less left; with no key the ready list is next
 abbrev pub wakeFirst : Keyed → ℕ → ℕ → ℕ → Key → Waked
 wakeFirst x g clock left (key.At k) =
     wakeOne (keyed (set (x .keys) REST (popFront (keysAt (x .keys) REST))) (x .actors)) g k clock (left - 1)
 wakeFirst x g clock left key.Nothing = readyNow x g clock
 
+-- one more key of the waiting list that was taken; with `left` 0 or no key the group's ready list is next
 unfoldable pub wakeNext : Keyed → ℕ → ℕ → ℕ → Waked
 wakeNext x g clock left =
     pick (eqb left 0) (readyNow x g clock) (wakeFirst x g clock left (frontOf (keysAt (x .keys) REST)))
@@ -105,5 +111,6 @@ pollBy x who clock left (count.Of n) =
     (at.Runs (point.WakeNext (who .group) clock left))
 pollBy x who clock left count.Other = wakedTo x (at.Asks (asks.WakePoll (who .group) (who .key) clock left))
 
+-- the reply to Poll: above 0 the actor is woken, at 0 it is not; one that does not fit changes nothing
 unfoldable pub pollReply : Keyed → Who → ℕ → ℕ → Reply → Waked
 pollReply x who clock left r = pollBy x who clock left (countIn r)

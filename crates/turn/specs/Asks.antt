@@ -34,6 +34,7 @@ askedAt at.Rest t rows = asked.Nothing
 askedAt (at.Asks a) t rows = askedBy a t rows
 askedAt (at.Runs p) t rows = asked.Nothing
 
+-- with a free disk the turn's question, if any, is open; an order that waits is, as Store; after a failed one nothing
 unfoldable pub askedIn : Disk → At → Table → Table → Asked
 askedIn disk.Free a t rows = askedAt a t rows
 askedIn (disk.Waits o w) a t rows = asked.Open (question.Store o)
@@ -44,5 +45,6 @@ unfoldable pub wantedBy : Asked → ℕ
 wantedBy (asked.Open q) = kindWanted q
 wantedBy asked.Nothing = 8
 
+-- what is open in a state: the order that waits, else the turn's question; after a failed order nothing
 abbrev pub openIn : State → Asked
 openIn s = askedIn (s .pool .turn .disk) (s .pool .turn .at) (s .links) (s .rows)

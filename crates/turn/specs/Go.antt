@@ -17,24 +17,30 @@ use Rattle.turn.specs.State.{stoodAt, queuedAt, steppedAt, lostAt}
 
 -- ---- the state with what a part of a turn changed
 
+-- seeding, and the reply to its Boot, change the keys, the actors, and where the turn stands
 abbrev pub seeded : State → Seeded → State
 seeded s d = withActors (withKeys (withPool s (stoodAt (s .pool) (d .at))) (d .keys)) (d .actors)
 
+-- intake changes the lists of messages, and where the turn stands
 abbrev pub linked : State → Linked → State
 linked s d = withLinks (withPool s (stoodAt (s .pool) (d .at))) (d .links)
 
+-- routing, and the reply to its Boot, change lists of messages, keys, actors, queued, and where the turn stands
 abbrev pub routed : State → RoutedTables → State
 routed s d =
     withActors
     (withKeys (withLinks (withPool s (queuedAt (s .pool) (d .routed .at) (d .routed .queued))) (d .links)) (d .keys))
     (d .actors)
 
+-- setting a waiting list aside, and the replies to Trap and Trapped, change the keys, and where the turn stands
 abbrev pub listed : State → Listed → State
 listed s d = withKeys (withPool s (stoodAt (s .pool) (d .at))) (d .keys)
 
+-- going through the waiting list set aside, and the reply to Poll, change keys, actors, and where the turn stands
 abbrev pub waked : State → Waked → State
 waked s d = withActors (withKeys (withPool s (stoodAt (s .pool) (d .at))) (d .keys)) (d .actors)
 
+-- a pop of the ready list changes lists of messages, keys, actors, queued, stepped, and where the turn stands
 abbrev pub readied : State → Readied → State
 readied s d =
     withActors
@@ -43,6 +49,7 @@ readied s d =
     (d .keys))
     (d .actors)
 
+-- settling changes lists of messages, keys, actors, queued, and where the turn stands
 abbrev pub settled : State → Settling → State
 settled s d =
     withActors
@@ -60,6 +67,7 @@ crashed s c d =
     (d .links))
     (d .rows)
 
+-- retiring a trapped actor changes message lists and rows, keys, queued, dead, crashes, and where the turn stands
 abbrev pub retired : State → Crashing → State
 retired s d =
     withKeys
@@ -76,6 +84,7 @@ tablesOf s = turnTables (s .links) (s .keys) (s .actors) (s .pool .turn .counts 
 
 -- ---- the points
 
+-- the state after a point has run: each by its own definition in route or tick, but for AskTrap, which asks Trap
 unfoldable pub goOf : State → Point → State
 goOf s (point.Seed g) = seeded s (seedOf (s .groups) (s .pool .limits .groups) (s .keys) (s .actors) g)
 goOf s (point.Intake left) =

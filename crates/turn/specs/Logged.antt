@@ -20,6 +20,7 @@ appendAnswer due.Nothing r = answer.Refused r
 abbrev pub steppedOf : LogStep → AnsweredDue
 steppedOf w = record { counters = w .counters; due = dueOf (w .due) }
 
+-- the log's counters after a mark or a sync, and the order that is due, if any
 abbrev pub steppedAs : Counters → Due → AnsweredDue
 steppedAs n d = record { counters = n; due = d }
 
@@ -27,5 +28,6 @@ steppedAs n d = record { counters = n; due = d }
 abbrev pub appendedOf : LogAppend → Answered
 appendedOf w = record { counters = w .counters; answer = appendAnswer (dueOf (w .due)) (w .refusal) }
 
+-- the log's counters after an append, and its answer: the order of the record, or a refusal
 abbrev pub appendedAs : Counters → Answer → Answered
 appendedAs n a = record { counters = n; answer = a }

@@ -1,4 +1,4 @@
--- A reply to the turn's question leads to the next point or question; one that does not fit leaves it open.
+-- A reply to the turn's question leads to the next point or question; one of another kind leaves it open.
 use Rattle.actor.specs.declared.question.Reply.{Reply}
 use Rattle.actor.specs.declared.question.Reply.the-variants as reply
 use Rattle.actor.specs.declared.question.ClockIn.{ClockIn}
@@ -30,6 +30,7 @@ abbrev pub clockBy : ClockIn → At
 clockBy (clock.Of ns) = at.Runs (point.Wake 0 ns)
 clockBy clock.Other = at.Asks asks.TickClock
 
+-- a clock wakes the first group with it; after any other reply Clock is still open
 unfoldable pub clockReply : Reply → At
 clockReply r = clockBy (clockIn r)
 
@@ -48,22 +49,25 @@ sendsReply c s reply.Failed = at.Asks (asks.Sends c s)
 
 -- ---- the state with what a step of an actor changed
 
+-- a reply in a fixed actor's step changes lists of messages, actors, queued, and where the turn stands
 abbrev pub fixedStepped : State → Cursor → FixedBoth → State
 fixedStepped s c d =
     withActors
     (withLinks (withPool s (queuedAt (s .pool) (fixedAfter c (d .step .next)) (d .step .queued))) (d .links))
     (d .actors)
 
+-- a reply in an eval actor's step changes lists of messages, actors, and where the turn stands
 abbrev pub evalStepped : State → Cursor → EvalBoth → State
 evalStepped s c d =
     withActors (withLinks (withPool s (stoodAt (s .pool) (evalAfter c (d .next)))) (d .links)) (d .actors)
 
--- the time limit of an eval actor's step: the group's, checked at each tick
+-- the time limit of an eval actor's run: the group's timeout, and the length of a tick, to which a deadline is rounded
 abbrev pub limitOf : State → Cursor → Limit
 limitOf s c = record { timeout = groupAt (s .groups) (c .group) .timeout; tick = s .pool .limits .tick }
 
 -- ---- the questions
 
+-- the state after a reply to the turn's question, by that question's own definition; what that leaves out is as it was
 unfoldable pub resumeOf : State → Ask → Reply → State
 resumeOf s (asks.SeedBoot g) r = seeded s (seedReply (s .keys) (s .actors) g r)
 resumeOf s (asks.RouteBoot g left) r = routed s (routeReply (s .rows) (tablesOf s) g left r)

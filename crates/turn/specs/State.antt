@@ -56,6 +56,7 @@ walOf s = record { bytes = s .bytes; table = s .records; counters = s .pool .tur
 
 -- ---- one part is this, all else is as it was
 
+-- the pool's own state is this; the log, the body store and the tables are as they were
 abbrev pub withPool : State → Pool → State
 withPool s p = record {
   pool = p;
@@ -69,6 +70,7 @@ withPool s p = record {
   actors = s .actors;
 }
 
+-- the lists of messages are these; all else is as it was
 abbrev pub withLinks : State → Table → State
 withLinks s t = record {
   pool = s .pool;
@@ -82,6 +84,7 @@ withLinks s t = record {
   actors = s .actors;
 }
 
+-- the messages' rows are these; all else is as it was
 abbrev pub withRows : State → Table → State
 withRows s rows = record {
   pool = s .pool;
@@ -95,6 +98,7 @@ withRows s rows = record {
   actors = s .actors;
 }
 
+-- the groups' keys and lists of keys are these; all else is as it was
 abbrev pub withKeys : State → Table → State
 withKeys s keys = record {
   pool = s .pool;
@@ -108,6 +112,7 @@ withKeys s keys = record {
   actors = s .actors;
 }
 
+-- the actors are these; all else is as it was
 abbrev pub withActors : State → Table → State
 withActors s actors = record {
   pool = s .pool;
@@ -121,6 +126,7 @@ withActors s actors = record {
   actors = actors;
 }
 
+-- the body store is this; all else is as it was
 abbrev pub withStore : State → List ℕ → State
 withStore s store = record {
   pool = s .pool;
@@ -150,9 +156,11 @@ withLog s bytes records = record {
 
 -- ---- the same of the pool
 
+-- the turn is this; the limits, closed and seeded are as they were
 abbrev pub withTurn : Pool → Turn → Pool
 withTurn p t = record { turn = t; limits = p .limits; closed = p .closed; seeded = p .seeded }
 
+-- the log's counters and the disk are these; where the turn stands and its counts are as they were
 abbrev pub withDisk : Pool → Counters → Disk → Pool
 withDisk p n d = withTurn p (record { at = p .turn .at; disk = d; counts = p .turn .counts; counters = n })
 
@@ -165,18 +173,22 @@ diskFor due.Nothing w = disk.Free
 abbrev pub countedAt : Pool → At → Counts → Pool
 countedAt p a n = withTurn p (record { at = a; disk = p .turn .disk; counts = n; counters = p .turn .counters })
 
+-- the turn stands there; its counts are as they were
 abbrev pub stoodAt : Pool → At → Pool
 stoodAt p a = countedAt p a (p .turn .counts)
 
+-- the turn stands there, with so many messages in mailboxes; the other counts are as they were
 abbrev pub queuedAt : Pool → At → ℕ → Pool
 queuedAt p a queued =
     countedAt p a
     (record { queued = queued; losses = p .turn .counts .losses; stepped = p .turn .counts .stepped })
 
+-- the turn stands there, with so many messages in mailboxes, and whether an actor was stepped in it
 abbrev pub steppedAt : Pool → At → ℕ → Bool → Pool
 steppedAt p a queued stepped =
     countedAt p a (record { queued = queued; losses = p .turn .counts .losses; stepped = stepped })
 
+-- the turn stands there, with so many messages in mailboxes, and these counts of dead messages and crashes
 abbrev pub lostAt : Pool → At → ℕ → Losses → Pool
 lostAt p a queued losses =
     countedAt p a (record { queued = queued; losses = losses; stepped = p .turn .counts .stepped })
@@ -221,17 +233,19 @@ newPool limits n d =
 
 -- ---- what runs
 
+-- no order waits, and none failed
 abbrev pub isFree : Disk → Bool
 isFree disk.Free = true
 isFree (disk.Waits o w) = false
 isFree disk.Failed = false
 
+-- the turn stands at a point: it is under way, and not at a question
 abbrev pub runsAt : At → Bool
 runsAt at.Rest = false
 runsAt (at.Asks a) = false
 runsAt (at.Runs p) = true
 
--- no order waits, and the turn is between questions
+-- no order waits or failed, and the turn stands at a point
 unfoldable pub runningOf : Pool → Bool
 runningOf p = isFree (p .turn .disk) && runsAt (p .turn .at)
 

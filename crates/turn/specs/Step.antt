@@ -30,6 +30,7 @@ unfoldable pub markLogged : State → Logged → State
 markLogged s (logged.As id) = marked s id (markOf (s .pool .limits .«compact_at») (walOf s) (id .0))
 markLogged s logged.Never = s
 
+-- the entry found first in over is free again, and its message gets its mark if it was logged; else nothing changes
 abbrev pub markEntry : State → Found → State
 markEntry s (found.Entry e) = markLogged (withLinks s (moveFirst (s .links) OVER FREE)) (messageAt (s .rows) e .id)
 markEntry s found.Nothing = s
@@ -44,15 +45,18 @@ markFirst s = markEntry s (firstOf (s .links) OVER)
 abbrev pub markAt : State → Point → State
 markAt s p = pick (marksAt p) (markFirst s) s
 
--- the point runs, unless an order waits
+-- the point runs, unless an order waits or failed
 abbrev pub goFree : State → Point → State
 goFree s p = pick (isFree (s .pool .turn .disk)) (goOf s p) s
 
+-- at a point the first message that is over gets its mark, if the point has marks, and then the point runs, if the
+-- disk is free; at rest and at a question nothing changes
 abbrev pub stepAt : State → At → State
 stepAt s at.Rest = s
 stepAt s (at.Asks a) = s
 stepAt s (at.Runs p) = goFree (markAt s p) p
 
+-- one step of the turn, from where it stands: one mark at most, and then the point, unless an order waits
 unfoldable pub turnStep : State → State
 turnStep s = stepAt s (s .pool .turn .at)
 
@@ -63,7 +67,7 @@ unfoldable pub advanceOf : ℕ → State → State
 advanceOf zero s = s
 advanceOf (suc n) s = pick (runningOf (s .pool)) (advanceOf n (turnStep s)) s
 
--- as far as it runs by itself: the weight is more than the steps that are left (`Advances`, in specs/Advance, says
--- what this is without a weight)
+-- as far as it runs by itself: the weight is at least as much as the steps that are left (`Advances`, in specs/Advance,
+-- says what this is without a weight)
 unfoldable pub advanced : State → State
 advanced s = advanceOf (weightOf (s .pool .turn)) s

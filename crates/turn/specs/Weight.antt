@@ -10,13 +10,15 @@ use Rattle.turn.specs.declared.state.Disk.{Disk}
 use Rattle.turn.specs.declared.state.Disk.the-variants as disk
 use Rattle.turn.specs.State.{Turn}
 
--- what is left of a tick after a group, and after the pops of its ready list
+-- the most that is left of a tick from group g on
 abbrev pub tickLeft : ℕ → ℕ
 tickLeft g = (GROUPS - g) * 30000
 
+-- with so many pops of a group's ready list left: 100 for each, and 2 more than is left of the tick after the group
 abbrev pub popsLeft : ℕ → ℕ → ℕ
 popsLeft g pops = tickLeft (g + 1) + 2 + 100 * pops
 
+-- the weight of a point: every point that it leads to by itself has less
 unfoldable pub weightAt : Point → ℕ
 weightAt (point.Seed g) = 1000 + (GROUPS - g)
 weightAt (point.Intake left) = 300 + left
@@ -36,10 +38,12 @@ weightIn at.Rest = 0
 weightIn (at.Asks a) = 0
 weightIn (at.Runs p) = weightAt p
 
+-- 1 more than where the turn stands weighs, if the disk is free; 0 while an order waits, and after a failed one
 abbrev pub weightBy : Disk → At → ℕ
 weightBy disk.Free a = 1 + weightIn a
 weightBy (disk.Waits o w) a = 0
 weightBy disk.Failed a = 0
 
+-- the weight of a turn: at least as many as the steps that it still runs by itself
 unfoldable pub weightOf : Turn → ℕ
 weightOf t = weightBy (t .disk) (t .at)

@@ -8,9 +8,11 @@ unfoldable pub lowBytes : ℕ → ℕ → List ℕ
 lowBytes zero n = []
 lowBytes (suc k) n = n % 256 ∷ lowBytes k (n / 256)
 
+-- the 8 bytes of a number, the lowest first; of a number from 2 ^ 64 on they say only the remainder by 2 ^ 64
 unfoldable pub number : ℕ → List ℕ
 number n = lowBytes 8 n
 
+-- the bytes of numbers one behind the other, 8 of each
 unfoldable pub numbers : List ℕ → List ℕ
 numbers [] = []
 numbers (n ∷ ns) = number n ++ numbers ns
@@ -19,6 +21,7 @@ numbers (n ∷ ns) = number n ++ numbers ns
 unfoldable pub fourAt : List ℕ → ℕ → ℕ
 fourAt s p = getD s p 0 + 256 * getD s (p + 1) 0 + 65536 * getD s (p + 2) 0 + 16777216 * getD s (p + 3) 0
 
+-- the number that the 8 bytes from p on say, the lowest first; bytes past the end count as 0
 unfoldable pub numberAt : List ℕ → ℕ → ℕ
 numberAt s p = fourAt s p + 4294967296 * fourAt s (p + 4)
 

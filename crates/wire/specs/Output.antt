@@ -13,6 +13,7 @@ pub record Output : Type 0 where
   pub at : ℕ
   pub code : ℕ
 
+-- an output of these bytes that is written up to `at`, with this number to be returned
 abbrev pub outputWith : List ℕ → ℕ → ℕ → Output
 outputWith out at code = record { out = out; at = at; code = code }
 
@@ -30,6 +31,7 @@ unfoldable pub outputRows : Output → Table → Output
 outputRows d [] = d
 outputRows d (row ∷ rows) = outputRows (output d (numbers row)) rows
 
+-- the rows of a table whose cells are bytes, in their order: each goes out as one whole text, while there is room
 unfoldable pub outputKeys : Output → Table → Output
 outputKeys d [] = d
 outputKeys d (row ∷ rows) = outputKeys (output d row) rows

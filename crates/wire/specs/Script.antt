@@ -25,6 +25,7 @@ use Rattle.wire.specs.declared.script.CallRead.the-variants.{Malformed, 
 unfoldable pub fileAt : ℕ → ℕ
 fileAt groups = 88 + 296 * groups
 
+-- what the header says, number by number; the number of groups is given, and the file begins behind so many
 abbrev pub fieldsOf : List ℕ → ℕ → Header
 fieldsOf s groups = record {
   show = numberAt s 8;
@@ -72,9 +73,11 @@ unfoldable pub callerIn : ℕ → ℕ → KindRead
 callerIn k v = pick (eqb k 0) (known.Known (kind.Admit caller.Nobody))
     (pick (eqb k 1) (known.Known (kind.Admit (caller.From (record { 0 = v })))) known.Unknown)
 
+-- a kind of call that is known: this reply
 abbrev pub repliedBy : Reply → KindRead
 repliedBy r = known.Known (kind.Reply r)
 
+-- the value of a reply ran: 0 done, 1 exit, 2 preempted, 3 event, 4 host call, 5 error, 6 broke; any other is unknown
 unfoldable pub statusIn : ℕ → KindRead
 statusIn v =
     pick (eqb v 0) (repliedBy (reply.Ran status.Done))
