@@ -120,7 +120,7 @@ for name, text in F.params:
         params.append(Slice(name, sum(p.slice for p in params), bool(m.group(1)), m.group(2)))
         continue
     k = '' if not [p for p in plains if p.x != 'n'] else str(1 + len([p for p in plains if p.x != 'n']))
-    if text == 'usize':
+    if text in ('usize', 'u64'):
         p = Plain(name, f'h{k}', f'was{k}', None, text)
     elif not got and name == source:
         p = Plain(name, 'n', 'wasn', T, 'Counters', 'R', 'mach n')

@@ -5,7 +5,7 @@ import glob, re
 ELEMENT = {'u8': ('u8', 'ℕ', 'plain (λ _. u8)')}
 
 def row(name):
-    """what the name of a row stands for: `pub type NAME = [u64; 3];` of some crate"""
+    """what the name of a row stands for: `pub type NAME = [u64; 4];` of some crate"""
     for file in sorted(glob.glob('crates/*/src/*.rt')):
         m = re.search(rf'^pub type {name} = (.*);$', open(file).read(), re.M)
         if m:

@@ -5,7 +5,7 @@
 
 from the repository's root:   tools/stepped.py CRATE MODULE F S T FIELD E ANSWER SPECMODULE:USED,.. FACT PARAMS
 F_step is covered and returns the plain struct T { FIELD: S, ANSWER: E }, where E is an enum. PARAMS are F's after c, in their order: `a:mut:u8`
-and `b:shr:u8` slices (`rows` in place of u8: of [u64; 3]), `n:usize` a number, `i:struct:I` a plain struct. F_step has c first, too.
+and `b:shr:u8` slices (`rows` in place of u8: of [u64; 4]), `n:usize` a number, `i:struct:I` a plain struct. F_step has c first, too.
 FACT is the equation that both ensure: P is the struct at exit, R the answer, X the struct at entry, @a the slice's list at exit, #a at entry
 (#n the value)."""
 import os, re, sys
@@ -13,7 +13,7 @@ sys.path.insert(0, os.path.dirname(__file__))
 from ctx import Ctx, locals_of, leave, tidy
 
 W = {'u64': 'w64', 'usize': 'w64'}
-ELEM = {'u8': ('u8', 'ℕ', 'plain (λ _. u8)'), 'rows': ('(Array u64 3)', '(List ℕ)', '(ArrayOf (plain (λ _. u64)) (λ κs. tt) 3)')}
+ELEM = {'u8': ('u8', 'ℕ', 'plain (λ _. u8)'), 'rows': ('(Array u64 4)', '(List ℕ)', '(ArrayOf (plain (λ _. u64)) (λ κs. tt) 4)')}
 
 def pair(items):
     items = list(items)

@@ -12,8 +12,12 @@ wal append Answered Answer answer Log:DidAppend,state,appendOf \
 wal mark AnsweredDue Due due Log:DidMark,state,markOf \
     '_≡_ {A = DidMark} (record { wal = state @log @records P; due = R }) (markOf #limit (state #log #records X) (#id .0))' \
     'log:mut:u8 records:mut:rows limit:usize id:struct:LogId'
+wal retry AnsweredDue Due due Log:DidMark,state,retryOf \
+    '_≡_ {A = DidMark} (record { wal = state @log @records P; due = R }) (retryOf (state #log #records X) (#id .0) #attempts)' \
+    'log:mut:u8 records:mut:rows id:struct:LogId attempts:u64'
 wal sync AnsweredDue Due due Log:syncLog '_≡_ {A = AnsweredDue} (record { counters = P; due = R }) (syncLog X)' ''
 python3 tools/looped.py
 python3 tools/site.py turn logged append LoggedLaws.appended-log
 python3 tools/site.py turn logged mark LoggedLaws.marked-log
+python3 tools/site.py turn logged retry LoggedLaws.retried-log
 python3 tools/site.py turn logged sync LoggedLaws.synced-log

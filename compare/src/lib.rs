@@ -38,6 +38,7 @@ pub mod differences;
 pub mod mailboxes;
 pub mod property;
 pub mod recorded;
+pub mod retries;
 pub mod spellings;
 pub mod unloaded;
 

@@ -34,7 +34,17 @@ pub const POINTS: &[(&str, Where)] = &[
     ("line: a record in another spelling, skipped, of an open id", Outside),
     ("line: done in another spelling, skipped", Outside),
     ("line: done in another spelling, skipped, of no open record", Outside),
+    // Attempts in a file. The Rust skips a line of two fields.
+    ("line: a retry", Outside),
+    ("line: a retry, a smaller number", Outside),
+    ("line: a retry of 0", Outside),
+    ("line: a retry of no open record, skipped", Outside),
+    ("line: a retry above 255, skipped", Outside),
+    ("line: a retry in another spelling, skipped", Anywhere),
+    ("line: a record, set again, its attempts 0 again", Outside),
+    ("line: done, with its attempts", Outside),
     ("opening: a message left", Inside),
+    ("opening: a message left, with its attempts", Outside),
     // Calls.
     ("admit: a record behind the others", Inside),
     ("admit: a rewrite for lack of space", Anywhere),
@@ -253,6 +263,16 @@ pub const POINTS: &[(&str, Where)] = &[
     ("crash_trapped: two messages or more go back to pending", Inside),
     ("crash_trapped: with a message in its hands", Inside),
     ("crash_trapped: with none", Inside),
+    // What is written of a retry. After the first order the Rust is compared by its messages.
+    ("retry: not logged", Inside),
+    ("retry: a line behind the others", Inside),
+    ("retry: a rewrite", Inside),
+    ("retry: no room", Inside),
+    ("retry: no room, and the log keeps the number before", Anywhere),
+    ("retry: an unknown id", Never("a logged message's record is open until its own mark")),
+    ("retry at AskTrap", Inside),
+    ("retry at CrashTrapped, more to retire", Inside),
+    ("retry at CrashTrapped, the last", Inside),
     // What is over, and its marks.
     ("over: logged, waits for its mark", Inside),
     ("over: a caller's, free at once", Inside),
@@ -332,6 +352,7 @@ pub const POINTS: &[(&str, Where)] = &[
     ("Rust: sync", Rust),
     ("Rust: close", Rust),
     ("Rust: a turn", Rust),
+    ("Rust: its log is seen by its messages", Rust),
 ];
 
 /// The number of a point; a name that is not in the list stops the build.

@@ -1,6 +1,6 @@
 //! What a run of the port gives (docs/PROTOCOL.md): an entry for the opening, then one for each call, read from bytes
 //! with every byte accounted for. An entry borrows the bytes that it was read from.
-use crate::model::log::Order;
+use crate::model::log::{Left, LogId, Order};
 use crate::model::pool::{self, Outcome, Pool, Question};
 use crate::script::{SHOW_LOG, SHOW_STORE, SHOW_TABLES};
 use crate::tables::{self, Tables};
@@ -205,6 +205,19 @@ impl<'a> Output<'a> {
 }
 
 impl<'a> Entry<'a> {
+    /// The messages in pending, in order, with their texts and attempts: after an opening, what it handed back. Tables
+    /// and store must be shown.
+    pub fn handed_back(&self) -> Result<Vec<Left>, String> {
+        let (tables, store) = (self.tables.ok_or("no tables")?, self.store.ok_or("no store")?);
+        let message = |at: usize| {
+            let row = tables.message(at);
+            let (name, body) = tables::text(store, at, &row);
+            let id = LogId(row.id.ok_or("a message without an id")?);
+            Ok(Left { id, name: name.to_vec(), body: body.to_vec(), attempts: row.attempts })
+        };
+        tables.list(tables::list::PENDING).into_iter().map(message).collect()
+    }
+
     fn read(from: &mut Reader<'a>, show: u64, store_len: usize) -> Result<Entry<'a>, String> {
         const SHORT: &str = "the output ends inside an entry";
         let all = from.rest();

@@ -58,8 +58,8 @@ impl Script {
         }
         self.bytes.extend_from_slice(name);
         self.bytes.extend_from_slice(body);
-        // A call orders one record or one done line at most.
-        const ID_AND_SEPARATORS: usize = 23;
+        // A call orders one record, one done line or one retry at most. An id has 20 digits at most, attempts have 3.
+        const ID_AND_SEPARATORS: usize = 25;
         self.log_bound += ID_AND_SEPARATORS + 2 * (name.len() + body.len());
         self.bound += self.entry_bound();
     }

@@ -5,11 +5,10 @@ use crate::lent::Lent;
 use crate::limits::{LOG_MAX, NAME_MAX, STORE, refusal};
 use crate::model::log::{Left, LogId};
 use crate::model::pool::{GroupSetting, Settings};
-use crate::output::{Answer, Entry};
+use crate::output::Answer;
 use crate::property::judge;
 use crate::property::list::{List, Opening};
 use crate::script::SHOW_STORE;
-use crate::tables::{list, text};
 use crate::tally::{Tally, same};
 
 /// A file, and what is stated of its opening: what it leaves, or the number that refuses it.
@@ -33,12 +32,16 @@ pub fn run(tally: &mut Tally) {
     let mut lent = Lent::default();
     for Stated { what, opening, end } in files() {
         let list = List { opening, calls: Vec::new() };
-        let beside = judge::list(&mut lent, &list, SHOW_STORE, &mut judge::Seen::default());
-        let found = beside.and_then(|()| found(&mut lent, &list));
-        let checked = found.and_then(|found| same("its end", found, end)).and_then(|()| beside_rust(&list));
+        let checked = opened(&mut lent, &list, &end).and_then(|()| beside_rust(&list));
         tally.check(checked.map_err(|error| format!("{what}: {error}")));
     }
     tally.end();
+}
+
+/// The port's opening must be that of the plain program, and leave what is stated of it.
+pub fn opened(lent: &mut Lent, list: &List, end: &Result<End, u64>) -> Result<(), String> {
+    judge::list(lent, list, SHOW_STORE, &mut judge::Seen::default())?;
+    same("its end", &found(lent, list)?, end)
 }
 
 /// The Rust is told of accepted files inside the domain of equality alone.
@@ -63,20 +66,11 @@ fn found(lent: &mut Lent, list: &List) -> Result<Result<End, u64>, String> {
     let entry = output.entries.last().ok_or("no entry")?;
     match entry.answer {
         Answer::Refused(number) => Ok(Err(number)),
-        _ => Ok(Ok(End { left: left(entry)?, next: entry.next, log: entry.log.ok_or("no log")?.to_vec() })),
+        _ => {
+            let log = entry.log.ok_or("no log")?.to_vec();
+            Ok(Ok(End { left: entry.handed_back()?, next: entry.next, log }))
+        }
     }
-}
-
-/// The messages in pending, with their texts from the store.
-fn left(entry: &Entry) -> Result<Vec<Left>, String> {
-    let (tables, store) = (entry.tables.ok_or("no tables")?, entry.store.ok_or("no store")?);
-    let message = |at: usize| {
-        let row = tables.message(at);
-        let (name, body) = text(store, at, &row);
-        let id = row.id.ok_or("a message without an id")?;
-        Ok(Left { id: LogId(id), name: name.to_vec(), body: body.to_vec() })
-    };
-    tables.list(list::PENDING).into_iter().map(message).collect()
 }
 
 /// One group, `row`.
@@ -96,7 +90,12 @@ pub fn files() -> Vec<Stated> {
 type Messages<'a> = &'a [(u64, &'a str, &'a str)];
 
 fn leaves(what: &'static str, file: &str, left: Messages, next: u64, log: &str) -> Stated {
-    let message = |&(id, name, body): &(u64, &str, &str)| Left { id: LogId(id), name: name.into(), body: body.into() };
+    let message = |&(id, name, body): &(u64, &str, &str)| Left {
+        id: LogId(id),
+        name: name.into(),
+        body: body.into(),
+        attempts: 0,
+    };
     let end = End { left: left.iter().map(message).collect(), next, log: log.into() };
     Stated { what, opening: opening(file), end: Ok(end) }
 }

@@ -1,13 +1,13 @@
 //! The tables that an entry shows, row by row: open records, groups, links, messages, lists of keys, actors.
 //! They are read where they lie; a row's place is decided by the lengths alone.
 use crate::limits::{GROUPS_MAX, MESSAGES};
-use crate::model::log::{self, LogId};
+use crate::model::log;
 use crate::model::pool::{Actor, Message, Settings};
 use crate::wire::NUMBER;
 
 /// Rows of each table, and numbers of a row.
 const RECORDS: usize = MESSAGES;
-pub const RECORD: usize = 3;
+pub const RECORD: usize = 4;
 pub const GROUP: usize = 37;
 /// The lists of messages; as many rows of links.
 pub const LISTS: usize = 262;
@@ -85,7 +85,10 @@ pub const TRAPPED: usize = 33;
 pub struct OpenRecord {
     pub id: u64,
     pub at: u64,
+    /// That of the record alone.
     pub length: u64,
+    /// As last written or read.
+    pub attempts: u64,
 }
 
 #[derive(Clone, Copy, PartialEq, Eq, Debug)]
@@ -115,10 +118,11 @@ pub struct ActorRow {
 impl OpenRecord {
     /// The open records of a log's bytes.
     pub fn all(log: &[u8]) -> Vec<OpenRecord> {
-        let row = |(id, from, to): (LogId, usize, usize)| OpenRecord {
-            id: id.0,
-            at: from as u64,
-            length: (to - from) as u64,
+        let row = |open: log::Open| OpenRecord {
+            id: open.id.0,
+            at: open.from as u64,
+            length: (open.to - open.from) as u64,
+            attempts: open.attempts,
         };
         log::open_records(log).into_iter().map(row).collect()
     }
@@ -192,8 +196,8 @@ impl<'a> Tables<'a> {
     pub fn records(&self, open: u64) -> Vec<OpenRecord> {
         (0..(open as usize).min(RECORDS))
             .map(|row| {
-                let [id, at, length] = self.row::<RECORD>(RECORDS_AT, row);
-                OpenRecord { id, at, length }
+                let [id, at, length, attempts] = self.row::<RECORD>(RECORDS_AT, row);
+                OpenRecord { id, at, length, attempts }
             })
             .collect()
     }

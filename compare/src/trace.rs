@@ -112,6 +112,25 @@ pub enum Event {
     Stop,
 }
 
+impl Event {
+    /// The log that the event shows.
+    pub fn log(&self) -> Option<&LogView> {
+        match self {
+            Event::Ask(_, log) | Event::Sync(log) => Some(log),
+            Event::Admit { log, .. } | Event::TurnEnd { log, .. } => Some(log),
+            _ => None,
+        }
+    }
+
+    pub fn log_mut(&mut self) -> Option<&mut LogView> {
+        match self {
+            Event::Ask(_, log) | Event::Sync(log) => Some(log),
+            Event::Admit { log, .. } | Event::TurnEnd { log, .. } => Some(log),
+            _ => None,
+        }
+    }
+}
+
 /// The whole list, after an opening that gives this log and this pool.
 #[derive(Clone, PartialEq, Eq, Debug)]
 pub struct Trace {

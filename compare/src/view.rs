@@ -1,4 +1,5 @@
 //! What the plain program and the Rust are compared by besides questions: messages, actors, groups, the pool, the log.
+use crate::model::log::{self, Line};
 use crate::model::pool::{Actor, Entry, Pool};
 
 #[derive(Clone, PartialEq, Eq, Debug)]
@@ -40,25 +41,65 @@ pub struct PoolView {
     pub dead: u64,
 }
 
-/// The log's bytes and counters, and how many messages wait in the inbox. The log's size is its bytes' length.
+/// The log, and how many messages wait in the inbox.
 #[derive(Clone, PartialEq, Eq, Debug)]
 pub struct LogView {
-    pub bytes: Vec<u8>,
+    pub file: FileView,
     pub next: u64,
-    pub live: u64,
     pub dirty: bool,
     pub inbox: usize,
+}
+
+/// What is compared of a log's file.
+#[derive(Clone, PartialEq, Eq, Debug)]
+pub enum FileView {
+    /// Its bytes, and how many of them count as live. The log's size is the length of its bytes.
+    Bytes { bytes: Vec<u8>, live: u64 },
+    /// What an opening would hand back of it, without attempts. So it is once a retry was ordered, since the Rust
+    /// writes no line of it.
+    Left(Vec<LeftView>),
+}
+
+#[derive(Clone, PartialEq, Eq, Debug)]
+pub struct LeftView {
+    pub id: u64,
+    pub name: Vec<u8>,
+    pub body: Vec<u8>,
 }
 
 impl LogView {
     pub fn of(pool: &Pool) -> LogView {
         LogView {
-            bytes: pool.log[..pool.counters.size].to_vec(),
+            file: FileView::of(pool),
             next: pool.counters.next,
-            live: pool.counters.live as u64,
             dirty: pool.counters.dirty,
             inbox: pool.inbox.len(),
         }
+    }
+
+    pub fn by_messages(&self) -> bool {
+        matches!(self.file, FileView::Left(_))
+    }
+}
+
+impl FileView {
+    fn of(pool: &Pool) -> FileView {
+        let file = &pool.log[..pool.counters.size];
+        if pool.retried {
+            return FileView::Left(LeftView::all(file));
+        }
+        FileView::Bytes { bytes: file.to_vec(), live: pool.counters.live as u64 }
+    }
+}
+
+impl LeftView {
+    /// The messages of a file's open records, in their order, which is that of their ids.
+    fn all(file: &[u8]) -> Vec<LeftView> {
+        let message = |open: &log::Open| match log::read_line(&file[open.from..open.to - 1]) {
+            Line::Record(id, name, body) => LeftView { id, name: log::unescape(name), body: log::unescape(body) },
+            other => unreachable!("an open record reads {other:?}"),
+        };
+        log::open_records(file).iter().map(message).collect()
     }
 }
 

@@ -1,6 +1,6 @@
 //! differ [COUNT [SEED]]: COUNT random cases, the port beside the Rust and beside the plain program; before them
 //! what is fixed or smaller: slips that must be caught, recorded answers, differences, programs that are not loaded,
-//! spellings of ids, mailboxes, any lists of calls, power cuts, any bytes.
+//! spellings of ids, retries, mailboxes, any lists of calls, power cuts, any bytes.
 //! differ coverage [COUNT [SEED]]: the cases alone, and how often each named point was met, as a table.
 //! differ selftest: the slips alone, in more cases.
 //! differ CASE 0 show: one case as text, and what differs in it (CASE as a FAILED line names it).
@@ -9,7 +9,8 @@ use compare::diff::seen::Seen;
 use compare::lent::Lent;
 use compare::scratch::Scratch;
 use compare::tally::Tally;
-use compare::{cuts, diff, differences, mailboxes, met, port, program, property, recorded, spellings, unloaded};
+use compare::{cuts, diff, differences, mailboxes, met, port, program, property};
+use compare::{recorded, retries, spellings, unloaded};
 use std::process::ExitCode;
 
 const USAGE: &str = "differ [COUNT [SEED]]
@@ -58,6 +59,7 @@ fn run(count: u64, seed: u64) -> bool {
     differences::run(&mut tally);
     unloaded::run(&mut tally);
     spellings::run(&mut tally);
+    retries::run(&mut tally);
     mailboxes::run(&mut tally);
     property::run(&mut tally, count / CASES_A_LIST, seed);
     cuts::run(&mut tally, count / CASES_A_CUT, seed);

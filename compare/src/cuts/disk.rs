@@ -2,13 +2,25 @@
 //!
 //! All bytes up to the last confirmed flush or replace are sure. Behind them stands any prefix of what was appended
 //! since. An open replace leaves that, or the new file whole. A failed order did what an open one may. A moment is the
-//! list of messages logged and not done as an order goes out.
-use crate::model::log::{self, Left, LogId, Order};
+//! list of messages logged and not done as an order goes out, with the attempts last written of each.
+use crate::model::log::{self, Left, Order};
 use crate::model::pool::Event;
 use std::collections::BTreeMap;
 
-/// Messages by id: name and body.
-type Messages = BTreeMap<u64, (Vec<u8>, Vec<u8>)>;
+/// What an opening hands back: its new file, and the id and the attempts of each message in pending.
+#[derive(Clone, PartialEq, Eq, Debug)]
+pub struct HandedBack {
+    pub image: Vec<u8>,
+    pub attempts: Vec<(u64, u64)>,
+}
+
+impl HandedBack {
+    /// These messages, in rising id order.
+    pub fn of(left: &[Left]) -> HandedBack {
+        let attempts = left.iter().map(|message| (message.id.0, message.attempts)).collect();
+        HandedBack { image: log::image(left), attempts }
+    }
+}
 
 pub struct Disk {
     sure: Vec<u8>,
@@ -19,11 +31,12 @@ pub struct Disk {
     other: Option<Vec<u8>>,
     /// The order that waits for its answer.
     waits: Option<Order>,
-    /// As the opening writes them, by moment: the first is the opening's; each order adds one.
-    moments: Vec<Vec<u8>>,
+    /// As an opening must hand them back: the first is the opening's; each order adds one.
+    moments: Vec<HandedBack>,
     /// The moment of the last confirmed flush or replace.
     firm: usize,
-    messages: Messages,
+    /// By id.
+    messages: BTreeMap<u64, Left>,
 }
 
 /// One file that a cut may leave, and the moments that it may be of: the one that its last whole line says.
@@ -35,7 +48,7 @@ pub struct Cut {
 impl Disk {
     /// An accepted opening on this file, which counts as sure. Its own order waits.
     pub fn open(file: &[u8], left: &[Left], log: &[u8], order: Order) -> Disk {
-        let messages = left.iter().map(|left| (left.id.0, (left.name.clone(), left.body.clone()))).collect();
+        let messages = left.iter().map(|left| (left.id.0, left.clone())).collect();
         let mut disk = Disk {
             sure: file.to_vec(),
             appended: Vec::new(),
@@ -52,7 +65,7 @@ impl Disk {
 
     /// An order goes out: `log` is the lent log as it then is.
     pub fn order(&mut self, order: Order, log: &[u8]) {
-        self.moments.push(self.image());
+        self.moments.push(self.now());
         let newest = self.moments.len() - 1;
         match order {
             Order::Append(from, to) => {
@@ -65,11 +78,17 @@ impl Disk {
         self.waits = Some(order);
     }
 
-    /// What a call logged or marked, before its order goes out.
+    /// What a call logged, marked or retried, before its order goes out.
     pub fn event(&mut self, event: &Event, name: &[u8], body: &[u8]) {
         match event {
-            Event::Logged(id) => drop(self.messages.insert(id.0, (name.to_vec(), body.to_vec()))),
+            Event::Logged(id) => {
+                let message = Left { id: *id, name: name.to_vec(), body: body.to_vec(), attempts: 0 };
+                self.messages.insert(id.0, message);
+            }
             Event::Marked(id) => drop(self.messages.remove(&id.0)),
+            Event::Retried { id, attempts } => {
+                self.messages.get_mut(&id.0).expect("a message that is not done").attempts = *attempts;
+            }
             Event::Delivered { .. } => {}
         }
     }
@@ -86,9 +105,10 @@ impl Disk {
         self.firm = self.moments.len() - 1;
     }
 
-    /// The messages of now, written as an opening writes them.
-    fn image(&self) -> Vec<u8> {
-        self.messages.iter().flat_map(|(id, (name, body))| log::record(LogId(*id), name, body)).collect()
+    /// The messages of now, as an opening must hand them back.
+    fn now(&self) -> HandedBack {
+        let left: Vec<Left> = self.messages.values().cloned().collect();
+        HandedBack::of(&left)
     }
 
     /// Every file that the power may leave now; of a long tail, each line's end with its neighbours, and some others.
@@ -107,13 +127,13 @@ impl Disk {
         cuts
     }
 
-    /// Whether an opening that writes this image hands back exactly the messages of the cut's moment, and that moment
-    /// is one that the rule allows.
-    pub fn allows(&self, cut: &Cut, image: &[u8]) -> Result<(), String> {
-        if cut.moment >= self.firm && self.moments[cut.moment] == image {
+    /// Whether an opening hands back exactly the messages of the cut's moment, with their attempts, and that moment is
+    /// one that the rule allows.
+    pub fn allows(&self, cut: &Cut, given: &HandedBack) -> Result<(), String> {
+        if cut.moment >= self.firm && self.moments[cut.moment] == *given {
             return Ok(());
         }
-        let found = self.moments.iter().rposition(|moment| moment == image);
+        let found = self.moments.iter().rposition(|moment| moment == given);
         let found = found.map_or("no moment".into(), |moment| format!("moment {moment}"));
         let newest = self.moments.len() - 1;
         Err(format!("hands back {found}, not moment {} (firm {}, newest {newest})", cut.moment, self.firm))

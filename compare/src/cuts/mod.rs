@@ -1,6 +1,6 @@
 //! Power cuts. Before the first call of a list and after each of its calls, every file that the write rule allows is
-//! opened again by the port, and must hand back exactly the messages of the right moment: one up to the cut, and not
-//! before the last confirmed flush or replace.
+//! opened again by the port, and must hand back exactly the messages of the right moment, with the attempts last
+//! written by then: a moment up to the cut, and not before the last confirmed flush or replace.
 
 pub mod disk;
 pub mod lists;
@@ -8,12 +8,13 @@ pub mod lists;
 use crate::lent::Lent;
 use crate::model::log::{self, Order};
 use crate::model::pool::{self, Call, Event, Question, Reply};
-use crate::output::Answer;
+use crate::output::{Answer, Entry};
 use crate::property::list::{List, Opening};
 use crate::rng::Rng;
-use crate::script::SHOW_LOG;
+use crate::script::{SHOW_LOG, SHOW_TABLES};
+use crate::tables::list;
 use crate::tally::Tally;
-use disk::{Cut, Disk};
+use disk::{Cut, Disk, HandedBack};
 use std::collections::HashMap;
 
 /// Tails up to this length are cut at every byte.
@@ -45,7 +46,7 @@ pub fn run(tally: &mut Tally, count: u64, seed: u64) {
 #[derive(Default)]
 struct Cutter {
     lent: Lent,
-    opened: HashMap<Vec<u8>, Result<Vec<u8>, String>>,
+    opened: HashMap<Vec<u8>, Result<HandedBack, String>>,
     cuts: u64,
     files: u64,
     openings: u64,
@@ -82,31 +83,28 @@ impl Cutter {
         let chosen = |length: usize| length <= EVERY_BYTE || rng.below(length as u64) < SOME_BYTES;
         for cut in disk.cuts(chosen) {
             self.files += 1;
-            let image = self.reopened(opening, &cut);
-            image
-                .and_then(|image| disk.allows(&cut, &image))
+            let given = self.reopened(opening, &cut);
+            given
+                .and_then(|given| disk.allows(&cut, &given))
                 .map_err(|error| format!("file \"{}\": {error}", cut.file.escape_ascii()))?;
         }
         Ok(())
     }
 
-    /// The log that the port writes as it opens the file that a cut left.
-    fn reopened(&mut self, opening: &Opening, cut: &Cut) -> Result<Vec<u8>, String> {
+    /// What the port hands back as it opens the file that a cut left.
+    fn reopened(&mut self, opening: &Opening, cut: &Cut) -> Result<HandedBack, String> {
         if let Some(known) = self.opened.get(&cut.file) {
             return known.clone();
         }
         self.openings += 1;
         let again = Opening { file: cut.file.clone(), ..opening.clone() };
-        let output = self.lent.output(&again.script(SHOW_LOG))?;
-        let image = match output.entries.as_slice() {
-            [entry] => match entry.answer {
-                Answer::Replace(length) if length == entry.size => Ok(entry.log.unwrap_or_default().to_vec()),
-                other => Err(format!("the opening after a cut answers {other:?}")),
-            },
+        let output = self.lent.output(&again.script(SHOW_TABLES))?;
+        let given = match output.entries.as_slice() {
+            [entry] => handed_back(entry),
             entries => Err(format!("{} entries for an opening", entries.len())),
         };
-        self.opened.insert(cut.file.clone(), image.clone());
-        image
+        self.opened.insert(cut.file.clone(), given.clone());
+        given
     }
 
     fn note(&mut self, tally: &mut Tally) {
@@ -116,8 +114,24 @@ impl Cutter {
     }
 }
 
+/// What an opening's entry shows: the new file, and the ids and the attempts of what is pending.
+fn handed_back(entry: &Entry) -> Result<HandedBack, String> {
+    let (log, tables) = (entry.log.ok_or("no log")?, entry.tables.ok_or("no tables")?);
+    let attempts = |at: usize| {
+        let row = tables.message(at);
+        Ok((row.id.ok_or("a message without an id")?, row.attempts))
+    };
+    match entry.answer {
+        Answer::Replace(length) if length == entry.size => {
+            let attempts = tables.list(list::PENDING).into_iter().map(attempts).collect::<Result<_, String>>()?;
+            Ok(HandedBack { image: log.to_vec(), attempts })
+        }
+        other => Err(format!("the opening after a cut answers {other:?}")),
+    }
+}
+
 /// One call, by the plain program and on the disk. False where it was refused: it adds no moment and no file.
-fn step(disk: &mut Disk, pool: &mut pool::Pool, call: &Call) -> bool {
+pub(crate) fn step(disk: &mut Disk, pool: &mut pool::Pool, call: &Call) -> bool {
     let waited = pool.order.is_some();
     let answer = pool.call(call);
     if let pool::Answer::Refused(_) = answer {

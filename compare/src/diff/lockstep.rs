@@ -1,5 +1,5 @@
 //! The port's entries beside the plain program, call by call: the answer and the message it shows, counters, the log's
-//! bytes, the order of every list of messages, each message, the keys, the actors, deliveries and marks.
+//! bytes, the order of every list of messages, each message, the keys, the actors, deliveries, marks and retries.
 //!
 //! Which free entry a message gets is the port's choice. So entries are paired as they come up, and a pair must last
 //! until the message is done.
@@ -9,7 +9,7 @@ use crate::generate::case::{self, Case};
 use crate::lent::{LOG_FILL, STORE_FILL};
 use crate::limits::{GROUPS_MAX, MESSAGES, STORE_BODY, STORE_ENTRY};
 use crate::met::{Counting, counting};
-use crate::model::log::{self, Order, Reader};
+use crate::model::log::{self, LogId, Order, Reader};
 use crate::model::pool::{self, At, Call, Event, Pool, Question};
 use crate::output::{Answer, Entry, Output, Shown};
 use crate::tables::{self, ActorRow, MessageRow, OpenRecord, Tables, list};
@@ -163,6 +163,7 @@ impl Lockstep {
         self.messages(&tables)?;
         self.deliveries(seen)?;
         self.marks(&tables, entry, seen)?;
+        self.retry(entry, seen)?;
         self.groups(&tables)?;
         match entry.store {
             Some(store) => same_bytes("the store", store, &self.store),
@@ -245,6 +246,23 @@ impl Lockstep {
             }
         }
         Ok(())
+    }
+
+    /// The order of a retry appends its line, or is a new file with the line directly behind its record.
+    fn retry(&self, entry: &Entry, seen: &mut Seen) -> Result<(), String> {
+        let Some((id, attempts)) = self.pool.events.iter().find_map(retried) else { return Ok(()) };
+        seen.retries += 1;
+        let line = log::retry_line(id, attempts);
+        let record = self.records.iter().find(|record| record.id == id.0).ok_or("a retry of no open record")?;
+        let from = match entry.answer {
+            Answer::Append(from, to) => {
+                same("the length of a retry", to - from, line.len() as u64)?;
+                from
+            }
+            Answer::Replace(_) => record.at + record.length,
+            other => return Err(format!("a retry of {}, and no order: {other:?}", id.0)),
+        } as usize;
+        same("the line of a retry", self.log.get(from..from + line.len()), Some(line.as_slice()))
     }
 
     /// Settings, keys and actors.
@@ -333,6 +351,13 @@ fn keys<'a>(what: &str, port: &[u8], expected: impl Iterator<Item = &'a usize>) 
 fn marked(event: &Event) -> Option<u64> {
     match event {
         Event::Marked(id) => Some(id.0),
+        _ => None,
+    }
+}
+
+fn retried(event: &Event) -> Option<(LogId, u64)> {
+    match event {
+        Event::Retried { id, attempts } => Some((*id, *attempts)),
         _ => None,
     }
 }

@@ -16,6 +16,8 @@ use crate::output::Output;
 use crate::port;
 use crate::script::{SHOW_STORE, SHOW_TABLES, Script};
 use crate::tables;
+#[cfg(oracle)]
+use crate::view::LogView;
 use crate::wire::NUMBER;
 use seen::Seen;
 use std::path::Path;
@@ -95,6 +97,8 @@ pub fn beside_rust(case: &Case, path: &Path, seen: &mut Seen) -> Result<(), Stri
     if case.inside.is_some() {
         seen.rust_events += crate::oracle::run::run(&case.settings, &case.file, &case.trace, path)?;
         seen.rust_cases += 1;
+        seen.rust_retried +=
+            case.trace.events.iter().any(|event| event.log().is_some_and(LogView::by_messages)) as u64;
     }
     Ok(())
 }

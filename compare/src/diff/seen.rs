@@ -1,4 +1,5 @@
-//! What a run compared: cases, calls, questions by kind, replies, refusals, deliveries, marks; and the points it met.
+//! What a run compared: cases, calls, questions by kind, replies, refusals, deliveries, marks, retries; and the points
+//! it met.
 use super::lockstep::order_of;
 use crate::generate::case::Case;
 use crate::met::{self, Counts, POINTS, Where};
@@ -11,8 +12,10 @@ pub struct Seen {
     /// Cases whose opening lies inside the domain of equality, and those that the Rust ran.
     pub inside: u64,
     pub rust_cases: u64,
-    /// What the Rust did and was compared: questions, deliveries, marks, calls, turns' ends.
+    /// What the Rust did and was compared: questions, deliveries, marks, calls, turns' ends; and the cases in which a
+    /// retry was written, from which on its log is compared by its messages.
     pub rust_events: u64,
+    pub rust_retried: u64,
     pub calls: u64,
     pub calls_inside: u64,
     /// Calls that the port was not given, since its output would have been too long.
@@ -20,6 +23,7 @@ pub struct Seen {
     pub turns: u64,
     pub deliveries: u64,
     pub marks: u64,
+    pub retries: u64,
     questions: BTreeMap<&'static str, u64>,
     orders: BTreeMap<&'static str, u64>,
     refusals: BTreeMap<u8, u64>,
@@ -33,12 +37,14 @@ impl Default for Seen {
             inside: 0,
             rust_cases: 0,
             rust_events: 0,
+            rust_retried: 0,
             calls: 0,
             calls_inside: 0,
             cut: 0,
             turns: 0,
             deliveries: 0,
             marks: 0,
+            retries: 0,
             questions: BTreeMap::new(),
             orders: BTreeMap::new(),
             refusals: BTreeMap::new(),
@@ -90,6 +96,7 @@ impl Seen {
         println!("turns: {}", self.turns);
         println!("deliveries: {}", self.deliveries);
         println!("marks: {}", self.marks);
+        println!("retries written: {}", self.retries);
         for (name, count) in &self.orders {
             println!("order {name}: {count}");
         }
@@ -102,6 +109,7 @@ impl Seen {
         }
         if self.rust_cases > 0 {
             println!("beside the Rust: {} cases, {} events of it compared", self.rust_cases, self.rust_events);
+            println!("beside the Rust with a retry, from there on by messages: {} cases", self.rust_retried);
         }
     }
 

@@ -46,6 +46,7 @@ fn state(pool: &Pool, answer: &pool::Answer) -> String {
             }
             Event::Marked(id) => text += &format!("; marked {}", id.0),
             Event::Logged(id) => text += &format!("; logged {}", id.0),
+            Event::Retried { id, attempts } => text += &format!("; retry {attempts} of {}", id.0),
         }
     }
     text + &format!("; log \"{}\"", pool.log[..pool.counters.size].escape_ascii())

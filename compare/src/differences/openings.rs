@@ -3,7 +3,7 @@ use super::rust::Rust;
 use super::{Run, port, says, unless_it_panics};
 
 /// What is different, the file, what the Rust says, what the port says.
-const FILES: [(&str, &[u8], &str, &str); 11] = [
+const FILES: [(&str, &[u8], &str, &str); 12] = [
     ("a torn done line", b"0\t\t\n0", r#"left [], next 1"#, r#"left [0 "" ""], next 1"#),
     (
         "a done line torn into another id",
@@ -20,6 +20,12 @@ const FILES: [(&str, &[u8], &str, &str); 11] = [
     ("a record with a plus before its id", b"+5\trow\tx\n", r#"left [5 "row" "x"], next 6"#, "left [], next 0"),
     ("a record with a zero before its id", b"05\t\t\n", r#"left [5 "" ""], next 6"#, "left [], next 0"),
     ("a done line with a zero before its id", b"5\t\t\n05\n", "left [], next 6", r#"left [5 "" ""], next 6"#),
+    (
+        "a line of two ids, of an open record",
+        b"5\trow\tx\n5\t2\n",
+        r#"left [5 "row" "x"], next 6"#,
+        r#"left [5 "row" "x" attempts 2], next 6"#,
+    ),
 ];
 
 const LAST_RECORD: &[u8] = b"18446744073709551615\t\t\n";

@@ -12,6 +12,7 @@ use crate::output::Entry;
 use crate::property::list::{List, Making, Opening};
 use crate::recorded::beside;
 use crate::trace::{Event, Trace};
+use crate::view::FileView;
 
 pub fn run(run: &mut Run) {
     closed(run);
@@ -103,12 +104,19 @@ fn taken_and_marked(run: &Run, opening: &Opening, name: &[u8]) -> String {
     pool.settings = opening.settings.clone();
     trace.events.extend(beside::trace(&mut pool, turn).expect("calls that the Rust has").events);
     let files = trace.events.iter().filter_map(|event| match event {
-        Event::Admit { log, .. } => Some(format!("taken, file \"{}\"", log.bytes.escape_ascii())),
-        Event::TurnEnd { log, .. } => Some(format!("marked, file \"{}\"", log.bytes.escape_ascii())),
+        Event::Admit { log, .. } => Some(format!("taken, {}", in_words(&log.file))),
+        Event::TurnEnd { log, .. } => Some(format!("marked, {}", in_words(&log.file))),
         _ => None,
     });
     let words = files.collect::<Vec<_>>().join("; ");
     held_to(run, opening, &trace, &words)
+}
+
+fn in_words(file: &FileView) -> String {
+    match file {
+        FileView::Bytes { bytes, .. } => format!("file \"{}\"", bytes.escape_ascii()),
+        FileView::Left(left) => format!("left {left:?}"),
+    }
 }
 
 /// An actor at its first step's Sends.

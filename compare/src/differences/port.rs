@@ -1,7 +1,7 @@
 //! What the port says, in words. A record is an admit; a mark is the next turn, since the group does not boot and one
 //! message is taken in at a time.
 use crate::lent::Lent;
-use crate::limits::{BODY_MAX, STORE};
+use crate::limits::STORE;
 use crate::model::log::{self, Left};
 use crate::model::pool::{Call, GroupSetting, Question, Settings};
 use crate::output::{Answer, Entry};
@@ -61,17 +61,23 @@ fn order(answer: Answer) -> String {
     }
 }
 
-/// What an opening hands back, and the next id. The left messages are read from the new log, which has them alone.
+/// What an opening hands back, and the next id. The new log must have these messages alone.
 pub fn left(entry: &Entry) -> String {
     if let Answer::Refused(number) = entry.answer {
         return format!("refused {number}");
     }
-    let Ok(reading) = log::read_file(entry.log.unwrap_or_default()) else { return "no log".into() };
-    let words = |left: &Left| {
-        debug_assert!(left.body.len() <= BODY_MAX);
-        format!("{} \"{}\" \"{}\"", left.id.0, left.name.escape_ascii(), left.body.escape_ascii())
+    let left = match entry.handed_back() {
+        Ok(left) if entry.log == Some(&log::image(&left)) => left,
+        Ok(_) => return "another log than what is handed back".into(),
+        Err(error) => return error,
     };
-    format!("left [{}], next {}", reading.left.iter().map(words).collect::<Vec<_>>().join(", "), entry.next)
+    format!("left [{}], next {}", left.iter().map(in_words).collect::<Vec<_>>().join(", "), entry.next)
+}
+
+/// A message that is handed back; attempts of 0 are not named.
+fn in_words(left: &Left) -> String {
+    let attempts = if left.attempts == 0 { String::new() } else { format!(" attempts {}", left.attempts) };
+    format!("{} \"{}\" \"{}\"{attempts}", left.id.0, left.name.escape_ascii(), left.body.escape_ascii())
 }
 
 /// What a file leaves.

@@ -61,6 +61,7 @@ impl Rust {
             told,
             to,
             seen: 0,
+            left: None,
         }));
         self.wal.lock().unwrap().ack(id);
         script::set(None);
@@ -97,7 +98,8 @@ pub fn called(name: &str, body: &str) -> Message {
 fn in_words(messages: &[Message]) -> String {
     let left = |message: &Message| {
         let (name, body) = (message.group.as_bytes(), message.body.as_bytes());
-        format!("{} \"{}\" \"{}\"", message.id.unwrap(), name.escape_ascii(), body.escape_ascii())
+        let attempts = if message.attempts == 0 { String::new() } else { format!(" attempts {}", message.attempts) };
+        format!("{} \"{}\" \"{}\"{attempts}", message.id.unwrap(), name.escape_ascii(), body.escape_ascii())
     };
     format!("left [{}]", messages.iter().map(left).collect::<Vec<_>>().join(", "))
 }

@@ -4,12 +4,12 @@
 use super::mood::{self, Mood};
 use super::{files, settings, texts};
 use crate::lent::{LOG_FILL, STORE_FILL};
-use crate::limits::{BODY_MAX, LOG_MAX, NAME_MAX, STORE, refusal};
+use crate::limits::{BODY_MAX, LOG_MAX, LOG_MIN, NAME_MAX, RETRY_MAX, STORE, refusal};
 use crate::model::log::{self, CallerId, Reader};
 use crate::model::pool::{self, Answer, Call, Pool, Question, Reply, Settings};
 use crate::rng::Rng;
 use crate::trace::{Asked, Event, Trace};
-use crate::view::{LogView, MessageView, PoolView};
+use crate::view::{FileView, LogView, MessageView, PoolView};
 
 /// Calls of one list at most, about: a turn is not broken off.
 const MOST_CALLS: usize = 600;
@@ -33,18 +33,39 @@ impl Case {
     /// The case of a number, always the same.
     pub fn new(number: u64) -> Case {
         let rng = &mut Rng::new(number);
-        if rng.chance(25) {
-            return Case::outside(rng);
+        match rng.below(50) {
+            0 | 1 => return Case::outside(rng),
+            2 | 3 => return Case::retried(rng),
+            _ => {}
         }
         let kind = Kind::new(rng);
-        let settings = match kind {
+        Case::of(rng, kind)
+    }
+
+    /// A case in which logged messages crash again and again, with much room for the lines of it, or with little.
+    pub fn retrying(rng: &mut Rng) -> Case {
+        Case::of(rng, Kind::Retrying)
+    }
+
+    fn of(rng: &mut Rng, kind: Kind) -> Case {
+        let mut settings = match kind {
             Kind::Plain => settings::settings(rng),
             Kind::Crowded => settings::crowded(rng),
             Kind::Refusing => settings::one_group(rng, 2),
             Kind::Crashing => settings::one_group(rng, 6),
+            Kind::Retrying => settings::retrying(rng),
         };
-        let file = files::file(rng, &settings);
-        let log_len = if kind == Kind::Plain { settings::log_len(rng, file.len()) } else { LOG_MAX };
+        let file = if kind == Kind::Retrying { files::open(rng, &settings) } else { files::file(rng, &settings) };
+        let log_len = match kind {
+            Kind::Plain => settings::log_len(rng, file.len()),
+            Kind::Retrying => settings::tight_log_len(rng, file.len()),
+            _ => LOG_MAX,
+        };
+        // Near the length of the new log, so that some marks just reach it.
+        if kind != Kind::Crowded && rng.chance(4) {
+            let image = log::readable(&file).map_or(0, |reading| log::image(&reading.left).len());
+            settings.compact_at = image + rng.range(1, 30) as usize;
+        }
         let mut maker = match Maker::open(settings, log_len, STORE, file) {
             Ok(maker) => maker,
             Err(case) => return *case,
@@ -53,18 +74,21 @@ impl Case {
             Kind::Plain => Mood::new(rng),
             Kind::Crowded => Mood::crowded(rng),
             Kind::Refusing => Mood::refusing(rng),
-            Kind::Crashing => Mood::crashing(rng),
+            Kind::Crashing | Kind::Retrying => Mood::crashing(rng),
         };
         maker.inside(rng, &mut mood, kind);
         if rng.chance(5) {
-            maker.outside(rng, &mut mood);
+            maker.outside(rng, &mut mood, Strewn::OFTEN);
         }
         maker.case()
     }
 
     /// A case that need not lie inside the domain at all: any bytes in the file, any lent lengths, settings out of
-    /// their ranges.
+    /// their ranges; or a file with attempts.
     pub fn outside(rng: &mut Rng) -> Case {
+        if rng.chance(4) {
+            return Case::retried(rng);
+        }
         let mut settings = settings::settings(rng);
         let file = files::any(rng, &settings);
         if rng.chance(6) {
@@ -77,11 +101,34 @@ impl Case {
             _ => 65_536,
         };
         let store_len = if rng.chance(20) { *rng.pick(&[0, 1, STORE - 1, STORE + 1]) } else { STORE };
-        match Maker::open(settings, log_len, store_len, file) {
+        let mood = Mood::new(rng);
+        Case::any_calls(rng, Maker::open(settings, log_len, store_len, file), mood, Strewn::OFTEN)
+    }
+
+    /// A case on a file in which messages have attempts, where they crash again; the log often has little room.
+    pub fn retried(rng: &mut Rng) -> Case {
+        let mut settings = settings::retrying(rng);
+        let mut file = files::retried(rng, &settings);
+        let mut log_len = settings::tight_log_len(rng, file.len());
+        // As an opening left it: the next number is longer, and has no room.
+        if let Ok(mut reading) = log::readable(&file)
+            && rng.chance(2)
+        {
+            reading.left.iter_mut().for_each(|message| message.attempts = *rng.pick(&[0, 9, 9, 99]));
+            file = log::image(&reading.left);
+            log_len = file.len().max(LOG_MIN) + rng.chance(4) as usize;
+            settings.groups[0].retry = RETRY_MAX;
+        }
+        let mood = Mood::crashing(rng);
+        Case::any_calls(rng, Maker::open(settings, log_len, STORE, file), mood, Strewn::SELDOM)
+    }
+
+    /// An opening, and any calls after it: all outside the domain.
+    fn any_calls(rng: &mut Rng, opened: Result<Maker, Box<Case>>, mut mood: Mood, strewn: Strewn) -> Case {
+        match opened {
             Ok(mut maker) => {
                 maker.leave(0);
-                let mut mood = Mood::new(rng);
-                maker.outside(rng, &mut mood);
+                maker.outside(rng, &mut mood, strewn);
                 let mut case = maker.case();
                 case.inside = None;
                 case
@@ -89,6 +136,18 @@ impl Case {
             Err(case) => *case,
         }
     }
+}
+
+/// How many calls are made outside the domain at most, and how many there are to one that need not fit.
+#[derive(Clone, Copy)]
+struct Strewn {
+    most: u64,
+    of: u64,
+}
+
+impl Strewn {
+    const OFTEN: Strewn = Strewn { most: 60, of: 6 };
+    const SELDOM: Strewn = Strewn { most: 200, of: 40 };
 }
 
 /// What a case aims at.
@@ -101,6 +160,8 @@ enum Kind {
     Refusing,
     /// Actors that crash together, with messages in their hands.
     Crashing,
+    /// The same on a log of open records that has little room, with messages that may crash more often.
+    Retrying,
 }
 
 impl Kind {
@@ -109,6 +170,7 @@ impl Kind {
             0..=2 => Kind::Crowded,
             3..=12 => Kind::Refusing,
             13..=22 => Kind::Crashing,
+            23..=42 => Kind::Retrying,
             _ => Kind::Plain,
         }
     }
@@ -146,7 +208,8 @@ struct Maker {
 impl Maker {
     /// An opening; Err with the whole case where it is refused.
     fn open(settings: Settings, log_len: usize, store_len: usize, file: Vec<u8>) -> Result<Maker, Box<Case>> {
-        let log = LogView { bytes: Vec::new(), next: 0, live: 0, dirty: false, inbox: 0 };
+        let empty = FileView::Bytes { bytes: Vec::new(), live: 0 };
+        let log = LogView { file: empty, next: 0, dirty: false, inbox: 0 };
         let view = PoolView { groups: Vec::new(), pending: Vec::new(), queued: 0, crashes: 0, dead: 0 };
         let trace = Trace { log, pool: view, events: Vec::new() };
         let (calls, sizes) = (Vec::new(), vec![0]);
@@ -207,8 +270,8 @@ impl Maker {
                     Event::Deliver { group: g, key, message }
                 }),
                 pool::Event::Marked(id) => self.write(|_| Event::Mark(id.0)),
-                // The record shows in the log that the call's own event has.
-                pool::Event::Logged(_) => {}
+                // The record shows in the log that the call's own event has. The Rust writes no line of a retry.
+                pool::Event::Logged(_) | pool::Event::Retried { .. } => {}
             }
         }
         answer
@@ -247,6 +310,7 @@ impl Maker {
         let burst = match kind {
             Kind::Crowded => rng.range(0, 40),
             Kind::Plain if !rng.chance(4) => 0,
+            Kind::Retrying => rng.range(0, 2),
             _ => rng.range(1, 8),
         };
         for _ in 0..burst {
@@ -339,13 +403,13 @@ impl Maker {
     }
 
     /// Any calls, outside the domain.
-    fn outside(&mut self, rng: &mut Rng, mood: &mut Mood) {
+    fn outside(&mut self, rng: &mut Rng, mood: &mut Mood, strewn: Strewn) {
         self.leave(self.case.calls.len());
         let fails = rng.chance(3);
-        for _ in 0..rng.range(1, 60) {
+        for _ in 0..rng.range(1, strewn.most) {
             let call = match self.pool.open_question() {
                 Some(Question::Store(_)) if fails && rng.chance(12) => Call::Reply(Reply::Failed),
-                Some(question) if !rng.chance(6) => Call::Reply(mood.reply(rng, &self.pool, &question, false)),
+                Some(question) if !rng.chance(strewn.of) => Call::Reply(mood.reply(rng, &self.pool, &question, false)),
                 _ => any_call(rng, &self.pool.settings),
             };
             self.one(call);
@@ -354,10 +418,10 @@ impl Maker {
 }
 
 /// Whether an opening lies inside the domain, as far as `files::file` leaves it open. The Rust reads ids in other
-/// spellings too, and loses the CR at the end of a left body when it rewrites its log.
+/// spellings too, skips lines of two fields, and loses the CR at the end of a left body when it rewrites its log.
 pub(crate) fn opens_inside(pool: &Pool, file: &[u8]) -> bool {
     let strips = pool.pending.iter().any(|&e| pool.body(e).last() == Some(&b'\r'));
-    log::one_spelling(file) && !strips
+    log::one_spelling(file) && log::no_retry(file) && !strips
 }
 
 /// Any call with any arguments.

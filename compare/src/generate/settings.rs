@@ -50,6 +50,18 @@ pub fn log_len(rng: &mut Rng, file: usize) -> usize {
     .min(LOG_MAX)
 }
 
+/// The same for a file of open records alone: often so short that the line of a retry has room only once others are
+/// dropped, or not at all.
+pub fn tight_log_len(rng: &mut Rng, file: usize) -> usize {
+    match rng.below(6) {
+        0 | 1 => file + *rng.pick(&[0, 0, 1, 2, 3]),
+        2 | 3 => file + rng.range(4, 30) as usize,
+        4 => file + rng.below(200) as usize,
+        _ => LOG_MAX,
+    }
+    .clamp(LOG_MIN, LOG_MAX)
+}
+
 /// Settings that fill the lists of keys and the body store.
 pub fn crowded(rng: &mut Rng) -> Settings {
     let mut settings = settings(rng);
@@ -64,6 +76,13 @@ pub fn crowded(rng: &mut Rng) -> Settings {
     settings.inbox = 64;
     settings.backlog = 256;
     settings.compact_at = 65_536;
+    settings
+}
+
+/// One fixed group of a few actors, whose messages may crash more than once.
+pub fn retrying(rng: &mut Rng) -> Settings {
+    let mut settings = one_group(rng, 4);
+    settings.groups[0].retry = *rng.pick(&[1, 2, 3, 12, 255]);
     settings
 }
 

@@ -104,9 +104,9 @@ fn two_raises() -> Vec<Call> {
     joined(&[&SEEDS, &[NO; 3], &OTHER_YIELDS, &TAKES, &[YES, RAISES]])
 }
 
-/// The next turn: 4, 9 and 2 are routed, in this order. The Boot for 4 is open.
+/// The next turn: 4, 9 and 2 are routed, in this order. The Boot for 4 is open. That 2 is tried again was written.
 fn again() -> Vec<Call> {
-    joined(&[&two_raises(), &[END, NO, Call::Turn]])
+    joined(&[&two_raises(), &[END, STORED, NO, Call::Turn]])
 }
 
 /// A new actor has 4 and 9; the Boot for 2 is open.
@@ -224,7 +224,8 @@ fn sent_back() -> Vec<Stated> {
             "an actor that took a message raises",
             ten(),
             &two_raises(),
-            (END, Answer::Trap { group: ROW as u64 }),
+            // Seven records of 10 bytes and three of 8; that 2 is tried again has 4.
+            (END, Answer::Append(94, 98)),
             &[change(PENDING, &[], &[4, 9, 2]), change(row, &[4, 9], &[]), change(HAND, &[2], &[])],
         ),
     ]
@@ -273,13 +274,14 @@ fn over() -> Vec<Stated> {
 /// A trapped actor: its mailbox goes to the end of pending, whatever it took.
 fn trapped() -> Vec<Stated> {
     let row = mailbox(ROW, 0);
-    // A second actor takes entry 10 and raises, and the first one was trapped with it: Trapped is open.
+    // A second actor takes entry 10 and raises, which is written, and the first one was trapped with it: Trapped is
+    // open.
     let neighbour = joined(&[
         &[END, admit(), STORED, Call::Turn, YES],
         &OTHER_YIELDS,
         &[YIELDS, END],
         &TAKES,
-        &[YES, RAISES, END, YES],
+        &[YES, RAISES, END, STORED, YES],
     ]);
     vec![
         stated(
@@ -293,7 +295,8 @@ fn trapped() -> Vec<Stated> {
             "a trapped actor with two messages, and one in its hands",
             ten(),
             &joined(&[&four_nine_two(), &TAKES, &[YES, YIELDS], &neighbour]),
-            (YES, BUSY),
+            // Behind the line of 2, the record of 10 and its line.
+            (YES, Answer::Append(112, 116)),
             &[change(PENDING, &[10], &[10, 9, 2, 4]), change(row, &[9, 2], &[]), change(hand(ROW, 0), &[4], &[])],
         ),
     ]

@@ -86,12 +86,18 @@ fn chains(at: usize, entry: &Entry) -> Result<Chains, String> {
 /// At the end of a turn the Rust shows its mailboxes, so the turn goes on to there.
 #[cfg(oracle)]
 fn beside_rust(list: &List) -> Result<(), String> {
+    let scratch = crate::scratch::Scratch::in_memory("mailboxes");
+    let rust = crate::recorded::beside::the_rust(&to_the_turns_end(list), &scratch.file("log.wal"));
+    rust.map(drop).map_err(|error| format!("the Rust: {error}"))
+}
+
+/// A list with every order and question after its last call answered.
+#[cfg(oracle)]
+pub fn to_the_turns_end(list: &List) -> List {
     let mut making = crate::property::list::Making::new(list.opening.clone());
     for call in &list.calls {
         making.call(call.clone());
     }
     making.answered();
-    let scratch = crate::scratch::Scratch::in_memory("mailboxes");
-    let rust = crate::recorded::beside::the_rust(&making.list, &scratch.file("log.wal"));
-    rust.map(drop).map_err(|error| format!("the Rust: {error}"))
+    making.list
 }

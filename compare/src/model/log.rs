@@ -1,8 +1,8 @@
 //! The log: its text, reading a file, and the running log with its orders.
 //!
-//! The file is the first `size` bytes of the lent log. Which records are open follows from these bytes
-//! (`open_records`), so the four counters are all there is to keep.
-use crate::limits::refusal;
+//! The file is the first `size` bytes of the lent log. Which records are open, and how often each message was tried as
+//! the log has it, follows from these bytes (`open_records`), so the four counters are all there is to keep.
+use crate::limits::{RETRY_MAX, refusal};
 use crate::met;
 use std::collections::BTreeMap;
 
@@ -92,6 +92,11 @@ pub fn done_line(id: LogId) -> Vec<u8> {
     out
 }
 
+/// How often a message was tried again; a number of 0 stands in no line that the log writes.
+pub fn retry_line(id: LogId, attempts: u64) -> Vec<u8> {
+    format!("{}\t{attempts}\n", id.0).into_bytes()
+}
+
 /// Digits as a number of 64 bits.
 fn decimal(digits: &[u8]) -> Option<u64> {
     let mut value: u64 = 0;
@@ -126,6 +131,8 @@ pub fn other_spelling(field: &[u8]) -> Option<u64> {
 pub enum Line<'a> {
     Done(u64),
     Record(u64, &'a [u8], &'a [u8]),
+    /// An id, and how often its message was tried again.
+    Retry(u64, u64),
     Skip,
 }
 
@@ -138,7 +145,16 @@ pub fn read_line(line: &[u8]) -> Line<'_> {
     let fields = fields(line);
     match (fields.len(), read_id(fields[0])) {
         (1, Some(id)) => Line::Done(id),
+        (2, Some(id)) => read_retry(id, fields[1]),
         (3, Some(id)) => Line::Record(id, fields[1], fields[2]),
+        _ => Line::Skip,
+    }
+}
+
+/// The attempts are spelled as an id is, and are none where they pass what a group may retry.
+fn read_retry(id: u64, field: &[u8]) -> Line<'_> {
+    match read_id(field) {
+        Some(attempts) if attempts <= RETRY_MAX => Line::Retry(id, attempts),
         _ => Line::Skip,
     }
 }
@@ -161,6 +177,8 @@ pub struct Left {
     pub id: LogId,
     pub name: Vec<u8>,
     pub body: Vec<u8>,
+    /// How often it was tried again, as the file last says.
+    pub attempts: u64,
 }
 
 pub struct Reading {
@@ -171,29 +189,57 @@ pub struct Reading {
 
 /// Reads a file; Err(3) where a whole record line has id 2^64-1.
 pub fn read_file(file: &[u8]) -> Result<Reading, u8> {
-    let mut left: BTreeMap<u64, (Vec<u8>, Vec<u8>)> = BTreeMap::new();
+    let mut left: BTreeMap<u64, Left> = BTreeMap::new();
     let mut next = 0;
     for (a, b) in whole_lines(file) {
         match read_line(&file[a..b]) {
-            Line::Done(id) => match left.remove(&id) {
-                Some(_) => met!("line: done"),
-                None => met!("line: done, of no open record"),
-            },
+            Line::Done(id) => met_done(left.remove(&id)),
             Line::Record(id, name, body) => {
                 if id == LAST_ID {
                     return Err(refusal::LAST_RECORD);
                 }
                 next = next.max(id + 1);
-                match left.insert(id, (unescape(name), unescape(body))) {
-                    None => met!("line: a record"),
-                    Some(_) => met!("line: a record, set again"),
-                }
+                let message = Left { id: LogId(id), name: unescape(name), body: unescape(body), attempts: 0 };
+                met_record(left.insert(id, message));
             }
+            Line::Retry(id, attempts) => match left.get_mut(&id) {
+                Some(message) => {
+                    met_retry(message.attempts, attempts);
+                    message.attempts = attempts;
+                }
+                None => met!("line: a retry of no open record, skipped"),
+            },
             Line::Skip => met_skipped(&file[a..b], |id| left.contains_key(&id)),
         }
     }
-    let left = left.into_iter().map(|(id, (name, body))| Left { id: LogId(id), name, body }).collect();
-    Ok(Reading { left, next })
+    Ok(Reading { left: left.into_values().collect(), next })
+}
+
+/// A done line, by the message that it took off.
+fn met_done(before: Option<Left>) {
+    match before {
+        Some(Left { attempts: 0, .. }) => met!("line: done"),
+        Some(_) => met!("line: done, with its attempts"),
+        None => met!("line: done, of no open record"),
+    }
+}
+
+/// A record, by the message that it takes the place of.
+fn met_record(before: Option<Left>) {
+    match before {
+        None => met!("line: a record"),
+        Some(Left { attempts: 0, .. }) => met!("line: a record, set again"),
+        Some(_) => met!("line: a record, set again, its attempts 0 again"),
+    }
+}
+
+/// A retry of an open record, by the number before it.
+fn met_retry(before: u64, attempts: u64) {
+    match attempts {
+        0 => met!("line: a retry of 0"),
+        smaller if smaller < before => met!("line: a retry, a smaller number"),
+        _ => met!("line: a retry"),
+    }
 }
 
 /// Which kind of line was skipped, and whether the id that the Rust reads in it is that of an open record.
@@ -205,7 +251,19 @@ fn met_skipped(line: &[u8], open: impl Fn(u64) -> bool) {
         (1, Some(id)) if open(id) => met!("line: done in another spelling, skipped"),
         (1, Some(_)) => met!("line: done in another spelling, skipped, of no open record"),
         (2 | 4, Some(_)) => met!("line: two or four fields behind another spelling, skipped"),
+        (2, None) if read_id(fields[0]).is_some() => met_no_attempts(fields[1]),
         _ => met!("line: skipped"),
+    }
+}
+
+/// What stands behind an id and is no number of attempts.
+fn met_no_attempts(field: &[u8]) {
+    if read_id(field).is_some() {
+        met!("line: a retry above 255, skipped");
+    } else if other_spelling(field).is_some() {
+        met!("line: a retry in another spelling, skipped");
+    } else {
+        met!("line: skipped");
     }
 }
 
@@ -217,6 +275,16 @@ pub fn one_spelling(file: &[u8]) -> bool {
         matches!(fields.len(), 1 | 3) && other_spelling(fields[0]).is_some()
     };
     !whole_lines(file).into_iter().any(|(a, b)| says_more(&file[a..b]))
+}
+
+/// True where no whole line is two ids: the domain of equality has such files only, since the Rust skips a line of two
+/// fields and this log may read attempts in it.
+pub fn no_retry(file: &[u8]) -> bool {
+    let two_ids = |line: &[u8]| {
+        let fields = fields(line);
+        fields.len() == 2 && fields.iter().all(|field| read_id(field).is_some())
+    };
+    !whole_lines(file).into_iter().any(|(a, b)| two_ids(&file[a..b]))
 }
 
 /// How a file is read: `readable`, or a slip of it.
@@ -234,22 +302,53 @@ pub fn readable(file: &[u8]) -> Result<Reading, u8> {
     Ok(reading)
 }
 
-/// The file that an opening makes of what is left.
+/// The file that an opening makes of what is left: each record, and directly behind it its attempts if they are not 0.
 pub fn image(left: &[Left]) -> Vec<u8> {
-    left.iter().flat_map(|m| record(m.id, &m.name, &m.body)).collect()
+    let written = |m: &Left| [record(m.id, &m.name, &m.body), attempts_line(m.id, m.attempts)].concat();
+    left.iter().flat_map(written).collect()
+}
+
+/// The line of these attempts; empty where they are 0.
+pub fn attempts_line(id: LogId, attempts: u64) -> Vec<u8> {
+    if attempts == 0 { Vec::new() } else { retry_line(id, attempts) }
 }
 
 // ---- the running log ----
 
-/// The records of the file whose id is not done, in file order: id, first byte, byte after its LF.
-pub fn open_records(file: &[u8]) -> Vec<(LogId, usize, usize)> {
-    let mut open: Vec<(LogId, usize, usize)> = Vec::new();
+/// A record of the file whose id is not done: its first byte, the byte after its LF, and the attempts that the file
+/// last says.
+#[derive(Clone, Copy, PartialEq, Eq, Debug)]
+pub struct Open {
+    pub id: LogId,
+    pub from: usize,
+    pub to: usize,
+    pub attempts: u64,
+}
+
+impl Open {
+    /// The line of its attempts; empty where they are 0.
+    pub fn line(&self) -> Vec<u8> {
+        attempts_line(self.id, self.attempts)
+    }
+
+    /// What it counts for in live: the record, and the line of its attempts.
+    pub fn live(&self) -> usize {
+        self.to - self.from + self.line().len()
+    }
+}
+
+/// The open records of a file, in their order.
+pub fn open_records(file: &[u8]) -> Vec<Open> {
+    let mut open: Vec<Open> = Vec::new();
     for (a, b) in whole_lines(file) {
         match read_line(&file[a..b]) {
-            Line::Done(id) => open.retain(|r| r.0 != LogId(id)),
+            Line::Done(id) => open.retain(|r| r.id != LogId(id)),
             Line::Record(id, _, _) => {
-                open.retain(|r| r.0 != LogId(id));
-                open.push((LogId(id), a, b + 1));
+                open.retain(|r| r.id != LogId(id));
+                open.push(Open { id: LogId(id), from: a, to: b + 1, attempts: 0 });
+            }
+            Line::Retry(id, attempts) => {
+                open.iter_mut().filter(|r| r.id == LogId(id)).for_each(|r| r.attempts = attempts);
             }
             Line::Skip => {}
         }
@@ -257,9 +356,24 @@ pub fn open_records(file: &[u8]) -> Vec<(LogId, usize, usize)> {
     open
 }
 
-/// The open records' bytes in their order, what a rewrite leaves.
-pub fn kept(file: &[u8]) -> Vec<u8> {
-    open_records(file).iter().flat_map(|&(_, a, b)| file[a..b].to_vec()).collect()
+/// What a rewrite leaves of these open records: each as it stands in the log, directly behind it its line.
+fn kept(log: &[u8], open: &[Open]) -> Vec<u8> {
+    open.iter().flat_map(|r| [&log[r.from..r.to], &r.line()].concat()).collect()
+}
+
+/// Writes that over the log's first bytes, and orders it.
+fn rewrite(c: &mut Counters, log: &mut [u8], image: &[u8]) -> Order {
+    put(log, 0, image);
+    c.size = image.len();
+    Order::Replace(c.size)
+}
+
+/// Writes a line behind the others, and orders it.
+fn write_behind(c: &mut Counters, log: &mut [u8], line: &[u8]) -> Order {
+    put(log, c.size, line);
+    let from = c.size;
+    c.size += line.len();
+    Order::Append(from, c.size)
 }
 
 /// Writes `bytes` from `at` on; the log's bytes after them keep their value.
@@ -291,16 +405,10 @@ pub fn append(c: &mut Counters, log: &mut [u8], name: &[u8], body: &[u8]) -> (Lo
     let id = LogId(c.next);
     let rec = record(id, name, body);
     let order = if c.size + rec.len() <= log.len() {
-        put(log, c.size, &rec);
-        let from = c.size;
-        c.size += rec.len();
-        Order::Append(from, c.size)
+        write_behind(c, log, &rec)
     } else {
-        let mut image = kept(&log[..c.size]);
-        image.extend(&rec);
-        put(log, 0, &image);
-        c.size = image.len();
-        Order::Replace(c.size)
+        let image = [kept(log, &open_records(&log[..c.size])), rec.clone()].concat();
+        rewrite(c, log, &image)
     };
     c.next += 1;
     c.live += rec.len();
@@ -310,29 +418,49 @@ pub fn append(c: &mut Counters, log: &mut [u8], name: &[u8], body: &[u8]) -> (Lo
 
 /// Takes a record off: by a line behind the others, or by writing the open ones anew. None where it is not open.
 pub fn mark(c: &mut Counters, log: &mut [u8], compact_at: usize, id: LogId) -> Option<Order> {
-    let open = open_records(&log[..c.size]);
-    let &(_, a, b) = open.iter().find(|r| r.0 == id)?;
-    c.live -= b - a;
+    let mut open = open_records(&log[..c.size]);
+    let at = open.iter().position(|r| r.id == id)?;
+    c.live -= open.remove(at).live();
     let line = done_line(id);
     let full = c.size + line.len();
     if full > log.len() || full >= compact_at.max(2 * c.live) {
-        let image: Vec<u8> = open.iter().filter(|r| r.0 != id).flat_map(|&(_, a, b)| log[a..b].to_vec()).collect();
-        put(log, 0, &image);
-        c.size = image.len();
-        Some(Order::Replace(c.size))
+        let image = kept(log, &open);
+        Some(rewrite(c, log, &image))
     } else {
-        put(log, c.size, &line);
-        let from = c.size;
-        c.size = full;
-        Some(Order::Append(from, full))
+        Some(write_behind(c, log, &line))
     }
+}
+
+/// Writes down how often a message was tried again: by a line behind the others, or by writing the open records anew
+/// with it. None, and nothing changed, where the id is not open, the number is 0 or above 255, or the line has no room
+/// either way.
+pub fn retry(c: &mut Counters, log: &mut [u8], id: LogId, attempts: u64) -> Option<Order> {
+    if !(1..=RETRY_MAX).contains(&attempts) {
+        return None;
+    }
+    let mut open = open_records(&log[..c.size]);
+    let record = open.iter_mut().find(|r| r.id == id)?;
+    let line = retry_line(id, attempts);
+    let live = c.live - record.line().len() + line.len();
+    record.attempts = attempts;
+    if c.size + line.len() <= log.len() {
+        c.live = live;
+        return Some(write_behind(c, log, &line));
+    }
+    if live > log.len() {
+        return None;
+    }
+    c.live = live;
+    let image = kept(log, &open);
+    Some(rewrite(c, log, &image))
 }
 
 /// True where the next mark of `id` would rewrite for lack of space alone (outside the domain of equality).
 pub fn mark_lacks_space(c: &Counters, log: &[u8], compact_at: usize, id: LogId) -> bool {
-    let Some(&(_, a, b)) = open_records(&log[..c.size]).iter().find(|r| r.0 == id) else { return false };
+    let open = open_records(&log[..c.size]);
+    let Some(record) = open.iter().find(|r| r.id == id) else { return false };
     let full = c.size + done_line(id).len();
-    full > log.len() && full < compact_at.max(2 * (c.live - (b - a)))
+    full > log.len() && full < compact_at.max(2 * (c.live - record.live()))
 }
 
 /// Nothing to flush where no record came since the last flush.

@@ -63,6 +63,7 @@ fn over(settings: &Settings, file: &[u8], trace: &Trace, path: &Path) {
         told,
         to,
         seen: 0,
+        left: None,
     }));
     assert_eq!(script::log_now(), trace.log, "the log after the opening: Rust left, expected right");
     assert_eq!(pool.view(&stats), trace.pool, "the pool after the opening: Rust left, expected right");

@@ -2,13 +2,14 @@
 //! reply. A difference is a panic that says what differs; `run` catches it.
 use super::actor::view::message;
 use super::config::{Message, Reply as Caller};
+use super::left::left;
 use super::server::view::Counters;
 use super::server::{Inbox, Intake, Refused, Wal};
 use super::standins::mio::Waker;
 use crate::met;
 use crate::model::pool::{Outcome, Reply};
 use crate::trace::{Asked, Event};
-use crate::view::LogView;
+use crate::view::{FileView, LeftView, LogView};
 use std::cell::RefCell;
 use std::path::PathBuf;
 use std::rc::Rc;
@@ -29,6 +30,22 @@ pub struct Script {
     pub to: Sender<Told>,
     /// Events that were compared.
     pub seen: u64,
+    /// What the Rust would hand back of its log, as it last was.
+    pub left: Option<(Vec<u8>, Vec<LeftView>)>,
+}
+
+impl Script {
+    /// What the Rust would hand back of its log, which has these bytes: it opens a copy.
+    fn left(&mut self, bytes: &[u8]) -> Vec<LeftView> {
+        match &self.left {
+            Some((known, left)) if known == bytes => left.clone(),
+            _ => {
+                let left = left(bytes, &self.path.with_file_name("copy.wal"));
+                self.left = Some((bytes.to_vec(), left.clone()));
+                left
+            }
+        }
+    }
 }
 
 /// The panic that ends a run where its list leaves the domain of equality, wherever in a turn the Rust then is.
@@ -63,11 +80,13 @@ pub fn next() -> Option<Event> {
     event
 }
 
-pub fn must_be(event: Event, what: &str) {
-    match next() {
-        Some(expected) if expected == event => {}
-        Some(expected) => panic!("{what}\n  Rust     {event:?}\n  expected {expected:?}"),
-        None => panic!("the Rust goes on where the list ends: {event:?}"),
+pub fn must_be(mut event: Event, what: &str) {
+    let Some(expected) = next() else { panic!("the Rust goes on where the list ends: {event:?}") };
+    if let (Some(log), Some(expected)) = (event.log_mut(), expected.log()) {
+        see_as(log, expected);
+    }
+    if event != expected {
+        panic!("{what}\n  Rust     {event:?}\n  expected {expected:?}");
     }
 }
 
@@ -77,8 +96,23 @@ pub fn log_now() -> LogView {
         let bytes = std::fs::read(&script.path).expect("the Rust's log is read");
         let Counters { next, live, size, dirty } = script.wal.lock().unwrap().counters();
         assert_eq!(size as usize, bytes.len(), "the Rust's size is its file's length, in the domain of equality");
-        LogView { bytes, next, live, dirty, inbox: script.intake.waiting() }
+        LogView { file: FileView::Bytes { bytes, live }, next, dirty, inbox: script.intake.waiting() }
     })
+}
+
+/// Where the log is expected by its messages, the Rust's is seen by those that the Rust would hand back.
+fn see_as(log: &mut LogView, expected: &LogView) {
+    if let (FileView::Bytes { bytes, .. }, FileView::Left(_)) = (&log.file, &expected.file) {
+        met!("Rust: its log is seen by its messages");
+        log.file = FileView::Left(with(|script| script.left(bytes)));
+    }
+}
+
+/// The log after a call from outside must be this.
+fn log_must_be(expected: &LogView, what: &str) {
+    let mut log = log_now();
+    see_as(&mut log, expected);
+    assert_eq!(log, *expected, "the log after {what}: Rust left, expected right");
 }
 
 /// Puts a question, which must be the script's next, with the same log.
@@ -127,7 +161,7 @@ pub fn outside(call: Event) {
                 Err(Refused::Down) => panic!("the Rust's inbox is down"),
             };
             assert_eq!(taken, accepted, "an admit: Rust left, expected right");
-            assert_eq!(log_now(), log, "the log after an admit: Rust left, expected right");
+            log_must_be(&log, "an admit");
         }
         Event::Sync(log) => {
             met!("Rust: sync");
@@ -136,7 +170,7 @@ pub fn outside(call: Event) {
                 Some(inbox) => inbox.sync(),
                 None => wal.lock().unwrap().sync(),
             }
-            assert_eq!(log_now(), log, "the log after a sync: Rust left, expected right");
+            log_must_be(&log, "a sync");
         }
         Event::Close => {
             met!("Rust: close");

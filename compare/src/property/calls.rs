@@ -29,6 +29,8 @@ pub struct Mood {
     dispatches: u64,
     sends: u64,
     statuses: [u64; 7],
+    /// A program receives until it has a message, and then most often raises or yields.
+    crashes: bool,
     now: u64,
     closes: bool,
 }
@@ -65,8 +67,28 @@ impl Mood {
             dispatches,
             sends: *rng.pick(&[0, 10, 40, 70]),
             statuses,
+            crashes: false,
             now: *rng.pick(&[0, 100, 1 << 40, CLOCK_MAX - 1_000]),
             closes: rng.chance(6),
+        }
+    }
+
+    /// A mood in which logged messages are taken, and crash their actors and those beside them.
+    pub fn crashing(rng: &mut Rng) -> Mood {
+        Mood {
+            wild: *rng.pick(&[0, 0, 5]),
+            between: *rng.pick(&[0, 10]),
+            callers: *rng.pick(&[0, 20]),
+            turns: 60,
+            boots: 100,
+            pushes: 100,
+            traps: *rng.pick(&[30, 100]),
+            trapped: 90,
+            drains: 0,
+            sends: *rng.pick(&[0, 10]),
+            statuses: [1, 1, 5, 5, 5, 2, 1],
+            crashes: true,
+            ..Mood::random(rng)
         }
     }
 
@@ -90,6 +112,7 @@ impl Mood {
             dispatches: 100,
             sends: 0,
             statuses,
+            crashes: false,
             now: 100,
             closes: false,
         }
@@ -160,6 +183,10 @@ impl Mood {
             Question::Poll { .. } => count(rng, self.polls),
             Question::Drain { .. } => count(rng, self.drains),
             Question::Dispatch { .. } => count(rng, self.dispatches),
+            Question::Run { g, key, .. } if self.crashes && !rng.chance(8) => {
+                let holds = pool.groups[*g].actors.get(*key).is_some_and(|actor| actor.in_flight.is_some());
+                Reply::Ran(if holds { *rng.pick(&[Status::Error, Status::Preempted]) } else { Status::Event })
+            }
             Question::Run { .. } => Reply::Ran(self.status(rng)),
             Question::Sends { .. } if rng.below(100) < self.sends => Reply::Send(name(rng, pool), texts::body(rng)),
             Question::Sends { .. } => Reply::End,

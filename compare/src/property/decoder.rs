@@ -10,7 +10,7 @@ use crate::script::{SHOW_LOG, SHOW_STORE, SHOW_TABLES};
 use crate::wire::{NUMBER, Reader, put};
 
 /// The tables, in the order in which they are shown: rows, and bytes of a row.
-const TABLES: [(usize, usize); 6] = [(256, 24), (8, 296), (262, 32), (256, 56), (34, 65), (128, 96)];
+const TABLES: [(usize, usize); 6] = [(256, 32), (8, 296), (262, 32), (256, 56), (34, 65), (128, 96)];
 const GROUPS_READ: u64 = 16;
 const GROUP_NUMBERS: usize = 37;
 

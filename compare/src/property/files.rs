@@ -1,6 +1,6 @@
 //! Random files: what a log may have in it after any life and any damage.
 use super::texts;
-use crate::generate::files::respelled;
+use crate::generate::files::{attempts, respelled};
 use crate::model::log::{self, LogId};
 use crate::rng::Rng;
 
@@ -14,13 +14,15 @@ pub fn any(rng: &mut Rng, lines: u64, names: &[Vec<u8>]) -> Vec<u8> {
     }
 }
 
-/// Lines as the log writes them; a done line may name any id.
+/// Lines as the log writes them; a done line, and one of a retry, may name any id.
 pub fn written(rng: &mut Rng, lines: u64, names: &[Vec<u8>]) -> Vec<u8> {
     let mut file = Vec::new();
     let mut next = first_id(rng);
     for _ in 0..lines {
-        if rng.chance(3) && next > 0 {
-            file.extend(log::done_line(LogId(next - 1 - rng.below(next.min(4)))));
+        if rng.chance(2) && next > 0 {
+            let id = LogId(next - 1 - rng.below(next.min(4)));
+            let attempts = *rng.pick(&[1, 1, 2, 3, 9, 10, 99, 255]);
+            file.extend(if rng.chance(2) { log::done_line(id) } else { log::retry_line(id, attempts) });
             continue;
         }
         file.extend(log::record(LogId(next), &name(rng, names), &texts::bytes(rng, 8)));
@@ -36,16 +38,17 @@ pub fn crowd(rng: &mut Rng, records: u64, names: &[Vec<u8>]) -> Vec<u8> {
     (0..records).flat_map(|id| log::record(LogId(id), &name(rng, names), &texts::bytes(rng, 2))).collect()
 }
 
-/// Lines in other spellings, torn, doubled or of no meaning.
+/// Lines in other spellings, torn, doubled or of no meaning, with numbers of attempts that may be none.
 fn spoilt(rng: &mut Rng, lines: u64, names: &[Vec<u8>]) -> Vec<u8> {
     let mut file = Vec::new();
     for _ in 0..lines {
         let id = id(rng);
-        match rng.below(8) {
+        match rng.below(9) {
             0..=2 => line(&mut file, &[&id, &log::escape(&name(rng, names)), &log::escape(&texts::bytes(rng, 6))]),
             3 | 4 => line(&mut file, &[&id]),
             5 => line(&mut file, &[&id, &texts::bytes(rng, 3), &texts::bytes(rng, 6)]),
             6 => line(&mut file, &[&id, &texts::bytes(rng, 4)]),
+            7 => line(&mut file, &[&id, attempts(rng).as_bytes()]),
             _ => file.extend(texts::bytes(rng, 8)),
         }
     }

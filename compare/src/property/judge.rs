@@ -4,7 +4,7 @@ use super::state::Sides;
 use crate::lent::{Lent, STORE_FILL};
 use crate::limits::{STORE, STORE_BODY, STORE_ENTRY};
 use crate::model::log;
-use crate::model::pool::{self, Call, Pool, Reply};
+use crate::model::pool::{self, Call, Event, Pool, Reply};
 use crate::output::{Answer, Entry, Output, Shown};
 use crate::tables::{Tables, list};
 use crate::tally::{Tally, same};
@@ -19,6 +19,8 @@ pub struct Seen {
     answers: [u64; 17],
     squeezed: u64,
     lacked_space: u64,
+    /// Retries that were written.
+    retried: u64,
 }
 
 impl Seen {
@@ -59,6 +61,7 @@ impl Seen {
         }
         tally.note("squeezes", self.squeezed);
         tally.note("lists with a rewrite for lack of room", self.lacked_space);
+        tally.note("retries written", self.retried);
     }
 }
 
@@ -99,6 +102,7 @@ pub fn list(lent: &mut Lent, list: &List, show: u64, seen: &mut Seen) -> Result<
         let checked = entry(found, &answer, &pool).and_then(|()| changes(before, found, call, &answer));
         checked.map_err(|error| format!("call {at}, {call:?}: {error}"))?;
         seen.see(found);
+        seen.retried += pool.events.iter().filter(|event| matches!(event, Event::Retried { .. })).count() as u64;
         before = found;
     }
     seen.calls += list.calls.len() as u64;

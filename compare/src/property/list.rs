@@ -144,7 +144,8 @@ impl List {
             Size::Middle => 150,
             Size::Long => 1_500,
         };
-        let (mood, length) = (Mood::random(rng), rng.range(0, most));
+        let mood = if rng.chance(3) { Mood::crashing(rng) } else { Mood::random(rng) };
+        let length = rng.range(0, most);
         List::made(rng, opening, mood, length)
     }
 

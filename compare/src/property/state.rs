@@ -2,6 +2,7 @@
 //! (which entry of the store one has is free), every actor, and the lists of keys.
 use crate::chains::Chains;
 use crate::limits::MESSAGES;
+use crate::model::log;
 use crate::model::pool::Pool;
 use crate::tables::{ActorRow, MessageRow, OpenRecord, Tables, group_row, list, slot, text};
 use crate::tally::same;
@@ -25,6 +26,7 @@ impl<'a> Sides<'a> {
         // Every list is a chain, and each entry of the store stands in one list, once.
         Chains::read(&self.tables)?;
         self.records()?;
+        self.attempts()?;
         let pool = self.pool;
         self.list("inbox", list::INBOX, pool.inbox.iter().copied())?;
         self.list("pending", list::PENDING, pool.pending.iter().copied())?;
@@ -40,6 +42,21 @@ impl<'a> Sides<'a> {
         let file = &self.pool.log[..self.pool.counters.size];
         let expected = OpenRecord::all(file);
         same("the table of open records", self.tables.records(expected.len() as u64), expected)
+    }
+
+    /// The log never says more attempts of a message than the message has.
+    fn attempts(&self) -> Result<(), String> {
+        let pool = self.pool;
+        for record in log::open_records(&pool.log[..pool.counters.size]) {
+            let mut held = pool.table.iter().flatten().filter(|message| message.id == Some(record.id));
+            if !held.any(|message| message.attempts >= record.attempts) {
+                return Err(format!(
+                    "the log has {} attempts of {}, and no message has",
+                    record.attempts, record.id.0
+                ));
+            }
+        }
+        Ok(())
     }
 
     fn list(&self, what: &str, row: usize, entries: impl Iterator<Item = usize>) -> Result<(), String> {

@@ -19,6 +19,9 @@ pub fn traced(list: &List) -> Result<Trace, String> {
     if !log::one_spelling(&list.opening.file) {
         return Err("the file has an id in another spelling, outside the domain of equality".into());
     }
+    if !log::no_retry(&list.opening.file) {
+        return Err("the file has a line of two ids, outside the domain of equality".into());
+    }
     let mut pool = list.opening.model().map_err(|number| format!("the opening is refused: {number}"))?;
     let trace = trace(&mut pool, &list.calls)?;
     if pool.outside_domain() { Err("the list leaves the domain of equality".into()) } else { Ok(trace) }
@@ -67,7 +70,8 @@ fn step(pool: &mut Pool, call: &Call, events: &mut Vec<Event>) -> Result<(), Str
     }
     for done in &pool.events {
         match done {
-            Done::Logged(_) => {}
+            // The Rust writes no line of a retry.
+            Done::Logged(_) | Done::Retried { .. } => {}
             Done::Delivered { g, key, message } => {
                 events.push(Event::Deliver { group: *g, key: *key, message: MessageView::of(pool, *message) });
             }

@@ -175,6 +175,10 @@ fn inside(rng: &mut Rng) -> Option<(List, Asked)> {
         if refused || pool.failed || pool.closed || pool.outside_domain() || pool.counters.size > LOG {
             return None;
         }
+        // The Rust writes no line of a retry, so that the bytes would not be its.
+        if pool.retried {
+            return None;
+        }
         asked.see(&answer);
     }
     (making.list.calls.len() as u64 >= FEWEST).then_some((making.list, asked))

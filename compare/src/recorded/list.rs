@@ -47,11 +47,21 @@ pub fn list(path: &Path) -> String {
     text
 }
 
+/// Whether the line of a retry is ordered in a list.
+fn retries(list: &List) -> bool {
+    let mut pool = list.opening.model().expect("an accepted opening");
+    for call in &list.calls {
+        pool.call(call);
+    }
+    pool.retried
+}
+
 /// A script and its output, named by the whole line above them.
 fn case(path: &Path, name: String, list: &List) -> Case {
     if let Err(error) = beside::the_rust(list, path) {
         panic!("{name}: the Rust does otherwise: {error}");
     }
+    assert!(!retries(list), "{name}: a retry is written, and the Rust writes none");
     let script = list.script(SHOW_LOG).bytes().to_vec();
     let (log, store) = (vec![LOG_FILL; list.opening.log_len], vec![STORE_FILL; list.opening.store_len]);
     let output = expected(&script, &log, &store, usize::MAX);

@@ -1,6 +1,7 @@
 //! The recorded answers: a fixed list of scripts with the outputs that follow from the Rust's answers, as text, so
-//! that they can be replayed with no Rust at hand. `text` is the form of the list, `rows` and `chosen` the scripts,
-//! `beside` runs the Rust over them, `list` writes it all down.
+//! that they can be replayed with no Rust at hand. No line of a retry is ordered in them, since the Rust writes none
+//! and the outputs have every byte. `text` is the form of the list, `rows` and `chosen` the scripts, `beside` runs the
+//! Rust over them, `list` writes it all down.
 
 pub mod text;
 

@@ -65,7 +65,8 @@ fn deadline(at: u64, ends: bool) -> List {
     List { opening: opening(group(1, true, 1, 0), 300_000_000, b""), calls }
 }
 
-/// A message that crashes its program each time: after the last time its mark is ordered, and dead is 1.
+/// A message that crashes its program each time: after the last time its mark is ordered, and dead is 1. The log has
+/// no room for the line of a retry, so that its bytes are those of the Rust.
 fn crashes(retry: u64) -> List {
     let mut calls = vec![STORED];
     for attempt in 0..=retry {
@@ -77,7 +78,8 @@ fn crashes(retry: u64) -> List {
         // No trap, and the turn ends.
         calls.push(NO);
     }
-    List { opening: opening(group(1, false, 0, retry), 1, b"0\trow\tx\n"), calls }
+    let opening = opening(group(1, false, 0, retry), 1, b"0\trow\tcrashes\n");
+    List { opening: Opening { log_len: 16, ..opening }, calls }
 }
 
 /// Two left messages and the seed give keys 0, 1 and 2; the three that key 2 sends get actors of their own.

@@ -9,6 +9,7 @@ mod openings;
 mod points;
 mod records;
 mod refusals;
+mod retries;
 mod scripts;
 mod texts;
 

@@ -41,9 +41,10 @@ fn an_id_has_one_spelling() {
     }
 }
 
-fn handed_back(pool: &Pool, entry: usize) -> Left {
-    let id = pool.message(entry).id.expect("a log id");
-    Left { id, name: pool.name(entry).to_vec(), body: pool.body(entry).to_vec() }
+pub fn handed_back(pool: &Pool, entry: usize) -> Left {
+    let message = pool.message(entry);
+    let id = message.id.expect("a log id");
+    Left { id, name: pool.name(entry).to_vec(), body: pool.body(entry).to_vec(), attempts: message.attempts }
 }
 
 #[test]

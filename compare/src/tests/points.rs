@@ -46,10 +46,12 @@ fn a_point_outside_the_domain_must_not_be_met_inside_it() {
 }
 
 #[test]
-fn the_points_of_other_spellings_lie_outside_the_domain() {
+fn the_points_of_other_spellings_and_of_attempts_lie_outside_the_domain() {
     let outside: Vec<&str> = POINTS.iter().filter(|point| point.1 == Where::Outside).map(|point| point.0).collect();
-    assert_eq!(outside.len(), 4);
-    assert!(outside.iter().all(|name| name.contains("in another spelling, skipped")));
+    let (spellings, attempts): (Vec<&str>, Vec<&str>) =
+        outside.into_iter().partition(|name| name.contains("in another spelling, skipped"));
+    assert_eq!((spellings.len(), attempts.len()), (4, 8));
+    assert!(attempts.iter().all(|name| name.contains("a retry") || name.contains("its attempts")));
 }
 
 #[test]
@@ -71,6 +73,6 @@ fn points_are_counted_inside_the_domain_and_outside_it() {
 fn the_store_holds_every_message_and_the_tables_their_rows() {
     assert_eq!(STORE, MESSAGES * STORE_ENTRY);
     assert_eq!(STORE_BODY + 128, STORE_ENTRY);
-    let rows = 256 * 24 + 8 * 296 + 262 * 32 + 256 * 56 + 34 * 65 + 128 * 96;
+    let rows = 256 * 32 + 8 * 296 + 262 * 32 + 256 * 56 + 34 * 65 + 128 * 96;
     assert_eq!(tables::LENGTH, rows);
 }

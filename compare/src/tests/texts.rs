@@ -1,6 +1,6 @@
-//! Fields, ids, records and lines (docs/RULES.md, section 2; row ends 1, 2 and 5).
-use crate::model::log::{Line, LogId, done_line, escape, one_spelling, other_spelling, read_id, read_line};
-use crate::model::log::{record, unescape, whole_lines};
+//! Fields, ids, records, attempts and lines (docs/RULES.md, section 2; row ends 1, 2 and 5).
+use crate::model::log::{Line, LogId, done_line, escape, no_retry, one_spelling, other_spelling, read_id, read_line};
+use crate::model::log::{record, retry_line, unescape, whole_lines};
 
 #[test]
 fn three_bytes_are_escaped() {
@@ -100,6 +100,33 @@ fn row_end_5_which_lines_say_something() {
     assert_eq!(read_line(b"3"), Line::Done(3));
     for line in [&b"5\trow"[..], b"", b"x", b"1\ta\tb\tc", b"x\ta\tb", b"+5\trow\tx", b"05\trow\tx", b"+5", b"05"] {
         assert_eq!(read_line(line), Line::Skip);
+    }
+}
+
+#[test]
+fn which_lines_are_attempts() {
+    assert_eq!(retry_line(LogId(0), 1), b"0\t1\n");
+    assert_eq!(retry_line(LogId(u64::MAX - 1), 255), b"18446744073709551614\t255\n");
+    for (line, id, attempts) in [(&b"5\t2"[..], 5, 2), (b"0\t0", 0, 0), (b"5\t255", 5, 255), (b"10\t10", 10, 10)] {
+        assert_eq!(read_line(line), Line::Retry(id, attempts));
+    }
+    assert_eq!(read_line(b"18446744073709551615\t1"), Line::Retry(u64::MAX, 1));
+    for line in [&b"5\t256"[..], b"5\t02", b"5\t+2", b"5\t-2", b"5\t", b"5\tx", b"5\t2 ", b"5\t2\r", b"\t2", b"05\t2"]
+    {
+        assert_eq!(read_line(line), Line::Skip, "{}", line.escape_ascii());
+    }
+    assert_eq!(read_line(b"5\t18446744073709551618"), Line::Skip);
+    assert_eq!(read_line(b"5\t2\t3"), Line::Record(5, b"2", b"3"));
+}
+
+/// No line of two ids, whether its number is one of attempts, and whether its id is open.
+#[test]
+fn which_files_of_two_fields_the_domain_has() {
+    for file in [&b""[..], b"5\trow\n", b"5\t02\n05\t2\n", b"5\t\n\t5\n\t\n", b"5\t2\t3\n", b"5\t2", b"+5\t+2\n"] {
+        assert!(no_retry(file), "{}", file.escape_ascii());
+    }
+    for file in [&b"5\t2\n"[..], b"5\t0\n", b"5\t\t\n5\t256\n", b"x\n18446744073709551615\t1\nx\n"] {
+        assert!(!no_retry(file), "{}", file.escape_ascii());
     }
 }
 

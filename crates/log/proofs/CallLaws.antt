@@ -9,10 +9,11 @@ use native.Mathlib.Omega.{arith}
 use borrow.Author.Tests.{ltb-true, leb-true}
 use lib.Dec.{leb, ltb}
 use lib.ListN.{length, take, drop, length-append}
-use Rattle.text.specs.Format.{LF, Message, recordText, recordLine, doneLine, line, printId}
-use Rattle.text.specs.Line.{put, done, readLine}
+use Rattle.text.specs.Format.{LF, ATTEMPTS, Message, recordText, recordLine, doneLine, line, printId, retryText}
+use Rattle.text.specs.Format.{retryLine, messageLines}
+use Rattle.text.specs.Line.{put, done, retry, readLine}
 use Rattle.text.specs.Bytes.{Free, write}
-use Rattle.text.proofs.FormatLaws.{recordText-free, printId-free}
+use Rattle.text.proofs.FormatLaws.{recordText-free, printId-free, retryText-free}
 use Rattle.text.proofs.WriteLaws.{length-write, write-write, take-written, drop-written, part-written}
 use Rattle.log.specs.declared.Order.{Order}
 use Rattle.log.specs.declared.Order.the-variants.{Append, Replace, Flush}
@@ -21,15 +22,17 @@ use Rattle.log.specs.declared.Refusal.the-variants.{TooLong, Full, NoId,
 use Rattle.log.specs.declared.Answer.the-variants.{Ordered}
 use Rattle.log.specs.declared.Due.the-variants as due
 use Rattle.log.specs.Stands.{Stands}
-use Rattle.log.specs.Opening.{insert, remove, Read, takeIn, fits, image}
+use Rattle.log.specs.Opening.{insert, remove, retried, Read, takeIn, fits, image}
 use Rattle.log.specs.Log.{Wal, turnedAway, extended, compacted, withRecord, logged, newMessage, appendRefusal}
 use Rattle.log.specs.Log.{appended, appendOf, openRows, findRow, withoutRow, keeps, markedDone, markFound}
-use Rattle.log.specs.Log.{markOf, syncLog}
+use Rattle.log.specs.Log.{markOf, nothingDue, withTried, retryWritten, retriedAt, retryFound, countsTries, retryOf, syncLog}
 use Rattle.log.specs.Recovery.{LogCall, append, mark, sync, Called, byAppend, byMark, bySync, didCall, Sent}
+use Rattle.log.specs.Recovery as calls
 use Rattle.log.specs.Recovery.{appending, replacing, flushing, sent, callEffect}
-use Rattle.log.proofs.OpeningLaws.{readLine-record, readLine-done, insert-last, image-snoc, and-left}
-use Rattle.log.proofs.Steps.{extended-stands, logged-stands, live-small, compacted-bytes, compacted-stands}
-use Rattle.log.proofs.Steps.{known-below, without-stands}
+use Rattle.log.proofs.OpeningLaws.{readLine-record, readLine-done, readLine-retry, insert-last, image-snoc}
+use Rattle.log.proofs.OpeningLaws.{and-left, and-right, untried-lines}
+use Rattle.log.proofs.Steps.{Laid, laid, extended-stands, logged-stands, compacted-bytes, compacted-stands}
+use Rattle.log.proofs.Steps.{known-below, without-stands, tried-laid}
 use Rattle.log.proofs.SearchLaws.{open-finds}
 
 -- what a reader of the file would have: the messages, and the next id
@@ -89,11 +92,17 @@ behind bytes new n e = let z : 0 + length new ≡ n = omega arith in subst (λ k
     ≡ drop k bytes) z (drop-written bytes 0 new (omega arith))
 
 module _ (w : Wal) (ms : List Message) (s : Stands w ms) where
+  live-fits : w .counters .live ≤ length (w .bytes)
+  live-fits = omega (arith, s .fits, s .room)
+
   image-room : 0 + length (image ms) ≤ length (w .bytes)
-  image-room = omega (arith, live-small w ms s, s .live, s .room)
+  image-room = omega (arith, s .fits, s .live, s .room)
+
+  abbrev packed-bytes : compacted w .bytes ≡ write (w .bytes) 0 (image ms)
+  packed-bytes = compacted-bytes w ms (laid w ms s) live-fits
 
   compacted-long : length (compacted w .bytes) ≡ length (w .bytes)
-  compacted-long = ap length (compacted-bytes w ms s) ∙ length-write (w .bytes) 0 (image ms) image-room
+  compacted-long = ap length packed-bytes ∙ length-write (w .bytes) 0 (image ms) image-room
 
   -- a new message: read behind the others, it is one more
   module _ (name body : List ℕ) (fit : fits (newMessage w name body) ≡ true) where
@@ -117,31 +126,35 @@ module _ (w : Wal) (ms : List Message) (s : Stands w ms) where
           (Append (w .counters .size) (w .counters .size + len))
       unfolding callEffect extended withRecord recordLine
       append-grown h = record {
-        stands = logged-stands w ms m s refl fit id few h;
+        stands = logged-stands w ms m s refl refl fit id few h;
         long = extended-long (withRecord w m) (recordLine m) h;
         tail = extended-tail (withRecord w m) (recordLine m) h;
         kind = appends (recordText m) (extended-sent (withRecord w m) (recordLine m) h) (recordText-free m)
             (takes-record (logged w m) refl) refl;
       }
 
+      -- a new message adds its record to the image
+      image-new : image (ms ++ (m ∷ [])) ≡ image ms ++ recordLine m
+      image-new = image-snoc ms m ∙ ap (λ t. image ms ++ t) (untried-lines m refl)
+
       both : logged (compacted w) m .bytes ≡ write (w .bytes) 0 (image (ms ++ (m ∷ [])))
       unfolding extended withRecord compacted
       both =
           let size : 0 + length (image ms) ≡ w .counters .live = omega (arith, s .live) in
-          ap (λ d. write d (w .counters .live) (recordLine m)) (compacted-bytes w ms s)
+          ap (λ d. write d (w .counters .live) (recordLine m)) packed-bytes
           ∙ (ap (λ k. write (write (w .bytes) 0 (image ms)) k (recordLine m)) (sym size)
           ∙ (write-write (w .bytes) 0 (image ms) (recordLine m) image-room
-          ∙ ap (write (w .bytes) 0) (sym (image-snoc ms m))))
+          ∙ ap (write (w .bytes) 0) (sym (image-new))))
 
       new-size : w .counters .live + len ≡ length (image (ms ++ (m ∷ [])))
-      new-size = rw (image-snoc, length-append) (omega (arith, s .live))
+      new-size = rw (image-new, length-append) (omega (arith, s .live))
 
       append-replaced : Orders w ms (append name body) (logged (compacted w) m) (Replace (w .counters .live + len))
       unfolding callEffect sent extended withRecord compacted
       append-replaced =
-          let good = compacted-stands w ms s in
+          let good = compacted-stands w ms (laid w ms s) live-fits in
           record {
-            stands = logged-stands (compacted w) ms m good refl fit id (omega (arith, good .rows, s .rows))
+            stands = logged-stands (compacted w) ms m good refl refl fit id (omega (arith, good .rows, s .rows))
                 (omega (arith, compacted-long, room));
             long = ap length both ∙ length-write (w .bytes) 0 (image (ms ++ (m ∷ []))) (omega (arith, new-size, room));
             tail = ap (drop (w .counters .live + len)) both ∙ behind (w .bytes) (image (ms ++ (m ∷ [])))
@@ -232,7 +245,7 @@ module _ (w : Wal) (ms : List Message) (s : Stands w ms) where
         (without .counters .size + length (doneLine id)))
     unfolding callEffect extended withoutRow doneLine
     mark-grown h = record {
-      stands = extended-stands without rest (doneLine id) standing h;
+      stands = extended-stands without rest (doneLine id) (laid without rest standing) h (omega (arith, standing .fits));
       long = extended-long without (doneLine id) h;
       tail = extended-tail without (doneLine id) h;
       kind = appends (printId id) (extended-sent without (doneLine id) h) (printId-free id)
@@ -242,12 +255,13 @@ module _ (w : Wal) (ms : List Message) (s : Stands w ms) where
     mark-replaced : Orders w ms (mark id) (compacted without) (Replace (without .counters .live))
     unfolding callEffect sent compacted withoutRow
     mark-replaced =
-        let bytes = compacted-bytes without rest standing in
+        let fits : without .counters .live ≤ length (without .bytes) = omega (arith, standing .fits, standing .room) in
+        let bytes = compacted-bytes without rest (laid without rest standing) fits in
         let n : without .counters .live ≡ length (image rest) = standing .live in
         let room : 0 + length (image rest) ≤ length (without .bytes) =
-        omega (arith, n, live-small without rest standing, standing .room) in
+        omega (arith, n) in
         record {
-          stands = compacted-stands without rest standing;
+          stands = compacted-stands without rest (laid without rest standing) fits;
           long = ap length bytes ∙ length-write (without .bytes) 0 (image rest) room;
           tail = ap (drop (without .counters .live)) bytes ∙ behind (without .bytes) (image rest)
               (without .counters .live) n;
@@ -292,6 +306,111 @@ module _ (w : Wal) (ms : List Message) (s : Stands w ms) where
       at (some i) e = subst (λ o. Acts w ms (mark id) (byMark (markFound compactAt w id o))) (sym e)
           (marked-acts id i e compactAt)
 
+  -- a retry: its line read behind the others sets the attempts
+  module _ (id i n : ℕ) (found : findRow 0 id (openRows w) ≡ some i) (told : 0 < n) (most : n ≤ ATTEMPTS) where
+    abbrev tried : Wal
+    tried = withTried w id i n
+
+    abbrev again : List Message
+    again = retried id n ms
+
+    abbrev lies : Laid tried again
+    lies = tried-laid w ms s id i found n told most
+
+    live-less : tried .counters .live ≤ w .counters .size + length (retryLine id n)
+    unfolding withTried
+    live-less = omega (arith, s .fits)
+
+    takes-retry : (after : Wal) → after .counters .next ≡ w .counters .next → Takes (held w ms) (held after again)
+        (retryText id n)
+    unfolding takeIn
+    takes-retry after same r a b =
+        let said : readLine (retryText id n) ≡ retry id n =
+        readLine-retry id n (omega (arith, s .top, known-below w ms s id i found)) most in
+        (cc, rw (said, takeIn) (omega arith))
+
+    retry-grown : tried .counters .size + length (retryLine id n) ≤ length (tried .bytes)
+        → Orders w ms (calls.retry id n) (extended tried (retryLine id n)) (Append (tried .counters .size)
+        (tried .counters .size + length (retryLine id n)))
+    unfolding callEffect extended withTried retryLine
+    retry-grown h = record {
+      stands = extended-stands tried again (retryLine id n) lies h live-less;
+      long = extended-long tried (retryLine id n) h;
+      tail = extended-tail tried (retryLine id n) h;
+      kind = appends (retryText id n) (extended-sent tried (retryLine id n) h) (retryText-free id n)
+          (takes-retry (extended tried (retryLine id n)) refl) refl;
+    }
+
+    retry-replaced : tried .counters .live ≤ length (tried .bytes)
+        → Orders w ms (calls.retry id n) (compacted tried) (Replace (tried .counters .live))
+    unfolding callEffect sent compacted withTried
+    retry-replaced fits =
+        let bytes = compacted-bytes tried again lies fits in
+        let k : tried .counters .live ≡ length (image again) = lies .live in
+        let room : 0 + length (image again) ≤ length (tried .bytes) = omega (arith, k) in
+        record {
+          stands = compacted-stands tried again lies fits;
+          long = ap length bytes ∙ length-write (tried .bytes) 0 (image again) room;
+          tail = ap (drop (tried .counters .live)) bytes ∙ behind (tried .bytes) (image again)
+              (tried .counters .live) k;
+          kind = replaces (ap (λ d. replacing (take (tried .counters .live) d)) bytes
+              ∙ ap replacing (sym (front (tried .bytes) (image again) (tried .counters .live) k))) k;
+        }
+
+    written-acts : tried .counters .live ≤ length (tried .bytes)
+        → Acts w ms (calls.retry id n) (byMark (retryWritten tried id n))
+    unfolding retryWritten
+    written-acts fits = at (leb (tried .counters .size + length (retryLine id n)) (length (tried .bytes))) refl
+      where
+        at : (t : Bool) → leb (tried .counters .size + length (retryLine id n)) (length (tried .bytes)) ≡ t
+            → Acts w ms (calls.retry id n) (byMark (retryWritten tried id n))
+        at true e =
+            let d : retryWritten tried id n ≡ record {
+              wal = extended tried (retryLine id n);
+              due = due.Ordered (Append (tried .counters .size) (tried .counters .size + length (retryLine id n)));
+            } = cc in
+            subst (λ x. Acts w ms (calls.retry id n) (byMark x)) (sym d) (retry-grown (leb-true _ _ e))
+        at false e =
+            let d : retryWritten tried id n
+            ≡ record { wal = compacted tried; due = due.Ordered (Replace (tried .counters .live)) } = cc in
+            subst (λ x. Acts w ms (calls.retry id n) (byMark x)) (sym d) (retry-replaced fits)
+
+    same-bytes : tried .counters .live ≤ length (w .bytes) → tried .counters .live ≤ length (tried .bytes)
+    unfolding withTried
+    same-bytes h = h
+
+    retried-acts : Acts w ms (calls.retry id n) (byMark (retriedAt w id n i))
+    unfolding retriedAt
+    retried-acts = at (leb (tried .counters .live) (length (w .bytes))) refl
+      where
+        at : (t : Bool) → leb (tried .counters .live) (length (w .bytes)) ≡ t
+            → Acts w ms (calls.retry id n) (byMark (retriedAt w id n i))
+        at true e =
+            let d : retriedAt w id n i ≡ retryWritten tried id n = cc in
+            subst (λ x. Acts w ms (calls.retry id n) (byMark x)) (sym d) (written-acts (same-bytes (leb-true _ _ e)))
+        at false e =
+            let d : retriedAt w id n i ≡ nothingDue w = cc in
+            subst (λ x. Acts w ms (calls.retry id n) (byMark x)) (sym d) refl
+
+  retry-acts : (id n : ℕ) → Acts w ms (calls.retry id n) (byMark (retryOf w id n))
+  unfolding retryOf countsTries
+  retry-acts id n = counted (countsTries n) refl
+    where
+      at : 0 < n → n ≤ ATTEMPTS → (o : Option ℕ) → findRow 0 id (openRows w) ≡ o
+          → Acts w ms (calls.retry id n) (byMark (retryFound w id n o))
+      at told most none e = refl
+      at told most (some i) e = retried-acts id i n e told most
+
+      counted : (t : Bool) → countsTries n ≡ t → Acts w ms (calls.retry id n) (byMark (retryOf w id n))
+      counted true e =
+          let told : 0 < n = ltb-true 0 n (and-left (ltb 0 n) (leb n ATTEMPTS) e) in
+          let most : n ≤ ATTEMPTS = leb-true n ATTEMPTS (and-right (ltb 0 n) (leb n ATTEMPTS) e) in
+          let d : retryOf w id n ≡ retryFound w id n (findRow 0 id (openRows w)) = cc (open-finds w ms s id) in
+          subst (λ x. Acts w ms (calls.retry id n) (byMark x)) (sym d) (at told most (findRow 0 id (openRows w)) refl)
+      counted false e =
+          let d : retryOf w id n ≡ nothingDue w = cc in
+          subst (λ x. Acts w ms (calls.retry id n) (byMark x)) (sym d) refl
+
   abbrev flushed : Called
   flushed = record {
     wal = record {
@@ -320,9 +439,11 @@ module _ (w : Wal) (ms : List Message) (s : Stands w ms) where
             stands = record {
               rising = s .rising;
               small = s .small;
+              tries = s .tries;
               top = s .top;
               room = s .room;
               live = s .live;
+              fits = s .fits;
               count = s .count;
               rows = s .rows;
               tabled = s .tabled;
@@ -341,4 +462,5 @@ pub acts : (compactAt : ℕ) (w : Wal) (ms : List Message) (c : LogCall) → Sta
 unfolding didCall
 acts compactAt w ms (append name body) s = append-acts w ms s name body
 acts compactAt w ms (mark id) s = mark-acts w ms s compactAt id
+acts compactAt w ms (calls.retry id n) s = retry-acts w ms s id n
 acts compactAt w ms sync s = sync-acts w ms s

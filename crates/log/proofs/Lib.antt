@@ -9,7 +9,6 @@ pub mod RecoveryLaws
 pub mod OpenLaws
 pub mod Recovery
 pub mod TableLaws
-pub mod CompactLaws
 pub mod WalLaws
 pub mod RowLaws
 pub mod SearchLaws
@@ -22,4 +21,6 @@ pub mod PassLaws
 pub mod LeftLaws
 pub mod StoreLaws
 pub mod DecisionLaws
+pub mod RewriteLaws
 pub mod RowEnds
+pub mod Retries

@@ -17,7 +17,7 @@ use Rattle.log.specs.Opening.{Read, nothingRead, readFile, opened, openi
 use Rattle.log.specs.Log.{Wal}
 use Rattle.log.specs.Opened.{sized, rowsFrom, openedLogBy, openLog}
 use Rattle.log.specs.Recovery.{sent, replacing, openedWal}
-use Rattle.log.proofs.OpeningLaws.{readLines-in-order, and-left, and-right, judge-opened}
+use Rattle.log.proofs.OpeningLaws.{readLines-in-order, readLines-tries, and-left, and-right, judge-opened}
 use Rattle.log.proofs.Room.{image-short}
 use Rattle.log.proofs.TabledLaws.{small-few, tabled-image, rows-from}
 
@@ -101,9 +101,11 @@ module _ (log : List ℕ) (n : ℕ) (store : List ℕ) (table left : List (List 
       record {
         rising = rw (g .same) at (readLines-in-order (lines (take n log)) nothingRead (omega arith));
         small = rw (g .same) at (g .small);
+        tries = rw (g .same) at (readLines-tries (lines (take n log)) nothingRead tt);
         top = rw (g .same) at (g .next);
         room = omega (arith, opened-long, image-fits);
         live = refl;
+        fits = omega arith;
         count = refl;
         rows = length-write table 0 (rowsFrom 0 (r .left)) (omega (arith, lent .table-is)) ∙ lent .table-is;
         tabled = rw rows (subst (λ k. Tabled (write log 0 (image (r .left))) 0 (r .left) (rowsFrom 0 (r .left)) k) size

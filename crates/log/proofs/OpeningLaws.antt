@@ -6,20 +6,23 @@ use mathlib.Core.List.{List, [], _∷_, _++_, append-assoc, append-nil, List·Me
 use Prim.Native.Nat.{ℕ, zero, suc, _+_, _-_, _^_, _≤_, _<_, max}
 use native.Mathlib.Omega.{arith}
 use borrow.Author.Tests.{ltb-true, ltb-false, leb-true, leb-false, eqb-true, eqb-false, lt-ltb, le-ltb, le-leb, ne-eqb}
+use borrow.Author.Tests.{eq-eqb}
 use lib.Dec.{eqb, leb, ltb}
 use lib.ListN.{length, take, length-append}
 use lib.Seq.{take-append-le, take-append-add}
-use Rattle.text.specs.Format.{LF, Message, recordText, recordLine, line, printId, lines}
+use Rattle.text.specs.Format.{LF, ATTEMPTS, Message, recordText, recordLine, line, printId, lines, retryText}
+use Rattle.text.specs.Format.{retryLine, attemptsLine, messageLines}
 use Rattle.text.specs.Bytes.{Free}
-use Rattle.text.specs.Line.{Line, put, done, other, putOf, doneOf, readFields, readLine}
-use Rattle.text.proofs.FormatLaws.{unescape-escape, fields-record, fields-done, recordText-free}
+use Rattle.text.specs.Line.{Line, put, done, retry, other, putOf, doneOf, attemptsOf, readFields, readLine}
+use Rattle.text.proofs.FormatLaws.{unescape-escape, fields-record, fields-done, fields-retry, recordText-free}
+use Rattle.text.proofs.FormatLaws.{retryText-free}
 use Rattle.text.proofs.FormatLaws.{lines-line, lines-torn}
-use Rattle.text.proofs.Spelling.{readId-printId}
-use Rattle.log.specs.Stands.{Small}
-use Rattle.log.specs.Opening.{insert, remove, Read, takeIn, readLines, fits, allFit, Rising, opened, judge}
-use Rattle.log.specs.Opening.{image}
+use Rattle.text.proofs.Spelling.{readId-printId, line-spelled}
+use Rattle.log.specs.Stands.{Small, Tries}
+use Rattle.log.specs.Opening.{insert, remove, triedTimes, retried, Read, takeIn, readLines, fits, allFit, Rising}
+use Rattle.log.specs.Opening.{opened, judge, image}
 
-pub readLine-record : (m : Message) → m .id < 2 ^ 64 → readLine (recordText m) ≡ put m
+pub readLine-record : (m : Message) → m .id < 2 ^ 64 → readLine (recordText m) ≡ put (triedTimes m 0)
 unfolding readLine readFields putOf
 readLine-record m h = rw (fields-record m) (rw (readId-printId (m .id) h) (rw (
   unescape-escape (m .name),
@@ -29,6 +32,16 @@ readLine-record m h = rw (fields-record m) (rw (readId-printId (m .id) h) (rw (
 pub readLine-done : (n : ℕ) → n < 2 ^ 64 → readLine (printId n) ≡ done n
 unfolding readLine readFields doneOf
 readLine-done n h = cc (fields-done n, readId-printId n h)
+
+pub readLine-retry : (id n : ℕ) → id < 2 ^ 64 → n ≤ ATTEMPTS → readLine (retryText id n) ≡ retry id n
+unfolding readLine readFields attemptsOf
+readLine-retry id n h l =
+    cc (
+      fields-retry id n,
+      readId-printId id h,
+      readId-printId n (omega arith),
+      le-leb n ATTEMPTS l,
+    )
 
 -- whole lines
 unfoldable pub joined : List (List ℕ) → List ℕ
@@ -216,14 +229,115 @@ Rising-remove i (x ∷ xs) low high r = at (eqb (x .id) i) refl (Rising-remove i
     at true e ih = rw (e, remove) (Rising-low (remove i xs) (suc (x .id)) low high (omega (arith, r .0)) ih)
     at false e ih = rw (e, remove) (r .0, ih)
 
+-- the attempts of an id set
+pub retried-append : (id n : ℕ) (x y : List Message) → retried id n (x ++ y) ≡ retried id n x ++ retried id n y
+unfolding retried
+retried-append id n [] y = refl
+retried-append id n (x ∷ xs) y = at (eqb (x .id) id) refl (retried-append id n xs y)
+  where
+    at : (p : Bool) → eqb (x .id) id ≡ p → retried id n (xs ++ y) ≡ retried id n xs ++ retried id n y
+        → retried id n (x ∷ (xs ++ y)) ≡ retried id n (x ∷ xs) ++ retried id n y
+    at true f ih = cc
+    at false f ih = cc
+
+pub retried-below : (id n : ℕ) (ms : List Message) (low high : ℕ) → high ≤ id → Rising low ms high
+    → retried id n ms ≡ ms
+unfolding retried
+retried-below id n [] low high h r = refl
+retried-below id n (x ∷ xs) low high h r =
+    let b : suc (x .id) ≤ high = Rising-le xs (suc (x .id)) high (r .1) in
+    cc (ne-eqb (x .id) id (omega arith), retried-below id n xs (suc (x .id)) high h (r .1))
+
+pub retried-above : (id n : ℕ) (ms : List Message) (high : ℕ) → Rising (suc id) ms high → retried id n ms ≡ ms
+unfolding retried
+retried-above id n [] high r = refl
+retried-above id n (x ∷ xs) high r =
+    cc (
+      ne-eqb (x .id) id (omega (arith, r .0)),
+      retried-above id n xs high (Rising-low xs (suc (x .id)) (suc id) high (omega (arith, r .0)) (r .1)),
+    )
+
+pub Rising-retried : (id n : ℕ) (ms : List Message) (low high : ℕ) → Rising low ms high
+    → Rising low (retried id n ms) high
+unfolding retried
+Rising-retried id n [] low high r = r
+Rising-retried id n (x ∷ xs) low high r = at (eqb (x .id) id) refl (Rising-retried id n xs (suc (x .id)) high (r .1))
+  where
+    at : (t : Bool) → eqb (x .id) id ≡ t → Rising (suc (x .id)) (retried id n xs) high
+        → Rising low (retried id n (x ∷ xs)) high
+    at true e ih = rw (e, retried) (r .0, ih)
+    at false e ih = rw (e, retried) (r .0, ih)
+
+pub length-retried : (id n : ℕ) (ms : List Message) → length (retried id n ms) ≡ length ms
+unfolding retried
+length-retried id n [] = refl
+length-retried id n (x ∷ xs) = at (eqb (x .id) id) refl (length-retried id n xs)
+  where
+    at : (t : Bool) → eqb (x .id) id ≡ t → length (retried id n xs) ≡ length xs
+        → length (retried id n (x ∷ xs)) ≡ suc (length xs)
+    at true e ih = rw (e, retried) (ap suc ih)
+    at false e ih = rw (e, retried) (ap suc ih)
+
+-- every message's attempts can be written in a line
+Tries-insert : (m : Message) (ms : List Message) → m .attempts ≤ ATTEMPTS → Tries ms → Tries (insert m ms)
+unfolding insert
+Tries-insert m [] l t = (l, tt)
+Tries-insert m (x ∷ xs) l t = at (ltb (m .id) (x .id)) refl (eqb (m .id) (x .id)) refl (Tries-insert m xs l (t .1))
+  where
+    at : (p : Bool) → ltb (m .id) (x .id) ≡ p → (q : Bool) → eqb (m .id) (x .id) ≡ q → Tries (insert m xs)
+        → Tries (insert m (x ∷ xs))
+    at true e q f ih = rw (e, insert) (l, t)
+    at false e true f ih = rw (e, insert) (rw f (l, t .1))
+    at false e false f ih = rw (e, insert) (rw f (t .0, ih))
+
+pub Tries-remove : (i : ℕ) (ms : List Message) → Tries ms → Tries (remove i ms)
+unfolding remove
+Tries-remove i [] t = tt
+Tries-remove i (x ∷ xs) t = at (eqb (x .id) i) refl (Tries-remove i xs (t .1))
+  where
+    at : (p : Bool) → eqb (x .id) i ≡ p → Tries (remove i xs) → Tries (remove i (x ∷ xs))
+    at true e ih = rw (e, remove) ih
+    at false e ih = rw (e, remove) (t .0, ih)
+
+pub Tries-retried : (id n : ℕ) (ms : List Message) → n ≤ ATTEMPTS → Tries ms → Tries (retried id n ms)
+unfolding retried
+Tries-retried id n [] l t = tt
+Tries-retried id n (x ∷ xs) l t = at (eqb (x .id) id) refl (Tries-retried id n xs l (t .1))
+  where
+    at : (p : Bool) → eqb (x .id) id ≡ p → Tries (retried id n xs) → Tries (retried id n (x ∷ xs))
+    at true e ih = rw (e, retried) (l, ih)
+    at false e ih = rw (e, retried) (t .0, ih)
+
+pub Tries-snoc : (m : Message) (ms : List Message) → m .attempts ≤ ATTEMPTS → Tries ms → Tries (ms ++ (m ∷ []))
+Tries-snoc m [] l t = (l, tt)
+Tries-snoc m (x ∷ xs) l t = (t .0, Tries-snoc m xs l (t .1))
+
+takeIn-tries : (r : Read) (text : List ℕ) → Tries (r .left) → Tries (takeIn r (readLine text) .left)
+unfolding takeIn
+takeIn-tries r text t = at (readLine text) refl
+  where
+    at : (l : Line) → readLine text ≡ l → Tries (takeIn r l .left)
+    at (put m) e =
+        let fresh : m .attempts ≡ 0 = line-spelled text .is-record m e .fresh in
+        Tries-insert m (r .left) (omega arith) t
+    at (done i) e = Tries-remove i (r .left) t
+    at (retry id n) e = Tries-retried id n (r .left) (line-spelled text .is-retry id n e .few) t
+    at other e = t
+
+pub readLines-tries : (ts : List (List ℕ)) (r : Read) → Tries (r .left) → Tries (readLines r ts .left)
+unfolding readLines
+readLines-tries [] r t = t
+readLines-tries (x ∷ xs) r t = readLines-tries xs (takeIn r (readLine x)) (takeIn-tries r x t)
+
 -- what has been read is in rising order below the next id
 abbrev pub InOrder : Read → Type 0
 InOrder r = Rising 0 (r .left) (r .next)
 
-takeIn-in-order : (r : Read) (l : Line) → InOrder r → InOrder (takeIn r l)
+pub takeIn-in-order : (r : Read) (l : Line) → InOrder r → InOrder (takeIn r l)
 unfolding takeIn
 takeIn-in-order r (put m) o = Rising-insert m (r .left) 0 (r .next) (omega arith) o
 takeIn-in-order r (done i) o = Rising-remove i (r .left) 0 (r .next) o
+takeIn-in-order r (retry id n) o = Rising-retried id n (r .left) 0 (r .next) o
 takeIn-in-order r other o = o
 
 pub readLines-in-order : (ts : List (List ℕ)) (r : Read) → InOrder r → InOrder (readLines r ts)
@@ -310,50 +424,129 @@ Small-snoc m ms s h g =
       le-leb (length (ms ++ (m ∷ []))) 256 (omega (arith, length-append ms (m ∷ []))),
     )
 
+allFit-retried : (id n : ℕ) (ms : List Message) → allFit ms ≡ true → allFit (retried id n ms) ≡ true
+unfolding allFit retried fits
+allFit-retried id n [] f = refl
+allFit-retried id n (x ∷ xs) f = at (eqb (x .id) id) refl (allFit-retried id n xs (and-right (fits x) (allFit xs) f))
+  where
+    at : (t : Bool) → eqb (x .id) id ≡ t → allFit (retried id n xs) ≡ true → allFit (retried id n (x ∷ xs)) ≡ true
+    at true e ih = rw (e, retried) (ap (λ b. fits x && b) ih ∙ cc (and-left (fits x) (allFit xs) f))
+    at false e ih = rw (e, retried) (ap (λ b. fits x && b) ih ∙ cc (and-left (fits x) (allFit xs) f))
+
+pub Small-retried : (id n : ℕ) (ms : List Message) → Small ms → Small (retried id n ms)
+Small-retried id n ms s =
+    cc (
+      allFit-retried id n ms (and-right (leb (length ms) 256) (allFit ms) s),
+      ap (λ k. leb k 256) (length-retried id n ms),
+      and-left (leb (length ms) 256) (allFit ms) s,
+    )
+
+-- a message's retry line, as a list of lines
+unfoldable pub attemptsTexts : ℕ → ℕ → List (List ℕ)
+attemptsTexts id n = elim (eqb n 0) [ true ↦ [] | false ↦ retryText id n ∷ [] ]
+
 -- the image of messages in rising order is read as those messages
 unfoldable pub texts : List Message → List (List ℕ)
 texts [] = []
-texts (m ∷ ms) = recordText m ∷ texts ms
+texts (m ∷ ms) = recordText m ∷ (attemptsTexts (m .id) (m .attempts) ++ texts ms)
+
+attempts-joined : (id n : ℕ) (us : List (List ℕ)) → joined (attemptsTexts id n ++ us) ≡ attemptsLine id n ++ joined us
+unfolding attemptsTexts attemptsLine joined retryLine
+attempts-joined id n us = at (eqb n 0)
+  where
+    at : (b : Bool) → joined (elim b [ true ↦ [] | false ↦ retryText id n ∷ [] ] ++ us)
+        ≡ elim b [ true ↦ [] | false ↦ line (retryText id n) ] ++ joined us
+    at true = refl
+    at false = refl
+
+attempts-free : (id n : ℕ) (us : List (List ℕ)) → FreeAll us → FreeAll (attemptsTexts id n ++ us)
+unfolding attemptsTexts
+attempts-free id n us f = at (eqb n 0)
+  where
+    at : (b : Bool) → FreeAll (elim b [ true ↦ [] | false ↦ retryText id n ∷ [] ] ++ us)
+    at true = f
+    at false = (retryText-free id n, f)
 
 pub image-joined : (ms : List Message) → image ms ≡ joined (texts ms)
-unfolding image joined texts recordLine
+unfolding image joined texts recordLine messageLines
 image-joined [] = refl
-image-joined (m ∷ ms) = cc (image-joined ms)
+image-joined (m ∷ ms) =
+    append-assoc (line (recordText m)) (attemptsLine (m .id) (m .attempts)) (image ms)
+    ∙ ap (λ r. line (recordText m) ++ r)
+    (ap (λ r. attemptsLine (m .id) (m .attempts) ++ r) (image-joined ms)
+    ∙ sym (attempts-joined (m .id) (m .attempts) (texts ms)))
 
-pub image-snoc : (ms : List Message) (m : Message) → image (ms ++ (m ∷ [])) ≡ image ms ++ recordLine m
+pub image-snoc : (ms : List Message) (m : Message) → image (ms ++ (m ∷ [])) ≡ image ms ++ messageLines m
 unfolding image
-image-snoc [] m = append-nil (recordLine m)
+image-snoc [] m = append-nil (messageLines m)
 image-snoc (x ∷ ms) m = rw append-assoc (cc (image-snoc ms m))
+
+-- a message that was not tried is its record
+pub untried-lines : (m : Message) → m .attempts ≡ 0 → messageLines m ≡ recordLine m
+unfolding messageLines attemptsLine
+untried-lines m e = ap (λ n. recordLine m ++ attemptsLine (m .id) n) e ∙ append-nil (recordLine m)
 
 pub texts-free : (ms : List Message) → FreeAll (texts ms)
 unfolding texts
 texts-free [] = tt
-texts-free (m ∷ ms) = (recordText-free m, texts-free ms)
+texts-free (m ∷ ms) =
+    (recordText-free m, attempts-free (m .id) (m .attempts) (texts ms) (texts-free ms))
 
-pub readLines-record : (m : Message) (r : Read) (us : List (List ℕ)) → m .id < 2 ^ 64 → readLines r (recordText m ∷ us)
-    ≡ readLines (takeIn r (put m)) us
-unfolding readLines
-readLines-record m r us h = ap (λ l. readLines (takeIn r l) us) (readLine-record m h)
+-- a message read behind those with smaller ids: its record, then its retry line, if it has one
+unfoldable pub behindRead : Read → Message → Read
+behindRead r m = record { left = r .left ++ (m ∷ []); next = max (r .next) (suc (m .id)) }
 
-pub read-texts-left : (ms : List Message) (r : Read) (low high : ℕ) → high ≤ 2 ^ 64 → Rising 0 (r .left) low
+retried-last : (m : Message) (ms : List Message) (low : ℕ) → Rising 0 ms low → low ≤ m .id
+    → retried (m .id) (m .attempts) (ms ++ (triedTimes m 0 ∷ [])) ≡ ms ++ (m ∷ [])
+unfolding retried
+retried-last m ms low r l =
+    retried-append (m .id) (m .attempts) ms (triedTimes m 0 ∷ [])
+    ∙ cc (retried-below (m .id) (m .attempts) ms 0 low l r, eq-eqb (m .id) (m .id) refl)
+
+read-message : (m : Message) (r : Read) (us : List (List ℕ)) (low : ℕ) → m .id < 2 ^ 64 → m .attempts ≤ ATTEMPTS
+    → Rising 0 (r .left) low → low ≤ m .id
+    → readLines r (recordText m ∷ (attemptsTexts (m .id) (m .attempts) ++ us)) ≡ readLines (behindRead r m) us
+unfolding readLines takeIn attemptsTexts behindRead
+read-message m r us low h l o b = at (eqb (m .attempts) 0) refl
+  where
+    first : insert (triedTimes m 0) (r .left) ≡ r .left ++ (triedTimes m 0 ∷ [])
+    first = insert-last (triedTimes m 0) (r .left) 0 low b o
+
+    at : (t : Bool) → eqb (m .attempts) 0 ≡ t
+        → readLines (takeIn r (readLine (recordText m)))
+        (elim t [ true ↦ [] | false ↦ retryText (m .id) (m .attempts) ∷ [] ] ++ us) ≡ readLines (behindRead r m) us
+    at true e =
+        let zero : m .attempts ≡ 0 = eqb-true (m .attempts) 0 e in
+        let same : triedTimes m 0 ≡ m = rw (← zero) refl in
+        let is : takeIn r (readLine (recordText m)) ≡ behindRead r m = rw (readLine-record m h, first, same) refl in
+        ap (λ q. readLines q us) is
+    at false e =
+        let one : takeIn r (readLine (recordText m)) ≡ behindRead r (triedTimes m 0) =
+        rw (readLine-record m h, first) refl in
+        let two : takeIn (behindRead r (triedTimes m 0)) (readLine (retryText (m .id) (m .attempts)))
+        ≡ behindRead r m = rw (readLine-retry (m .id) (m .attempts) h l, retried-last m (r .left) low o b) refl in
+        ap (λ q. readLines (takeIn q (readLine (retryText (m .id) (m .attempts)))) us) one
+        ∙ ap (λ q. readLines q us) two
+
+pub read-texts-left : (ms : List Message) (r : Read) (low high : ℕ) → high ≤ 2 ^ 64 → Tries ms → Rising 0 (r .left) low
     → Rising low ms high → (readLines r (texts ms)) .left ≡ r .left ++ ms
-unfolding readLines texts takeIn
-read-texts-left [] r low high h a b = sym (append-nil (r .left))
-read-texts-left (m ∷ ms) r low high h a b =
+unfolding readLines texts behindRead
+read-texts-left [] r low high h t a b = sym (append-nil (r .left))
+read-texts-left (m ∷ ms) r low high h t a b =
     let fit : m .id < 2 ^ 64 = omega (arith, Rising-le ms (suc (m .id)) high (b .1)) in
-    let p : insert m (r .left) ≡ r .left ++ (m ∷ []) = insert-last m (r .left) 0 low (b .0) a in
-    let q : Rising 0 (insert m (r .left)) (suc (m .id)) = rw p (Rising-snoc m (r .left) 0 low (b .0) a) in
-    ap (λ s. s .left) (readLines-record m r (texts ms) fit) ∙ (read-texts-left ms (takeIn r (put m)) (suc (m .id)) high
-    h q (b .1) ∙ rw (p, append-assoc))
+    ap (λ s. s .left) (read-message m r (texts ms) low fit (t .0) a (b .0))
+    ∙ (read-texts-left ms (behindRead r m) (suc (m .id)) high h (t .1) (Rising-snoc m (r .left) 0 low (b .0) a) (b .1)
+    ∙ append-assoc (r .left) (m ∷ []) ms)
 
-pub read-texts-next : (ms : List Message) (r : Read) (low high : ℕ) → high ≤ 2 ^ 64 → r .next ≤ high
-    → Rising low ms high → (readLines r (texts ms)) .next ≤ high
-unfolding readLines texts takeIn
-read-texts-next [] r low high h n b = n
-read-texts-next (m ∷ ms) r low high h n b =
+pub read-texts-next : (ms : List Message) (r : Read) (low high : ℕ) → high ≤ 2 ^ 64 → Tries ms → Rising 0 (r .left) low
+    → r .next ≤ high → Rising low ms high → (readLines r (texts ms)) .next ≤ high
+unfolding readLines texts behindRead
+read-texts-next [] r low high h t a n b = n
+read-texts-next (m ∷ ms) r low high h t a n b =
     let top : suc (m .id) ≤ high = Rising-le ms (suc (m .id)) high (b .1) in
     omega (
       arith,
-      ap (λ s. s .next) (readLines-record m r (texts ms) (omega arith)),
-      read-texts-next ms (takeIn r (put m)) (suc (m .id)) high h (omega arith) (b .1),
+      ap (λ s. s .next) (read-message m r (texts ms) low (omega arith) (t .0) a (b .0)),
+      read-texts-next ms (behindRead r m) (suc (m .id)) high h (t .1) (Rising-snoc m (r .left) 0 low (b .0) a)
+          (omega arith) (b .1),
     )

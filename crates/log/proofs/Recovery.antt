@@ -10,16 +10,17 @@ use native.Mathlib.Omega.{arith}
 use lib.Dec.{leb}
 use lib.ListN.{length, take, drop}
 use lib.Seq.{take-nil, length-take-le}
-use Rattle.text.specs.Format.{Message, recordLine, doneLine}
+use Rattle.text.specs.Format.{Message, recordLine, doneLine, retryLine}
 use Rattle.text.proofs.WriteLaws.{drop-write}
 use Rattle.log.specs.declared.Order.{Order}
 use Rattle.log.specs.declared.Refusal.{Refusal}
 use Rattle.log.specs.Opening.{Read, Opening, refused, opened, opening, image}
 use Rattle.log.specs.Log.{Wal, openRows, newMessage, appendRefusal, appended, appendJudged, appendOf, searchRow}
-use Rattle.log.specs.Log.{withoutRow, keeps, markedDone, markFound, markOf, syncLog}
+use Rattle.log.specs.Log.{withoutRow, keeps, markedDone, markFound, markOf, withTried, retryWritten, retriedAt}
+use Rattle.log.specs.Log.{retryFound, countsTries, retryOf, syncLog}
 use Rattle.log.specs.Opened.{Opened, sized, openedLogBy, openJudged, openLog}
 use Rattle.log.specs.Recovery.{LogCall, append, mark, sync, orderOfAnswer, orderedDue, bySync, didCall, Cut}
-use Rattle.log.specs.Recovery.{Status}
+use Rattle.log.specs.Recovery.{Status, retry}
 use Rattle.log.specs.Recovery.{settled, waits, lost, LogWorld, issue, issued, called, Event, call, stored, failed}
 use Rattle.log.specs.Recovery.{stepLog, runLog, beginLog, storedOrder, failedOrder, firmMoment, confirm}
 use Rattle.log.specs.Recovery.{replacing}
@@ -192,7 +193,7 @@ tails-kept compactAt log n store table left r s ok events =
 pub call-idle : (compactAt : ℕ) (w : Wal) (c : LogCall) → didCall compactAt w c .order ≡ none
     → didCall compactAt w c .wal
     ≡ w
-unfolding didCall appendOf markOf appended markedDone syncLog
+unfolding didCall appendOf markOf appended markedDone retryOf retriedAt retryWritten syncLog
 call-idle compactAt w (append name body) = judged (appendRefusal w (newMessage w name body))
   where
     m : Message
@@ -216,6 +217,30 @@ call-idle compactAt w (mark id) = found (searchRow id (openRows w))
     found : (x : Option ℕ) → orderedDue (markFound compactAt w id x .due) ≡ none → markFound compactAt w id x .wal ≡ w
     found none q = refl
     found (some i) q = let z : _≡_ {A = ℕ} 0 1 = done (withoutRow w i) _ refl q in absurd (omega arith)
+call-idle compactAt w (retry id n) = counted (countsTries n) refl
+  where
+    written : (v : Wal) (t : Bool) → leb (v .counters .size + length (retryLine id n)) (length (v .bytes)) ≡ t
+        → orderedDue (retryWritten v id n .due) ≡ none → _≡_ {A = ℕ} 0 1
+    written v true e q = cc
+    written v false e q = cc
+
+    tried : (i : ℕ) (t : Bool) → leb (withTried w id i n .counters .live) (length (w .bytes)) ≡ t
+        → orderedDue (retriedAt w id n i .due) ≡ none → retriedAt w id n i .wal ≡ w
+    tried i true e q =
+        let d : retriedAt w id n i ≡ retryWritten (withTried w id i n) id n = cc in
+        let z : _≡_ {A = ℕ} 0 1 = written (withTried w id i n) _ refl (ap (λ x. orderedDue (x .due)) (sym d) ∙ q) in
+        absurd (omega arith)
+    tried i false e q = cc
+
+    found : (x : Option ℕ) → orderedDue (retryFound w id n x .due) ≡ none → retryFound w id n x .wal ≡ w
+    found none q = refl
+    found (some i) q = tried i _ refl q
+
+    counted : (t : Bool) → countsTries n ≡ t → orderedDue (retryOf w id n .due) ≡ none → retryOf w id n .wal ≡ w
+    counted true e q =
+        let d : retryOf w id n ≡ retryFound w id n (searchRow id (openRows w)) = cc in
+        ap (λ x. x .wal) d ∙ found (searchRow id (openRows w)) (ap (λ x. orderedDue (x .due)) (sym d) ∙ q)
+    counted false e q = cc
 call-idle compactAt w sync = by (w .counters .dirty) refl
   where
     by : (t : Bool) → w .counters .dirty ≡ t → orderedDue (syncLog (w .counters) .due) ≡ none

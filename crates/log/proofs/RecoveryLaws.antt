@@ -12,14 +12,13 @@ use Rattle.text.specs.Format.{LF, Message, line, lines}
 use Rattle.text.specs.Line.{readLine}
 use Rattle.text.specs.Bytes.{Free}
 use Rattle.log.specs.declared.Order.{Order}
-use Rattle.log.specs.Stands.{Small, Stands, Standing}
+use Rattle.log.specs.Stands.{Small, Tries, Stands, Standing}
 use Rattle.log.specs.Opening.{Rising, Read, takeIn, readLines, nothingRead, readFile, opened, opening, image}
 use Rattle.log.specs.Log.{Wal}
 use Rattle.log.specs.Recovery.{LogCall, didCall, Sent, appending, replacing, flushing, sent, settled, waits, lost}
 use Rattle.log.specs.Recovery.{Disk, Cut, confirm, firmMoment, LogWorld, callEffect, issue, issued, called}
 use Rattle.log.specs.Recovery.{storedOrder}
 use Rattle.log.specs.Recovery.{failedOrder, Event, call, stored, failed, stepLog, runLog, Possible}
-use Rattle.log.proofs.Steps.{live-small}
 use Rattle.log.proofs.OpeningLaws.{joined, FreeAll, read-joined, joined-snoc, FreeAll-snoc, readLines-append}
 use Rattle.log.proofs.OpeningLaws.{lefts, lefts-snoc, Accepted, Accepted-snoc, take-lines, judge-good, texts}
 use Rattle.log.proofs.OpeningLaws.{image-joined, texts-free, read-texts-left, read-texts-next}
@@ -29,10 +28,11 @@ use Rattle.log.proofs.CallLaws.{held, Takes, Kind, appends, replaces, f
 pub record Fit (h : Read) : Type 0 where
   pub rising : Rising 0 (h .left) (h .next)
   pub small : Small (h .left)
+  pub tries : Tries (h .left)
   pub top : h .next < 2 ^ 64
 
 pub stands-fit : (w : Wal) (ms : List Message) → Stands w ms → Fit (held w ms)
-stands-fit w ms s = record { rising = s .rising; small = s .small; top = s .top }
+stands-fit w ms s = record { rising = s .rising; small = s .small; tries = s .tries; top = s .top }
 
 -- a file fits a lent log of this length, opening accepts it, and the messages left are those of one of the moments
 pub record ReadBack (long : ℕ) (file : List ℕ) (moments : List (List Message)) : Type 0 where
@@ -109,9 +109,9 @@ module _ (long : ℕ) where
   stored-replace disk h fit =
       let base : Read = readLines nothingRead (texts (h .left)) in
       let left : base .left ≡ h .left = read-texts-left (h .left) nothingRead 0 (h .next) (omega (arith, fit .top))
-      (omega arith) (fit .rising) in
+      (fit .tries) (omega arith) (fit .rising) in
       let next : base .next ≤ h .next = read-texts-next (h .left) nothingRead 0 (h .next) (omega (arith, fit .top))
-      (omega arith) (fit .rising) in
+      (fit .tries) (omega arith) (omega arith) (fit .rising) in
       record {
         settles = refl;
         base = base;
@@ -339,13 +339,11 @@ module _ (long : ℕ) where
   sound-stands w (steady st) = record {
     stands = st .stands;
     bytes = st .bytes;
-    live = live-small (w .wal) (w .now)
-        (st .stands);
+    live = st .stands .fits;
   }
   sound-stands w (waiting s e y n) = record {
     stands = y .stands;
     bytes = y .bytes;
-    live = live-small (w .wal) (w .now)
-        (y .stands);
+    live = y .stands .fits;
   }
-  sound-stands w (ended s e g b n) = record { stands = g; bytes = b; live = live-small (w .wal) (w .now) g }
+  sound-stands w (ended s e g b n) = record { stands = g; bytes = b; live = g .fits }

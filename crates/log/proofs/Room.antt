@@ -1,20 +1,24 @@
 -- The log that opening writes is no longer than the file that it read, so that it fits where the file did.
-use mathlib.Core.Path.{_≡_, refl, ap, _∙_}
+use mathlib.Core.Path.{_≡_, refl, ap, sym, _∙_, subst}
 use mathlib.Core.Bool.{Bool, true, false}
 use mathlib.Core.Option.{Option, none, some}
 use mathlib.Core.List.{List, [], _∷_, _++_}
 use Prim.Native.Nat.{ℕ, suc, _+_, _≤_, _<_}
 use native.Mathlib.Omega.{arith}
+use borrow.Author.Tests.{eqb-true}
 use lib.Dec.{eqb, ltb}
 use lib.ListN.{length, length-append}
 use Rattle.text.specs.Format.{TAB, LF, BACKSLASH, escapeByte, escape, escaped, unescape, unescape-next, printId}
-use Rattle.text.specs.Format.{readId, Message, recordText, recordLine, line}
+use Rattle.text.specs.Format.{ATTEMPTS, readId, Message, recordText, recordLine, line, retryText, retryLine, attemptsLine}
+use Rattle.text.specs.Format.{messageLines}
 use Rattle.text.specs.Format.{joinHead, split, allButLast, lines, fields}
 use Rattle.text.specs.Bytes.{Free}
-use Rattle.text.specs.Line.{Line, put, done, other, putOf, doneOf, readFields, readLine}
+use Rattle.text.specs.Line.{Line, put, done, retry, other, putOf, doneOf, attemptsOf, readFields, readLine}
 use Rattle.text.proofs.FormatLaws.{split-some}
-use Rattle.text.proofs.Spelling.{readId-length}
-use Rattle.log.specs.Opening.{insert, remove, Read, takeIn, readLines, nothingRead, readFile, image}
+use Rattle.text.proofs.Spelling.{readId-length, line-spelled, two-put}
+use Rattle.log.specs.Opening.{insert, remove, triedTimes, retried, Rising, Read, takeIn, readLines, nothingRead}
+use Rattle.log.specs.Opening.{readFile, image}
+use Rattle.log.proofs.OpeningLaws.{InOrder, takeIn-in-order, retried-above, untried-lines}
 
 -- escaped bytes
 escapeByte-two : (b : ℕ) → length (escapeByte b) ≤ 2
@@ -159,23 +163,34 @@ record-short text m f e = at (split TAB text) refl (weight-split TAB text) (spli
     at-one none p = let z : _≡_ {A = ℕ} 0 1 = cc in omega arith
     at-one (some id) p = let z : _≡_ {A = ℕ} 0 1 = cc in omega arith
 
+    at-two : (o p : Option ℕ) → attemptsOf o p ≡ put m → ⊥
+    at-two o p e = two-put o p m e
+
     at : (ps : List (List ℕ)) → split TAB text ≡ ps → weight ps ≡ suc (length text) → FreePieces TAB ps
         → FreePieces LF ps → length (recordLine m) ≤ suc (length text)
     at [] q w g h = let z : _≡_ {A = ℕ} 0 1 = cc in absurd (omega arith)
     at (a ∷ []) q w g h = absurd (at-one (readId a) (cc))
-    at (a ∷ b ∷ []) q w g h = let z : _≡_ {A = ℕ} 0 1 = cc in absurd (omega arith)
+    at (a ∷ b ∷ []) q w g h = absurd (at-two (readId a) (readId b) (cc))
     at (a ∷ b ∷ c ∷ []) q w g h = at-id a b c (readId a) refl q w g h
     at (a ∷ b ∷ c ∷ d ∷ ps) q w g h = let z : _≡_ {A = ℕ} 0 1 = cc in absurd (omega arith)
 
+-- a retry line is as long as the line that said it
+retry-short : (text : List ℕ) (id n : ℕ) → readLine text ≡ retry id n → length (retryLine id n) ≤ suc (length text)
+unfolding retryLine line retryText fields weight
+retry-short text id n e =
+    let are = line-spelled text .is-retry id n e .two in
+    let w : weight (printId id ∷ printId n ∷ []) ≡ suc (length text) = ap weight (sym are) ∙ weight-split TAB text in
+    simp length-append (omega arith)
+
 image-insert : (m : Message) (ms : List Message) → length (image (insert m ms)) ≤ length (image ms) + length
-    (recordLine m)
+    (messageLines m)
 unfolding image insert
 image-insert m [] = simp length-append (omega arith)
 image-insert m (x ∷ xs) = at (ltb (m .id) (x .id)) refl (eqb (m .id) (x .id)) refl (image-insert m xs)
   where
     at : (t : Bool) → ltb (m .id) (x .id) ≡ t → (u : Bool) → eqb (m .id) (x .id) ≡ u → length (image (insert m xs))
-        ≤ length (image xs) + length (recordLine m)
-        → length (image (insert m (x ∷ xs))) ≤ length (recordLine x ++ image xs) + length (recordLine m)
+        ≤ length (image xs) + length (messageLines m)
+        → length (image (insert m (x ∷ xs))) ≤ length (messageLines x ++ image xs) + length (messageLines m)
     at true e u f ih = rw (e, insert) (simp length-append (omega arith))
     at false e true f ih = rw (e, insert) (rw f (simp length-append (omega arith)))
     at false e false f ih = rw (e, insert) (rw f (simp length-append (omega arith)))
@@ -186,30 +201,67 @@ image-remove i [] = omega arith
 image-remove i (x ∷ xs) = at (eqb (x .id) i) refl (image-remove i xs)
   where
     at : (t : Bool) → eqb (x .id) i ≡ t → length (image (remove i xs)) ≤ length (image xs)
-        → length (image (remove i (x ∷ xs))) ≤ length (recordLine x ++ image xs)
+        → length (image (remove i (x ∷ xs))) ≤ length (messageLines x ++ image xs)
     at true e ih = rw (e, remove) (simp length-append (omega arith))
     at false e ih = rw (e, remove) (simp length-append (omega arith))
 
-takeIn-short : (r : Read) (text : List ℕ) → Free LF text → length (image ((takeIn r (readLine text)) .left)) ≤ length
-    (image (r .left)) + suc (length text)
+-- a message's lines with these attempts are no longer than its record and the retry line
+tried-short : (m : Message) (n : ℕ) → length (messageLines (triedTimes m n))
+    ≤ length (messageLines m) + length (retryLine (m .id) n)
+unfolding messageLines attemptsLine recordLine recordText
+tried-short m n = at (eqb n 0)
+  where
+    at : (b : Bool) → length (recordLine m ++ elim b [ true ↦ [] | false ↦ retryLine (m .id) n ])
+        ≤ length (messageLines m) + length (retryLine (m .id) n)
+    at true = simp length-append (omega arith)
+    at false = simp length-append (omega arith)
+
+image-retried : (id n : ℕ) (ms : List Message) (low high : ℕ) → Rising low ms high
+    → length (image (retried id n ms)) ≤ length (image ms) + length (retryLine id n)
+unfolding image retried
+image-retried id n [] low high r = omega arith
+image-retried id n (x ∷ xs) low high r = at (eqb (x .id) id) refl (image-retried id n xs (suc (x .id)) high (r .1))
+  where
+    at : (t : Bool) → eqb (x .id) id ≡ t
+        → length (image (retried id n xs)) ≤ length (image xs) + length (retryLine id n)
+        → length (image (retried id n (x ∷ xs))) ≤ length (messageLines x ++ image xs) + length (retryLine id n)
+    at true e ih =
+        let same : x .id ≡ id = eqb-true (x .id) id e in
+        let rest : retried id n xs ≡ xs = retried-above id n xs high (rw same at (r .1)) in
+        let short : length (messageLines (triedTimes x n)) ≤ length (messageLines x) + length (retryLine id n) =
+        subst (λ k. length (messageLines (triedTimes x n)) ≤ length (messageLines x) + length (retryLine k n)) same
+        (tried-short x n) in
+        rw (e, retried) (rw rest (simp length-append (omega arith)))
+    at false e ih = rw (e, retried) (simp length-append (omega arith))
+
+takeIn-short : (r : Read) (text : List ℕ) → Free LF text → InOrder r
+    → length (image ((takeIn r (readLine text)) .left)) ≤ length (image (r .left)) + suc (length text)
 unfolding takeIn
-takeIn-short r text f = at (readLine text) refl
+takeIn-short r text f o = at (readLine text) refl
   where
     at : (l : Line) → readLine text ≡ l → length (image ((takeIn r l) .left)) ≤ length (image (r .left)) + suc
         (length text)
-    at (put m) e = omega (arith, image-insert m (r .left), record-short text m f e)
+    at (put m) e =
+        let fresh : m .attempts ≡ 0 = line-spelled text .is-record m e .fresh in
+        omega (
+          arith,
+          image-insert m (r .left),
+          record-short text m f e,
+          ap length (untried-lines m fresh),
+        )
     at (done i) e = omega (arith, image-remove i (r .left))
+    at (retry id n) e =
+        omega (arith, image-retried id n (r .left) 0 (r .next) o, retry-short text id n e)
     at other e = omega arith
 
-readLines-short : (ts : List (List ℕ)) (r : Read) → FreePieces LF ts → length (image ((readLines r ts) .left)) ≤ length
+readLines-short : (ts : List (List ℕ)) (r : Read) → FreePieces LF ts → InOrder r → length (image ((readLines r ts) .left)) ≤ length
     (image (r .left)) + weight ts
 unfolding readLines weight
-readLines-short [] r f = omega arith
-readLines-short (t ∷ ts) r f = omega (
+readLines-short [] r f o = omega arith
+readLines-short (t ∷ ts) r f o = omega (
   arith,
-  takeIn-short r t (f .0),
-  readLines-short ts (takeIn r (readLine t))
-      (f .1),
+  takeIn-short r t (f .0) o,
+  readLines-short ts (takeIn r (readLine t)) (f .1) (takeIn-in-order r (readLine t) o),
 )
 
 allButLast-free : (sep : ℕ) (ps : List (List ℕ)) → FreePieces sep ps → FreePieces sep (allButLast ps)
@@ -223,7 +275,6 @@ pub image-short : (file : List ℕ) → length (image ((readFile file) .left)) �
 unfolding readFile lines image
 image-short file = omega (
   arith,
-  readLines-short (lines file) nothingRead (allButLast-free LF (split LF file)
-      (split-free LF file)),
+  readLines-short (lines file) nothingRead (allButLast-free LF (split LF file) (split-free LF file)) (omega arith),
   weight-lines file,
 )

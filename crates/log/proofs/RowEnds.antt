@@ -15,13 +15,12 @@ unfolding RowEnds.allTrue RowEnds.rowEnds RowEnds.sameBytes RowEnds.ids RowEnds.
     RowEnds.emptyLog RowEnds.walAfter RowEnds.sizeAfter RowEnds.two RowEnds.doneThree RowEnds.tornOne
     Format.escapeByte Format.escape Format.escaped Format.unescape Format.digits Format.printId Format.decimal
     Format.below64 Format.readDigits Format.readId Format.recordText Format.line Format.recordLine Format.doneLine
-    Format.joinHead Format.split Format.allButLast Format.lines Format.fields
-    Line.putOf Line.doneOf Line.readFields Line.readLine Bytes.write
+    Format.joinHead Format.split Format.allButLast Format.lines Format.fields Format.attemptsLine Format.messageLines
+    Line.putOf Line.doneOf Line.attemptsOf Line.readFields Line.readLine Bytes.write
     Opening.insert Opening.remove Opening.takeIn Opening.readLines Opening.readFile Opening.fits Opening.allFit
     Opening.judge Opening.opening Opening.image
-    Log.extended Log.movable Log.compactedBytes Log.compactedRows Log.compacted Log.withRecord Log.appendRefusal
-    Log.appended
-    Log.appendOf Log.halved Log.searchRow Log.withoutRow Log.keeps Log.markedDone Log.markOf Log.syncLog
+    Log.extended Log.rewritable Log.rowsImage Log.rowsPlaced Log.rewrite Log.compacted Log.withRecord
+    Log.appendRefusal Log.appended Log.appendOf Log.halved Log.searchRow Log.withoutRow Log.keeps Log.markedDone Log.markOf Log.syncLog
     Recovery.didCall
 row-ends = refl
 
@@ -30,13 +29,12 @@ unfolding RowEnds.allTrue RowEnds.refusals RowEnds.refusedBy RowEnds.turnedAwayB
     RowEnds.emptyLog RowEnds.fullLog RowEnds.walAfter RowEnds.two RowEnds.records
     Format.escapeByte Format.escape Format.escaped Format.unescape Format.digits Format.printId Format.decimal
     Format.below64 Format.readDigits Format.readId Format.recordText Format.line Format.recordLine Format.doneLine
-    Format.joinHead Format.split Format.allButLast Format.lines Format.fields
-    Line.putOf Line.doneOf Line.readFields Line.readLine Bytes.write
+    Format.joinHead Format.split Format.allButLast Format.lines Format.fields Format.attemptsLine Format.messageLines
+    Line.putOf Line.doneOf Line.attemptsOf Line.readFields Line.readLine Bytes.write
     Opening.insert Opening.remove Opening.takeIn Opening.readLines Opening.readFile Opening.fits Opening.allFit
     Opening.judge Opening.opening Opening.image
-    Log.extended Log.movable Log.compactedBytes Log.compactedRows Log.compacted Log.withRecord Log.appendRefusal
-    Log.appended
-    Log.appendOf Log.halved Log.searchRow Log.withoutRow Log.keeps Log.markedDone Log.markOf Log.syncLog
+    Log.extended Log.rewritable Log.rowsImage Log.rowsPlaced Log.rewrite Log.compacted Log.withRecord
+    Log.appendRefusal Log.appended Log.appendOf Log.halved Log.searchRow Log.withoutRow Log.keeps Log.markedDone Log.markOf Log.syncLog
     Recovery.didCall
 refusals-hold = refl
 
@@ -45,8 +43,8 @@ unfolding RowEnds.allTrue RowEnds.spellings RowEnds.sameBytes RowEnds.ids RowEnd
     RowEnds.rowName RowEnds.respelled RowEnds.five RowEnds.zeroFive RowEnds.plusFive RowEnds.lastId
     Format.escapeByte Format.escape Format.escaped Format.unescape Format.digits Format.printId Format.decimal
     Format.below64 Format.readDigits Format.readId Format.recordText Format.line Format.recordLine
-    Format.joinHead Format.split Format.allButLast Format.lines Format.fields
-    Line.putOf Line.doneOf Line.readFields Line.readLine
+    Format.joinHead Format.split Format.allButLast Format.lines Format.fields Format.attemptsLine Format.messageLines
+    Line.putOf Line.doneOf Line.attemptsOf Line.readFields Line.readLine
     Opening.insert Opening.remove Opening.takeIn Opening.readLines Opening.readFile Opening.fits Opening.allFit
     Opening.judge Opening.opening Opening.image
 spellings-hold = refl

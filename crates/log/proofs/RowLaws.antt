@@ -15,9 +15,9 @@ use Rattle.text.specs.Bytes.{write, part}
 use Rattle.log.specs.declared.opening.Pass.{Pass}
 use Rattle.log.specs.declared.opening.Taken.{Taken}
 use Rattle.log.specs.declared.opening.Taken.the-variants.{Next, Over}
-use Rattle.log.specs.Log.{rowId, findRow}
+use Rattle.log.specs.Log.{row, rowId, rowAt, rowLen, findRow}
 use Rattle.log.specs.Scan.{RowsRise, insertRow, removeRow, PlaceOf, holds, TookNext, TookLine, LastId, Passed}
-use Rattle.log.specs.Scan.{Scanned}
+use Rattle.log.specs.Scan.{retryRow, Scanned}
 use Rattle.log.specs.Opening.{readFile}
 use Rattle.log.proofs.OpeningLaws.{and-left, and-right}
 use Rattle.log.proofs.TableLaws.{taken-out, put-in}
@@ -242,6 +242,62 @@ remove-found id j k low high (x ∷ rs) r e = at (eqb (rowId x) id) refl (remove
               rw one (kept ∙ ap (λ l. x ∷ l) (f .out));
         }
 
+-- the attempts of an id set in its row
+retry-above : (id n : ℕ) (rs : List (List ℕ)) (high : ℕ) → RowsRise (suc id) rs high → retryRow id n rs ≡ rs
+unfolding retryRow
+retry-above id n [] high r = refl
+retry-above id n (x ∷ rs) high r = cc (
+  ne-eqb (rowId x) id (omega (arith, r .0)),
+  retry-above id n rs high (rise-low rs (suc (rowId x)) (suc id) high (omega (arith, r .0)) (r .1)),
+)
+
+pub retry-missing : (id n j : ℕ) (rs : List (List ℕ)) → findRow j id rs ≡ none → retryRow id n rs ≡ rs
+unfolding findRow retryRow
+retry-missing id n j [] e = refl
+retry-missing id n j (x ∷ rs) e = at (eqb (rowId x) id) refl (retry-missing id n (suc j) rs)
+  where
+    at : (t : Bool) → eqb (rowId x) id ≡ t → (findRow (suc j) id rs ≡ none → retryRow id n rs ≡ rs)
+        → retryRow id n (x ∷ rs) ≡ x ∷ rs
+    at true p ih = let z : _≡_ {A = ℕ} 0 1 = cc in absurd (omega arith)
+    at false p ih = let q : retryRow id n rs ≡ rs = ih (cc) in cc
+
+-- a row with these attempts
+abbrev pub triedRow : ℕ → ℕ → List ℕ → List ℕ
+triedRow id n r = row id (rowAt r) (rowLen r) n
+
+pub record RetriedAt (id n : ℕ) (rs : List (List ℕ)) (j k : ℕ) : Type 0 where
+  pub low : j ≤ k
+  pub within : k < j + length rs
+  pub own : rowId (getD rs (k - j) []) ≡ id
+  pub is : retryRow id n rs ≡ set rs (k - j) (triedRow id n (getD rs (k - j) []))
+
+pub retry-found : (id n j k low high : ℕ) (rs : List (List ℕ)) → RowsRise low rs high → findRow j id rs ≡ some k
+    → RetriedAt id n rs j k
+unfolding findRow retryRow
+retry-found id n j k low high [] r e = let z : _≡_ {A = ℕ} 0 1 = cc in absurd (omega arith)
+retry-found id n j k low high (x ∷ rs) r e =
+    at (eqb (rowId x) id) refl (retry-found id n (suc j) k (suc (rowId x)) high rs (r .1))
+  where
+    at : (t : Bool) → eqb (rowId x) id ≡ t → (findRow (suc j) id rs ≡ some k → RetriedAt id n rs (suc j) k)
+        → RetriedAt id n (x ∷ rs) j k
+    at true p ih =
+        let here : j ≡ k = cc in
+        let zero : k - j ≡ 0 = omega arith in
+        let same : rowId x ≡ id = eqb-true (rowId x) id p in
+        let others : retryRow id n rs ≡ rs = retry-above id n rs high (rw same at (r .1)) in
+        let now : retryRow id n (x ∷ rs) ≡ triedRow id n x ∷ rs = cc in
+        record { low = omega arith; within = omega arith; own = rw zero same; is = rw zero now }
+    at false p ih =
+        let f = ih (cc) in
+        let kept : retryRow id n (x ∷ rs) ≡ x ∷ retryRow id n rs = cc in
+        let one : k - j ≡ suc (k - suc j) = omega (arith, f .low) in
+        record {
+          low = omega (arith, f .low);
+          within = omega (arith, f .within);
+          own = rw one (f .own);
+          is = rw one (kept ∙ ap (λ l. x ∷ l) (f .is));
+        }
+
 -- a row found and taken out of a table in rising order
 pub record Out (rows : List (List ℕ)) (count id i : ℕ) : Type 0 where
   pub short : i < count
@@ -257,6 +313,29 @@ row-out rows count id i h r e =
       short = l;
       gone = taken-out rows i count l h
           ∙ sym (f .out ∙ ap (λ k. take k (take count rows) ++ drop (suc k) (take count rows)) z);
+    }
+
+-- a row found in a table in rising order, with other attempts
+pub record InPlace (rows : List (List ℕ)) (count id n i : ℕ) : Type 0 where
+  pub short : i < count
+  pub now : take count (set rows i (triedRow (rowId (getD rows i [])) n (getD rows i []))) ≡ retryRow id n
+      (take count rows)
+
+pub row-tried : (rows : List (List ℕ)) (count id n i : ℕ) → count ≤ length rows → RowsRise 0 (take count rows) (2 ^ 64)
+    → findRow 0 id (take count rows) ≡ some i → InPlace rows count id n i
+row-tried rows count id n i h r e =
+    let f = retry-found id n 0 i 0 (2 ^ 64) (take count rows) r e in
+    let l : i < count = omega (arith, f .within, length-take-le count rows h) in
+    let z : i - 0 ≡ i = omega arith in
+    let here : getD (take count rows) i [] ≡ getD rows i [] = getD-take count rows i [] l in
+    let own : rowId (getD rows i []) ≡ id = ap rowId (sym here) ∙ rw z at (f .own) in
+    let is : retryRow id n (take count rows) ≡ set (take count rows) i (triedRow id n (getD (take count rows) i [])) =
+    rw z at (f .is) in
+    record {
+      short = l;
+      now = take-set-lt count rows i _ l
+          ∙ (ap (λ k. set (take count rows) i (triedRow k n (getD rows i []))) own
+          ∙ (ap (λ (x : List ℕ). set (take count rows) i (triedRow id n x)) (sym here) ∙ sym is));
     }
 
 -- a row put into a full table, from which the last one goes

@@ -8,13 +8,16 @@ use borrow.Author.Tests.{lt-ltb, le-ltb, ne-eqb}
 use lib.Dec.{eqb, ltb}
 use lib.ListN.{length, drop}
 use Rattle.text.specs.Format.{Message, lines}
-use Rattle.text.specs.Line.{Line, put, done, other, readLine, firstText, lineAt}
+use Rattle.text.specs.Line.{Line, put, done, retry, other, readLine, firstText, lineAt}
+use Rattle.text.proofs.Spelling.{line-spelled}
 use Rattle.log.specs.declared.opening.Pass.{Pass}
-use Rattle.log.specs.Opening.{insert, remove, Rising, Read, readLines, readFile, takeIn, nothingRead}
+use Rattle.log.specs.Opening.{insert, remove, triedTimes, retried, Rising, Read, readLines, readFile, takeIn}
+use Rattle.log.specs.Opening.{nothingRead}
 use Rattle.log.specs.Log.{row, rowId}
-use Rattle.log.specs.Scan.{rowMessage, rowMessages, RowsRise, insertRow, removeRow, Took, beneath, beyond, set-in}
-use Rattle.log.specs.Scan.{evicted, passRows, TookNext, LastId, Window}
-use Rattle.log.proofs.OpeningLaws.{Rising-low, Rising-le, Rising-insert, Rising-remove}
+use Rattle.log.specs.Scan.{rowMessage, rowMessages, RowsRise, insertRow, removeRow, retryRow, Took, beneath, beyond}
+use Rattle.log.specs.Scan.{set-in, evicted, passRows, TookNext, LastId, Window}
+use Rattle.log.proofs.OpeningLaws.{Rising-low, Rising-le, Rising-insert, Rising-remove, Rising-retried}
+use Rattle.log.proofs.OpeningLaws.{retried-append}
 
 pub rows-rise : (file : List ℕ) (rs : List (List ℕ)) (low high : ℕ) → Rising low (rowMessages file rs) high
     → RowsRise low rs high
@@ -45,6 +48,17 @@ map-remove file id (x ∷ xs) = at (eqb (rowId x) id) refl (map-remove file id x
         → rowMessages file (removeRow id (x ∷ xs)) ≡ remove id (rowMessages file (x ∷ xs))
     at true f ih = rw (f, removeRow, remove) ih
     at false f ih = rw (f, removeRow, remove) (ap (λ r. rowMessage file x ∷ r) ih)
+
+pub map-retry : (file : List ℕ) (id n : ℕ) (es : List (List ℕ)) → rowMessages file (retryRow id n es)
+    ≡ retried id n (rowMessages file es)
+unfolding retryRow retried
+map-retry file id n [] = refl
+map-retry file id n (x ∷ xs) = at (eqb (rowId x) id) refl (map-retry file id n xs)
+  where
+    at : (p : Bool) → eqb (rowId x) id ≡ p → rowMessages file (retryRow id n xs) ≡ retried id n (rowMessages file xs)
+        → rowMessages file (retryRow id n (x ∷ xs)) ≡ retried id n (rowMessages file (x ∷ xs))
+    at true f ih = rw (f, retryRow, retried) (ap (λ r. triedTimes (rowMessage file x) n ∷ r) ih)
+    at false f ih = rw (f, retryRow, retried) (ap (λ r. rowMessage file x ∷ r) ih)
 
 pub map-append : (file : List ℕ) (x y : List (List ℕ)) → rowMessages file (x ++ y) ≡ rowMessages file x ++ rowMessages
     file y
@@ -149,8 +163,12 @@ one-more : (r : Read) (l : List ℕ) (ls : List (List ℕ)) (k : Line) → readL
 unfolding readLines
 one-more r l ls k e = ap (λ j. readLines (takeIn r j) ls) e
 
-is-message : (file : List ℕ) (at : ℕ) (m : Message) → lineAt file at ≡ put m → rowMessage file (row (m .id) at 0) ≡ m
-is-message file at m e = rw e refl
+-- the row of a record's line, which has no attempts, is its message
+is-message : (file : List ℕ) (at : ℕ) (m : Message) → lineAt file at ≡ put m → rowMessage file (row (m .id) at 0 0) ≡ m
+unfolding lineAt
+is-message file at m e =
+    let fresh : m .attempts ≡ 0 = line-spelled (firstText (lines (drop at file))) .is-record m e .fresh in
+    rw e (ap (triedTimes m) (sym fresh))
 
 module _ {file : List ℕ} {lo hi : ℕ} {these : List (List ℕ)} {l : List ℕ} {ls : List (List ℕ)}
     (w : Tracked file lo hi these (l ∷ ls)) where
@@ -184,6 +202,25 @@ module _ {file : List ℕ} {lo hi : ℕ} {these : List (List ℕ)} {l : List ℕ
         mid = subst (λ y. Rising lo y hi) (sym (map-remove file id these)) (Rising-remove id (rowMessages file these) lo
             hi (w .mid));
         high = Rising-remove id (w .above) hi (2 ^ 64) (w .high);
+        wide = w .wide;
+      }
+
+  tried-again : (id n : ℕ) → readLine l ≡ retry id n → Tracked file lo hi (retryRow id n these) ls
+  unfolding takeIn
+  tried-again id n e =
+      let r : Read = takeIn (w .read) (retry id n) in
+      record {
+        read = r;
+        goes = sym (one-more (w .read) l ls (retry id n) e) ∙ w .goes;
+        below = retried id n (w .below);
+        above = retried id n (w .above);
+        are = ap (retried id n) (w .are) ∙ (retried-append id n (w .below) (rowMessages file these ++ w .above)
+            ∙ ap (λ y. retried id n (w .below) ++ y) (retried-append id n (rowMessages file these) (w .above)
+            ∙ ap (λ y. y ++ retried id n (w .above)) (sym (map-retry file id n these))));
+        low = Rising-retried id n (w .below) 0 lo (w .low);
+        mid = subst (λ y. Rising lo y hi) (sym (map-retry file id n these)) (Rising-retried id n
+            (rowMessages file these) lo hi (w .mid));
+        high = Rising-retried id n (w .above) hi (2 ^ 64) (w .high);
         wide = w .wide;
       }
 
@@ -236,7 +273,7 @@ module _ {file : List ℕ} {lo hi : ℕ} {these : List (List ℕ)} {l : List ℕ
 
     module _ (a : lo ≤ m .id) (b : m .id < hi) (at : ℕ) (g : lineAt file at ≡ put m) where
       abbrev new : List ℕ
-      new = row (m .id) at 0
+      new = row (m .id) at 0 0
 
       inserted : rowMessages file (insertRow new these) ≡ insert m (rowMessages file these)
       inserted = map-insert file new these ∙ ap (λ n. insert n (rowMessages file these)) (is-message file at m g)
@@ -307,7 +344,7 @@ tracked-line file lo p table at l ls q table' w₀ e t = by (readLine l) refl t
     here m k = ap (λ x. readLine (firstText x)) e ∙ k
 
     record-in : (m : Message) → readLine l ≡ put m → m .id < 2 ^ 64 → Took lo (p .hi) (passRows p table)
-        (row (m .id) at 0) (q .hi) (passRows q table') → Tracked file lo (q .hi) (passRows q table') ls
+        (row (m .id) at 0 0) (q .hi) (passRows q table') → Tracked file lo (q .hi) (passRows q table') ls
     record-in m k f (beneath a b r) = same b (passRows p table) r (put-beneath w m k f a)
     record-in m k f (beyond a b r) = same b (passRows p table) r (put-beyond w m k f a)
     record-in m k f (set-in a b c r) = same c _ r (put-within w m k f a b at (here m k))
@@ -318,12 +355,14 @@ tracked-line file lo p table at l ls q table' w₀ e t = by (readLine l) refl t
         ls
     by (put m) k x = record-in m k (omega (arith, x .2)) (x .0)
     by (done id) k x = same (x .1) (removeRow id (passRows p table)) (x .0) (taken-out w id k)
+    by (retry id n) k x = same (x .1) (retryRow id n (passRows p table)) (x .0) (tried-again w id n k)
     by other k x = same (x .1) (passRows p table) (x .0) (unmoved w k)
 
 -- the next id, line by line
 unfoldable pub nextOf : ℕ → Line → ℕ
 nextOf n (put m) = max n (suc (m .id))
 nextOf n (done id) = n
+nextOf n (retry id k) = n
 nextOf n other = n
 
 unfoldable pub nextLines : ℕ → List (List ℕ) → ℕ
@@ -334,6 +373,7 @@ next-take : (r : Read) (l : Line) → takeIn r l .next ≡ nextOf (r .next) l
 unfolding takeIn nextOf
 next-take r (put m) = refl
 next-take r (done id) = refl
+next-take r (retry id n) = refl
 next-take r other = refl
 
 next-lines : (ls : List (List ℕ)) (r : Read) → readLines r ls .next ≡ nextLines (r .next) ls
@@ -353,6 +393,7 @@ next-up : (n : ℕ) (l : Line) → n ≤ nextOf n l
 unfolding nextOf
 next-up n (put m) = omega arith
 next-up n (done id) = omega arith
+next-up n (retry id k) = omega arith
 next-up n other = omega arith
 
 next-grows : (ls : List (List ℕ)) (n : ℕ) → n ≤ nextLines n ls
@@ -371,6 +412,7 @@ next-line lo p table at q table' all l ls e t = sym (ap (nextLines (p .next)) e
     by : (k : Line) → TookNext lo p table k at q table' → nextOf (p .next) k ≡ q .next
     by (put m) x = sym (x .1)
     by (done id) x = sym (x .2)
+    by (retry id n) x = sym (x .2)
     by other x = sym (x .2)
 
 pub next-over : (n : ℕ) (all : List (List ℕ)) (l : List ℕ) (ls : List (List ℕ)) → all ≡ l ∷ ls → LastId (readLine l)
@@ -385,4 +427,5 @@ next-over n all l ls e x = subst (λ k. 2 ^ 64 ≤ nextLines n k) (sym e) (omega
     by : (k : Line) → LastId k → 2 ^ 64 ≤ nextOf n k
     by (put m) y = omega arith
     by (done id) y = absurd y
+    by (retry id k) y = absurd y
     by other y = absurd y

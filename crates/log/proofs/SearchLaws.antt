@@ -204,7 +204,7 @@ search-finds id low high rs r = finds id low high rs r (length rs) 0 (length rs)
 })
 
 -- the rows of messages in rising id order
-tabled-rise : (bytes : List ℕ) (start : ℕ) (ms : List Message) (rs : List (List ℕ)) (size low high : ℕ)
+pub tabled-rise : (bytes : List ℕ) (start : ℕ) (ms : List Message) (rs : List (List ℕ)) (size low high : ℕ)
     → Tabled bytes start ms rs size → Rising low ms high → RowsRise low rs high
 tabled-rise bytes start [] [] size low high t r = r
 tabled-rise bytes start [] (x ∷ rs) size low high t r = absurd t

@@ -10,9 +10,9 @@ use borrow.Rule.Slice.PartMut.{putMid}
 use lib.Dec.{leb}
 use lib.ListN.{length, take, drop, getD, set, length-append, length-take, length-drop, length-set}
 use lib.Seq.{length-take-le, drop-at, take-add}
-use Rattle.text.specs.Format.{Message, recordLine}
+use Rattle.text.specs.Format.{Message, recordText, recordLine, attemptsLine, messageLines}
 use Rattle.text.specs.Line.{lineAt}
-use Rattle.text.specs.Bytes.{write}
+use Rattle.text.specs.Bytes.{write, Wrote}
 use Rattle.text.specs.Answers.{Filled, filled}
 use Rattle.text.specs.declared.escape.Measure.{Measure}
 use Rattle.text.proofs.WriteLaws.{write-none, write-cons, length-write, take-write, take-written, write-write}
@@ -218,17 +218,20 @@ entryOf i x store = record {
   name = take (getD x 1 0) (drop (160 * i) store);
   body =
       take (getD x 2 0) (drop (160 * i + 32) store);
+  attempts = getD x 3 0;
 }
 
--- .. as the code's slices have it
+-- .. as the code's slices have it, for its record
 abbrev pub slicedOf : ℕ → List ℕ → List ℕ → Message
 slicedOf i x store = record {
   id = getD x 0 0;
   name = take (160 * i + getD x 1 0 - 160 * i) (drop (160 * i) store);
   body = take (160 * i + 32 + getD x 2 0 - (160 * i + 32)) (drop (160 * i + 32) store);
+  attempts = 0;
 }
 
-same-entry : (i : ℕ) (x store : List ℕ) → slicedOf i x store ≡ entryOf i x store
+same-entry : (i : ℕ) (x store : List ℕ) → recordLine (slicedOf i x store) ≡ recordLine (entryOf i x store)
+unfolding recordLine recordText
 same-entry i x store =
     let a : 160 * i + getD x 1 0 - 160 * i ≡ getD x 1 0 = omega arith in
     let b : 160 * i + 32 + getD x 2 0 - (160 * i + 32) ≡ getD x 2 0 = omega arith in
@@ -280,9 +283,14 @@ module _ {log₀ : List ℕ} {table₀ : List (List ℕ)} {store : List ℕ} {le
     pub imaging-fits : FitRow x (drop (i + 1) (take count left))
     imaging-fits = fit-row x (drop (i + 1) (take count left)) (ap fitLeft (sym e) ∙ s .fit)
 
-    split : length (image (fromStore i (drop i (take count left)) store)) ≡ length (recordLine m) + length (image rest)
-    unfolding image
-    split = ap (λ y. length (image y)) here ∙ length-append (recordLine m) (image rest)
+    -- the retry line of the message
+    abbrev tries : List ℕ
+    tries = attemptsLine (getD x 0 0) (getD x 3 0)
+
+    split : length (image (fromStore i (drop i (take count left)) store))
+        ≡ length (recordLine m) + length tries + length (image rest)
+    unfolding image messageLines
+    split = ap (λ y. length (image y)) here ∙ simp length-append refl
 
     module _ (last : List ℕ) (r : Measure) (f : _≡_ {A = Filled} (record { bytes = last; answer = r })
         (filled (take (length log - at) (drop at log)) (recordLine (slicedOf i x store)))) (n : ℕ) (q : n ≡
@@ -290,12 +298,12 @@ module _ {log₀ : List ℕ} {table₀ : List (List ℕ)} {store : List ℕ} {le
       where
         filled-here : _≡_ {A = Filled} (record { bytes = last; answer = r })
             (filled (take (length log - at) (drop at log)) (recordLine m))
-        filled-here = f ∙ ap (λ y. filled (take (length log - at) (drop at log)) (recordLine y)) (same-entry i x store)
+        filled-here = f ∙ ap (filled (take (length log - at) (drop at log))) (same-entry i x store)
 
         fits-here : at + length (recordLine m) ≤ length log
         fits-here = omega (arith, s .room, split)
 
-        pub record-length : n ≡ length (recordLine m)
+        record-length : n ≡ length (recordLine m)
         record-length =
             let room : length (recordLine m) ≤ length (take (length log - at) (drop at log)) =
             simp (length-take, length-drop) (omega (arith, fits-here)) in
@@ -305,26 +313,45 @@ module _ {log₀ : List ℕ} {table₀ : List (List ℕ)} {store : List ℕ} {le
         pub size-fits : at + n ≤ length log
         size-fits = omega (arith, fits-here, record-length)
 
-        pub imaging-more : (table' : List (List ℕ)) → table' ≡ set table i (row (getD x 0 0) at n)
-            → Imaging log₀ table₀ store left count (putMid at (length log - at) log last) table' (at + n) (i + 1)
-        unfolding image rowsFrom
-        imaging-more table' t =
-            let put : putMid at (length log - at) log last ≡ write log at (recordLine m) =
-            filled-part log at (recordLine m) last r fits-here filled-here in
-            let long : length (putMid at (length log - at) log last) ≡ length log = ap length put
-            ∙ length-write log at (recordLine m) fits-here in
-            let end : at + n ≡ at + length (recordLine m) = omega (arith, record-length) in
-            let new : List ℕ = row (m .id) at (length (recordLine m)) in
-            let set-new : table' ≡ set table i new = t ∙ ap (λ k. set table i (row (m .id) at k)) record-length in
+        -- the log with the message's record
+        abbrev recorded : List ℕ
+        recorded = putMid at (length log - at) log last
+
+        recorded-is : recorded ≡ write log at (recordLine m)
+        recorded-is = filled-part log at (recordLine m) last r fits-here filled-here
+
+        recorded-long : length recorded ≡ length log
+        recorded-long = ap length recorded-is ∙ length-write log at (recordLine m) fits-here
+
+        pub tries-fit : at + n + length tries ≤ length recorded
+        tries-fit = omega (arith, s .room, split, record-length, recorded-long)
+
+        pub imaging-more : (log' : List ℕ) (end : ℕ) → Wrote recorded (at + n) tries log' end → (table' : List (List ℕ))
+            → table' ≡ set table i (row (getD x 0 0) at n (getD x 3 0))
+            → Imaging log₀ table₀ store left count log' table' end (i + 1)
+        unfolding image rowsFrom messageLines
+        imaging-more log' end w table' t =
+            let behind : at + n ≡ at + length (recordLine m) = omega (arith, record-length) in
+            let both : log' ≡ write log at (recordLine m ++ tries) =
+            w .bytes ∙ rw (recorded-is, behind) (write-write log at (recordLine m) tries fits-here) in
+            let size : length (recordLine m ++ tries) ≡ length (recordLine m) + length tries =
+            length-append (recordLine m) tries in
+            let fit : at + length (recordLine m ++ tries) ≤ length log = omega (arith, s .room, split) in
+            let ends : end ≡ at + length (recordLine m ++ tries) = omega (arith, w .past, record-length) in
+            let new : List ℕ = row (m .id) at (length (recordLine m)) (m .attempts) in
+            let set-new : table' ≡ set table i new =
+            t ∙ ap (λ k. set table i (row (m .id) at k (m .attempts))) record-length in
+            let long : length log' ≡ length log =
+            ap length both ∙ length-write log at (recordLine m ++ tries) fit in
             record {
               long = long ∙ s .long;
               many = ap length set-new ∙ (length-set table i new ∙ s .many);
               within = omega arith;
-              room = omega (arith, s .room, split, record-length);
-              ends = omega (arith, s .ends, split, record-length);
-              bytes = rw (put, end) (write-write log at (recordLine m) (image rest) fits-here
+              room = omega (arith, s .room, split);
+              ends = omega (arith, s .ends, split);
+              bytes = rw (both, ends) (write-write log at (recordLine m ++ tries) (image rest) fit
                   ∙ (ap (λ y. write log at (image y)) (sym here) ∙ s .bytes));
-              rows = rw (set-new, end) (write-cons table i new (rowsFrom (at + length (recordLine m)) rest) l
+              rows = rw (set-new, ends) (write-cons table i new (rowsFrom (at + length (recordLine m ++ tries)) rest) l
                   ∙ (ap (λ y. write table i (rowsFrom at y)) (sym here) ∙ s .rows));
               fit = imaging-fits .others;
             }

@@ -1,5 +1,5 @@
 -- What the code of a step has made is what its definition says: one law for each way through a step.
-use mathlib.Core.Path.{_≡_, refl, ap}
+use mathlib.Core.Path.{_≡_, refl, ap, _∙_, subst}
 use mathlib.Core.Bool.{Bool, true, false, _&&_}
 use mathlib.Core.Option.{Option, none, some}
 use mathlib.Core.List.{List, []}
@@ -7,8 +7,8 @@ use Prim.Native.Nat.{ℕ, _+_, _-_, _*_, _/_, _^_, _≤_, _<_, max}
 use native.Mathlib.Omega.{arith}
 use borrow.Author.Tests.{le-leb, lt-leb, leb-true, lt-ltb, le-ltb, ltb-true, ltb-false}
 use lib.Dec.{leb, ltb}
-use lib.ListN.{length, take, set}
-use Rattle.text.specs.Format.{Message, recordLine, doneLine}
+use lib.ListN.{length, take, set, getD}
+use Rattle.text.specs.Format.{ATTEMPTS, Message, recordLine, doneLine, retryLine}
 use Rattle.text.specs.Bytes.{write}
 use Rattle.log.specs.declared.Counters.{Counters}
 use Rattle.log.specs.declared.Order.the-variants.{Append, Replace, Flush}
@@ -17,8 +17,9 @@ use Rattle.log.specs.declared.Answer.the-variants.{Ordered}
 use Rattle.log.specs.declared.Due.the-variants as due
 use Rattle.log.specs.declared.AnsweredDue.{AnsweredDue}
 use Rattle.log.specs.declared.table.Found.the-variants.{At, Missing}
-use Rattle.log.specs.Log.{row, Wal, state, openRows, DidAppend, DidMark, turnedAway, extended, compactedBytes}
-use Rattle.log.specs.Log.{compactedRows}
+use Rattle.log.specs.Log.{row, Wal, state, openRows, DidAppend, DidMark, turnedAway, extended, Rewritten}
+use Rattle.log.specs.Log.{rewrite, rowAt, rowLen, rowTries, nothingDue, withTried, retryWritten, retriedAt}
+use Rattle.log.specs.Log.{retryFound, countsTries, retryOf}
 use Rattle.log.specs.Log.{compacted, withRecord, logged, newMessage, appendRefusal, appended, appendOf}
 use Rattle.log.specs.Log.{searchRow, withoutRow, keeps, markedDone, markOf, syncLog}
 use Rattle.log.specs.Table.{foundOf}
@@ -56,18 +57,20 @@ module _ (limit long live to : ℕ) where
       )
 
 -- the rewrite
-pub compacted-is : (log log' : List ℕ) (rows rows' : List (List ℕ)) (c : Counters) → log'
-    ≡ compactedBytes (take (c .count) rows) 0 log
-    → rows' ≡ write rows 0 (compactedRows (length log) (take (c .count) rows) 0)
+pub compacted-is : (log log' : List ℕ) (rows rows' : List (List ℕ)) (c : Counters)
+    → _≡_ {A = Rewritten} (record { bytes = log'; table = rows' }) (rewrite log rows (take (c .count) rows))
     → state log' rows' (record { next = c .next; live = c .live; size = c .live; dirty = c .dirty; count = c .count })
     ≡ compacted (state log rows c)
 unfolding compacted
-compacted-is log log' rows rows' c p q = rw (p, q) refl
+compacted-is log log' rows rows' c e =
+    let p : log' ≡ rewrite log rows (take (c .count) rows) .bytes = ap (λ x. x .bytes) e in
+    let q : rows' ≡ rewrite log rows (take (c .count) rows) .table = ap (λ x. x .table) e in
+    rw (p, q) refl
 
 -- append
 pub logged-is : (log log' : List ℕ) (rows rows' : List (List ℕ)) (c : Counters) (m : Message) (len : ℕ) → len
     ≡ length (recordLine m) → log' ≡ write log (c .size) (recordLine m) → rows'
-    ≡ set rows (c .count) (row (m .id) (c .size) len)
+    ≡ set rows (c .count) (row (m .id) (c .size) len 0)
     → state log' rows' (record {
       next = c .next + 1;
       live = c .live + len;
@@ -207,6 +210,85 @@ module _ (limit : ℕ) (w : Wal) (id n : ℕ) (e : n ≡ length (doneLine id)) w
   unfolding markedDone
   marked-anew t after a = let no : keeps limit (length (w .bytes)) (w .counters .live) (w .counters .size + length
       (doneLine id)) ≡ false = rw e at t in cc
+
+-- retry
+module _ (w : Wal) (id n len : ℕ) (e : len ≡ length (retryLine id n)) where
+  pub retry-behind : leb (w .counters .size + len) (length (w .bytes)) ≡ true
+      → (log' : List ℕ) → log' ≡ write (w .bytes) (w .counters .size) (retryLine id n)
+      → _≡_ {A = DidMark} (record {
+        wal = state log' (w .table) (record {
+          next = w .counters .next;
+          live = w .counters .live;
+          size = w .counters .size + len;
+          dirty = w .counters .dirty;
+          count = w .counters .count;
+        });
+        due = due.Ordered (Append (w .counters .size) (w .counters .size + len));
+      }) (retryWritten w id n)
+  unfolding retryWritten extended
+  retry-behind t log' p =
+      let yes : leb (w .counters .size + length (retryLine id n)) (length (w .bytes)) ≡ true = rw e at t in cc
+
+  pub retry-anew : leb (w .counters .size + len) (length (w .bytes)) ≡ false → (after : Wal) → after ≡ compacted w
+      → _≡_ {A = DidMark} (record { wal = after; due = due.Ordered (Replace (w .counters .live)) })
+      (retryWritten w id n)
+  unfolding retryWritten
+  retry-anew t after a =
+      let no : leb (w .counters .size + length (retryLine id n)) (length (w .bytes)) ≡ false = rw e at t in cc
+
+module _ (log : List ℕ) (rows : List (List ℕ)) (c : Counters) (id n i : ℕ) where
+  -- the row and the counters with the new attempts
+  abbrev triedRows : List (List ℕ)
+  triedRows = set rows i (row id (rowAt (getD rows i [])) (rowLen (getD rows i [])) n)
+
+  abbrev triedCounters : ℕ → Counters
+  triedCounters live = record { next = c .next; live = live; size = c .size; dirty = c .dirty; count = c .count }
+
+  module _ (rest len : ℕ) (p : rest ≡ c .live - length (rowTries (getD rows i []))) (e : len ≡ length (retryLine id n))
+    where
+      tried-is : state log triedRows (triedCounters (rest + len)) ≡ withTried (state log rows c) id i n
+      unfolding withTried
+      tried-is = rw (p, e) refl
+
+      pub retry-fits : leb (rest + len) (length log) ≡ true → (did : DidMark)
+          → did ≡ retryWritten (state log triedRows (triedCounters (rest + len))) id n
+          → did ≡ retriedAt (state log rows c) id n i
+      unfolding retriedAt withTried
+      retry-fits t did d =
+          let yes : leb (c .live - length (rowTries (getD rows i [])) + length (retryLine id n)) (length log) ≡ true =
+          subst (λ k. leb k (length log) ≡ true) (rw (p, e) refl) t in
+          d ∙ (ap (λ v. retryWritten v id n) tried-is ∙ cc)
+
+      pub retry-no-room : leb (rest + len) (length log) ≡ false
+          → nothingDue (state log rows c) ≡ retriedAt (state log rows c) id n i
+      unfolding retriedAt withTried
+      retry-no-room t =
+          let no : leb (c .live - length (rowTries (getD rows i [])) + length (retryLine id n)) (length log) ≡ false =
+          subst (λ k. leb k (length log) ≡ false) (rw (p, e) refl) t in
+          cc
+
+module _ (w : Wal) (id n : ℕ) where
+  pub retry-uncounted : countsTries n ≡ false → nothingDue w ≡ retryOf w id n
+  unfolding retryOf
+  retry-uncounted e = cc
+
+  pub retry-unknown : countsTries n ≡ true → searchRow id (openRows w) ≡ none → nothingDue w ≡ retryOf w id n
+  unfolding retryOf
+  retry-unknown c e = cc
+
+  pub retry-known : (i : ℕ) → countsTries n ≡ true → searchRow id (openRows w) ≡ some i
+      → retriedAt w id n i ≡ retryOf w id n
+  unfolding retryOf
+  retry-known i c e = cc
+
+-- whether a number can be told
+pub counts-none : countsTries 0 ≡ false
+unfolding countsTries
+counts-none = refl
+
+pub counts-most : (n : ℕ) → (n ≡ 0 → ⊥) → leb n ATTEMPTS ≡ countsTries n
+unfolding countsTries
+counts-most n above = cc (lt-ltb 0 n (omega arith))
 
 -- sync
 pub sync-dirty : (c : Counters) → c .dirty ≡ true

@@ -2,12 +2,12 @@
 -- table and any counters.
 use mathlib.Core.Bool.{Bool, true, false, _&&_}
 use mathlib.Core.Option.{Option, none, some}
-use mathlib.Core.List.{List, [], _∷_}
+use mathlib.Core.List.{List, [], _∷_, _++_}
 use mathlib.Core.Path.{_≡_}
 use Prim.Native.Nat.{ℕ, zero, suc, _+_, _-_, _*_, _/_, _^_, _≤_, _<_, max}
 use lib.Dec.{eqb, leb, ltb}
 use lib.ListN.{length, take, getD, set}
-use Rattle.text.specs.Format.{Message, recordLine, doneLine}
+use Rattle.text.specs.Format.{Message, ATTEMPTS, untried, recordLine, doneLine, retryLine, attemptsLine}
 use Rattle.text.specs.Bytes.{write, part}
 use Rattle.log.specs.declared.Counters.{Counters}
 use Rattle.log.specs.declared.Order.the-variants.{Append, Replace, Flush}
@@ -30,9 +30,10 @@ logNumberOf Full = 8
 logNumberOf NoId = 9
 logNumberOf NoRoom = 10
 
--- a row of the table of open records: the id, where its record begins in the log, and the record's length
-abbrev pub row : ℕ → ℕ → ℕ → List ℕ
-row id at len = id ∷ at ∷ len ∷ []
+-- a row of the table of open records: the id, where its record begins in the log, the record's length, and the
+-- attempts last written or read
+abbrev pub row : ℕ → ℕ → ℕ → ℕ → List ℕ
+row id at len tried = id ∷ at ∷ len ∷ tried ∷ []
 
 -- the id of a row; 0 where the row has no cell
 abbrev pub rowId : List ℕ → ℕ
@@ -45,6 +46,18 @@ rowAt r = getD r 1 0
 -- the length of a row's record; 0 where the row has no third cell
 abbrev pub rowLen : List ℕ → ℕ
 rowLen r = getD r 2 0
+
+-- the attempts of a row; 0 where the row has no fourth cell
+abbrev pub rowTried : List ℕ → ℕ
+rowTried r = getD r 3 0
+
+-- the retry line of a row: none while its attempts are 0
+abbrev pub rowTries : List ℕ → List ℕ
+rowTries r = attemptsLine (rowId r) (rowTried r)
+
+-- how long a row's record and its retry line are together
+abbrev pub rowSpan : List ℕ → ℕ
+rowSpan r = rowLen r + length (rowTries r)
 
 -- bytes: the lent log, whose length is L; its first `size` bytes are the file. table: the lent table; its first
 -- `count` rows are the open records.
@@ -66,7 +79,7 @@ pub record DidAppend : Type 0 where
   pub wal : Wal
   pub answer : Answer
 
--- the log after a mark, and the order that is due
+-- the log after a mark or a retry, and the order that is due
 pub record DidMark : Type 0 where
   pub wal : Wal
   pub due : Due
@@ -89,31 +102,41 @@ extended w text = record {
   };
 }
 
--- a record's range can be moved down to `to`: it lies in the log and not below that
-unfoldable pub movable : ℕ → ℕ → List ℕ → Bool
-movable long to r = leb to (rowAt r) && leb (rowAt r + rowLen r) long
+-- The rows stand one behind the other in a log of this length, from `start` on; and written anew one behind the other
+-- from `to` on, each with its retry line, they end inside it. So stand the rows of every log that was opened
+-- (`Stands`); of others nothing is rewritten.
+unfoldable pub rewritable : ℕ → ℕ → ℕ → List (List ℕ) → Bool
+rewritable long start to [] = leb to long
+rewritable long start to (r ∷ rs) =
+    leb start (rowAt r) && leb (rowAt r + rowLen r) long && rewritable long (rowAt r + rowLen r) (to + rowSpan r) rs
 
--- the records' ranges moved down, in their order, one behind the other from `to` on ..
-unfoldable pub compactedBytes : List (List ℕ) → ℕ → List ℕ → List ℕ
-compactedBytes [] to bytes = bytes
-compactedBytes (r ∷ rs) to bytes = elim (movable (length bytes) to r) [
-  | true ↦ compactedBytes rs (to + rowLen r) (write bytes to (part bytes (rowAt r) (rowAt r + rowLen r)))
-  | false ↦ compactedBytes rs to bytes
+-- what the rows stand for, in their order: each record as its bytes say, and directly behind it its retry line ..
+unfoldable pub rowsImage : List ℕ → List (List ℕ) → List ℕ
+rowsImage bytes [] = []
+rowsImage bytes (r ∷ rs) = (part bytes (rowAt r) (rowAt r + rowLen r) ++ rowTries r) ++ rowsImage bytes rs
+
+-- .. and the rows, with the places that their records then have, from `to` on
+unfoldable pub rowsPlaced : ℕ → List (List ℕ) → List (List ℕ)
+rowsPlaced to [] = []
+rowsPlaced to (r ∷ rs) = row (rowId r) to (rowLen r) (rowTried r) ∷ rowsPlaced (to + rowSpan r) rs
+
+-- bytes and rows after a rewrite
+pub record Rewritten : Type 0 where
+  pub bytes : List ℕ
+  pub table : List (List ℕ)
+
+-- the log's first bytes are what its rows stand for, and the rows say where; the bytes behind keep their value
+unfoldable pub rewrite : List ℕ → List (List ℕ) → List (List ℕ) → Rewritten
+rewrite bytes table rows = elim (rewritable (length bytes) 0 0 rows) [
+  | true ↦ record { bytes = write bytes 0 (rowsImage bytes rows); table = write table 0 (rowsPlaced 0 rows) }
+  | false ↦ record { bytes = bytes; table = table }
 ]
 
--- .. and their rows, with the places that they then have
-unfoldable pub compactedRows : ℕ → List (List ℕ) → ℕ → List (List ℕ)
-compactedRows long [] to = []
-compactedRows long (r ∷ rs) to = elim (movable long to r) [
-  | true ↦ row (rowId r) to (rowLen r) ∷ compactedRows long rs (to + rowLen r)
-  | false ↦ r ∷ compactedRows long rs to
-]
-
--- the log rewritten to its open records in their order: its size is then the length of these
+-- the log rewritten to its open records in their order, with their retry lines: its size is then the length of these
 unfoldable pub compacted : Wal → Wal
 compacted w = record {
-  bytes = compactedBytes (openRows w) 0 (w .bytes);
-  table = write (w .table) 0 (compactedRows (length (w .bytes)) (openRows w) 0);
+  bytes = rewrite (w .bytes) (w .table) (openRows w) .bytes;
+  table = rewrite (w .bytes) (w .table) (openRows w) .table;
   counters = record {
     next = w .counters .next;
     live = w .counters .live;
@@ -123,12 +146,12 @@ compacted w = record {
   };
 }
 
--- one message more: its row behind the others, for the record that begins at the first free byte; the next id rises
--- by 1
+-- one message more: its row behind the others, for the record that begins at the first free byte, with no attempts;
+-- the next id rises by 1
 unfoldable pub withRecord : Wal → Message → Wal
 withRecord w m = record {
   bytes = w .bytes;
-  table = set (w .table) (w .counters .count) (row (m .id) (w .counters .size) (length (recordLine m)));
+  table = set (w .table) (w .counters .count) (row (m .id) (w .counters .size) (length (recordLine m)) 0);
   counters = record {
     next = w .counters .next + 1;
     live = w .counters .live + length (recordLine m);
@@ -142,9 +165,9 @@ withRecord w m = record {
 abbrev pub logged : Wal → Message → Wal
 logged w m = extended (withRecord w m) (recordLine m)
 
--- the message that is to be logged has the next id
+-- the message that is to be logged has the next id, and no attempts
 abbrev pub newMessage : Wal → List ℕ → List ℕ → Message
-newMessage w name body = record { id = w .counters .next; name = name; body = body }
+newMessage w name body = untried (w .counters .next) name body
 
 -- turned away: the name or the body is too long, the table is full, no id is left, or the open records and this one
 -- would not fit
@@ -227,14 +250,14 @@ halved (suc n) id rs lo hi = elim (ltb lo hi) [
 unfoldable pub searchRow : ℕ → List (List ℕ) → Option ℕ
 searchRow id rs = halved (length rs) id rs 0 (length rs)
 
--- one open record less: its row is taken out, and the open records' length falls by the record's
+-- one open record less: its row is taken out, and live falls by its record and its retry line
 unfoldable pub withoutRow : Wal → ℕ → Wal
 withoutRow w i = record {
   bytes = w .bytes;
   table = write (w .table) i (part (w .table) (i + 1) (w .counters .count));
   counters = record {
     next = w .counters .next;
-    live = w .counters .live - rowLen (getD (w .table) i []);
+    live = w .counters .live - rowSpan (getD (w .table) i []);
     size = w .counters .size;
     dirty = w .counters .dirty;
     count = w .counters .count - 1;
@@ -260,15 +283,70 @@ markedDone compactAt w id = elim (keeps compactAt (length (w .bytes)) (w .counte
   | false ↦ record { wal = compacted w; due = due.Ordered (Replace (w .counters .live)) }
 ]
 
+-- a log on which nothing is due
+abbrev pub nothingDue : Wal → DidMark
+nothingDue w = record { wal = w; due = due.Nothing }
+
 -- by the place of its row: an id without one changes nothing, and no order is due; else the row is taken out, and
 -- the id is done
 abbrev pub markFound : ℕ → Wal → ℕ → Option ℕ → DidMark
-markFound compactAt w id none = record { wal = w; due = due.Nothing }
+markFound compactAt w id none = nothingDue w
 markFound compactAt w id (some i) = markedDone compactAt (withoutRow w i) id
 
 -- Mark: an id that is not open does nothing; else its message is done
 unfoldable pub markOf : ℕ → Wal → ℕ → DidMark
 markOf compactAt w id = markFound compactAt w id (searchRow id (openRows w))
+
+-- an open id was tried n times: its row says so, and in live the new retry line takes the place of the old one
+unfoldable pub withTried : Wal → ℕ → ℕ → ℕ → Wal
+withTried w id i n = record {
+  bytes = w .bytes;
+  table = set (w .table) i (row id (rowAt (getD (w .table) i [])) (rowLen (getD (w .table) i [])) n);
+  counters = record {
+    next = w .counters .next;
+    live = w .counters .live - length (rowTries (getD (w .table) i [])) + length (retryLine id n);
+    size = w .counters .size;
+    dirty = w .counters .dirty;
+    count = w .counters .count;
+  };
+}
+
+-- the row says n already: the retry line is written behind the file and the append of it ordered, if it fits there;
+-- else the log is rewritten with it, and a replace by live ordered
+unfoldable pub retryWritten : Wal → ℕ → ℕ → DidMark
+retryWritten w id n = elim (leb (w .counters .size + length (retryLine id n)) (length (w .bytes))) [
+  | true ↦ record {
+    wal = extended w (retryLine id n);
+    due = due.Ordered (Append (w .counters .size) (w .counters .size + length (retryLine id n)));
+  }
+  | false ↦ record { wal = compacted w; due = due.Ordered (Replace (w .counters .live)) }
+]
+
+-- an open id's retry, its row at place i: written, if the open records and the retry lines then fit into the log;
+-- else nothing is written, and the log keeps the number that it had. (In a log that was opened live is at most size, so
+-- that a line that fits behind the file is always written: `RetryAsAsked`.)
+unfoldable pub retriedAt : Wal → ℕ → ℕ → ℕ → DidMark
+retriedAt w id n i = elim (leb (withTried w id i n .counters .live) (length (w .bytes))) [
+  | true ↦ retryWritten (withTried w id i n) id n
+  | false ↦ nothingDue w
+]
+
+-- by the place of its row: an id without one changes nothing, and no order is due
+abbrev pub retryFound : Wal → ℕ → ℕ → Option ℕ → DidMark
+retryFound w id n none = nothingDue w
+retryFound w id n (some i) = retriedAt w id n i
+
+-- a retry line may say 1 to 255
+unfoldable pub countsTries : ℕ → Bool
+countsTries n = ltb 0 n && leb n ATTEMPTS
+
+-- Retry: the attempts of a message are written; for an id that is not open, and of a number that no line says, nothing
+-- is done. It never makes a flush due.
+unfoldable pub retryOf : Wal → ℕ → ℕ → DidMark
+retryOf w id n = elim (countsTries n) [
+  | true ↦ retryFound w id n (searchRow id (openRows w))
+  | false ↦ nothingDue w
+]
 
 -- Sync: a flush is ordered only where a record was appended since the last one
 unfoldable pub syncLog : Counters → AnsweredDue

@@ -4,7 +4,7 @@ use mathlib.Core.List.{List, [], _∷_, map}
 use Prim.Native.Nat.{ℕ, suc, _+_, _*_}
 use lib.Dec.{eqb, leb}
 use lib.ListN.{length, take}
-use Rattle.text.specs.Format.{Message, recordLine}
+use Rattle.text.specs.Format.{Message, recordLine, messageLines}
 use Rattle.text.specs.Bytes.{write}
 use Rattle.log.specs.declared.Counters.{Counters}
 use Rattle.log.specs.declared.Order.the-variants.{Replace}
@@ -39,14 +39,16 @@ unfoldable pub stored : ℕ → List Message → List ℕ → List ℕ
 stored i [] store = store
 stored i (m ∷ ms) store = stored (suc i) ms (storedAt i m store)
 
--- what is handed back of a message left, in the row of its entry: the id and the lengths of name and body
+-- what is handed back of a message left, in the row of its entry: the id, the lengths of name and body, and the
+-- attempts
 abbrev pub leftRow : Message → List ℕ
-leftRow m = m .id ∷ length (m .name) ∷ length (m .body) ∷ []
+leftRow m = m .id ∷ length (m .name) ∷ length (m .body) ∷ m .attempts ∷ []
 
--- the rows of records that stand one behind the other from `at` on
+-- the rows of records that stand one behind the other from `at` on, each with its retry line behind it
 unfoldable pub rowsFrom : ℕ → List Message → List (List ℕ)
 rowsFrom at [] = []
-rowsFrom at (m ∷ ms) = row (m .id) at (length (recordLine m)) ∷ rowsFrom (at + length (recordLine m)) ms
+rowsFrom at (m ∷ ms) =
+    row (m .id) at (length (recordLine m)) (m .attempts) ∷ rowsFrom (at + length (messageLines m)) ms
 
 -- the counters where no log was opened: all 0, and dirty is no
 abbrev pub noCounters : Counters

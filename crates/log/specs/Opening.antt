@@ -5,8 +5,8 @@ use mathlib.Core.List.{List, [], _∷_, _++_}
 use Prim.Native.Nat.{ℕ, suc, _^_, _≤_, max}
 use lib.Dec.{eqb, leb, ltb}
 use lib.ListN.{length}
-use Rattle.text.specs.Format.{Message, lines, recordLine}
-use Rattle.text.specs.Line.{Line, put, done, other, readLine}
+use Rattle.text.specs.Format.{Message, lines, messageLines}
+use Rattle.text.specs.Line.{Line, put, done, retry, other, readLine}
 use Rattle.log.specs.declared.Refusal.{Refusal}
 use Rattle.log.specs.declared.Refusal.the-variants.{LastId, TooMuch}
 
@@ -39,10 +39,22 @@ insert m (x ∷ xs) = elim (ltb (m .id) (x .id)) [
       elim (eqb (m .id) (x .id)) [ true ↦ m ∷ xs | false ↦ x ∷ insert m xs ]
 ]
 
--- .. and a done line removes its id
+-- .. a done line removes its id ..
 unfoldable pub remove : ℕ → List Message → List Message
 remove id [] = []
 remove id (x ∷ xs) = elim (eqb (x .id) id) [ true ↦ remove id xs | false ↦ x ∷ remove id xs ]
+
+-- a message with these attempts
+abbrev pub triedTimes : Message → ℕ → Message
+triedTimes m n = record { id = m .id; name = m .name; body = m .body; attempts = n }
+
+-- .. and a retry line sets the attempts of its id, the later one winning; an id that is not open changes nothing
+unfoldable pub retried : ℕ → ℕ → List Message → List Message
+retried id n [] = []
+retried id n (x ∷ xs) = elim (eqb (x .id) id) [
+  | true ↦ triedTimes x n ∷ retried id n xs
+  | false ↦ x ∷ retried id n xs
+]
 
 -- ids rise from `low`, and stay below `high`
 abbrev pub Rising : ℕ → List Message → ℕ → Type 0
@@ -54,11 +66,12 @@ pub record Read : Type 0 where
   pub left : List Message
   pub next : ℕ
 
--- a record sets its id, and raises next to 1 + the id where it is lower; a done line removes its id, and leaves next;
--- any other line changes nothing
+-- a record sets its id, and raises next to 1 + the id where it is lower; a done line removes its id, a retry line sets
+-- its attempts, and both leave next; any other line changes nothing
 unfoldable pub takeIn : Read → Line → Read
 takeIn r (put m) = record { left = insert m (r .left); next = max (r .next) (suc (m .id)) }
 takeIn r (done id) = record { left = remove id (r .left); next = r .next }
+takeIn r (retry id n) = record { left = retried id n (r .left); next = r .next }
 takeIn r other = r
 
 -- lines taken in one after the other, in their order, on top of what has been read
@@ -101,7 +114,8 @@ judge r = elim (ltb (r .next) (2 ^ 64)) [
 unfoldable pub opening : List ℕ → Opening
 opening file = judge (readFile file)
 
--- the messages as records in their order: what the log is rewritten to
+-- the messages in their order, of each its record and directly behind it its retry line, if its attempts are not 0:
+-- what the log is rewritten to
 unfoldable pub image : List Message → List ℕ
 image [] = []
-image (m ∷ ms) = recordLine m ++ image ms
+image (m ∷ ms) = messageLines m ++ image ms

@@ -15,14 +15,15 @@ use Rattle.log.specs.declared.Answer.the-variants.{Ordered, Refused}
 use Rattle.log.specs.declared.Due.{Due}
 use Rattle.log.specs.declared.Due.the-variants as due
 use Rattle.log.specs.declared.AnsweredDue.{AnsweredDue}
-use Rattle.log.specs.Opening.{Read, remove, RECORDS, STORE}
-use Rattle.log.specs.Log.{Wal, DidAppend, DidMark, newMessage, appendOf, markOf, syncLog}
+use Rattle.log.specs.Opening.{Read, remove, retried, RECORDS, STORE}
+use Rattle.log.specs.Log.{Wal, DidAppend, DidMark, newMessage, appendOf, markOf, retryOf, syncLog}
 use Rattle.log.specs.Opened.{Opened, openedLogBy, openLog}
 
--- the calls: log a message, mark an id done, sync
+-- the calls: log a message, mark an id done, write an id's attempts, sync
 pub data LogCall : Type 0 where
   append : List ℕ → List ℕ → LogCall
   mark : ℕ → LogCall
+  retry : ℕ → ℕ → LogCall
   sync : LogCall
 
 -- the order of an answer, and the order that is due, if any
@@ -30,7 +31,7 @@ abbrev pub orderOfAnswer : Answer → Option Order
 orderOfAnswer (Ordered o) = some o
 orderOfAnswer (Refused r) = none
 
--- the order that a mark or a sync has due; none where nothing is due
+-- the order that a mark, a retry or a sync has due; none where nothing is due
 abbrev pub orderedDue : Due → Option Order
 orderedDue (due.Ordered o) = some o
 orderedDue due.Nothing = none
@@ -44,7 +45,7 @@ pub record Called : Type 0 where
 abbrev pub byAppend : DidAppend → Called
 byAppend d = record { wal = d .wal; order = orderOfAnswer (d .answer) }
 
--- the log after a mark, and its order; none where nothing is due
+-- the log after a mark or a retry, and its order; none where nothing is due
 abbrev pub byMark : DidMark → Called
 byMark d = record { wal = d .wal; order = orderedDue (d .due) }
 
@@ -57,6 +58,7 @@ bySync w s =
 unfoldable pub didCall : ℕ → Wal → LogCall → Called
 didCall compactAt w (append name body) = byAppend (appendOf w name body)
 didCall compactAt w (mark id) = byMark (markOf compactAt w id)
+didCall compactAt w (retry id n) = byMark (retryOf w id n)
 didCall compactAt w sync = bySync w (syncLog (w .counters))
 
 -- an order with its bytes, taken from the log as it stands when the order goes out
@@ -117,8 +119,8 @@ firmMoment (appending bytes) old last = old
 firmMoment (replacing bytes) old last = last
 firmMoment flushing old last = last
 
--- Moments: the messages logged and not done at the opening, and after each order that went out since. now: those of
--- the last moment.
+-- Moments: the messages logged and not done, with the attempts last written, at the opening and after each order that
+-- went out since. now: those of the last moment.
 -- firm: the place in `moments` of the last confirmed flush or replace; without one, of the opening.
 pub record LogWorld : Type 0 where
   pub wal : Wal
@@ -129,10 +131,11 @@ pub record LogWorld : Type 0 where
 
 -- what a call whose order goes out does to the messages logged and not done: a new record adds its message, with the
 -- name and body given and the next id;
--- a mark takes its message off; any other order changes nothing
+-- a mark takes its message off; a retry sets the attempts of its message; any other order changes nothing
 unfoldable pub callEffect : Wal → LogCall → List Message → List Message
 callEffect w (append name body) now = now ++ (newMessage w name body ∷ [])
 callEffect w (mark id) now = remove id now
+callEffect w (retry id n) now = retried id n now
 callEffect w sync now = now
 
 -- an order goes out: one more moment
@@ -218,7 +221,7 @@ beginLog o file left = record {
 
 -- the next opening of a file, in any lent log of this length that begins with it and with any store and tables of the
 -- right sizes, is accepted,
--- and the messages left, handed back in rising id order, are those of one of the moments
+-- and the messages left, handed back in rising id order, are those of one of the moments, with their attempts then
 pub record Recovers (long : ℕ) (file : List ℕ) (moments : List (List Message)) : Type 0 where
   pub short : length file ≤ long
   pub found : Read

@@ -5,7 +5,7 @@ use mathlib.Core.List.{List, [], _∷_, _++_}
 use Prim.Native.Nat.{ℕ, zero, suc}
 use lib.Dec.{eqb}
 use lib.ListN.{length, replicate}
-use Rattle.text.specs.Format.{TAB, Message, recordLine, line, unescape}
+use Rattle.text.specs.Format.{TAB, Message, untried, recordLine, line, unescape}
 use Rattle.log.specs.declared.Answer.{Answer}
 use Rattle.log.specs.declared.Answer.the-variants.{Ordered, Refused}
 use Rattle.log.specs.Opening.{Opening, refused, opened, opening, image}
@@ -39,9 +39,9 @@ unfoldable pub turnedAwayBy : Answer → ℕ → Bool
 turnedAwayBy (Ordered o) n = false
 turnedAwayBy (Refused r) n = eqb (logNumberOf r) n
 
--- a message with this id, name and body
+-- a message with this id, name and body, not tried yet
 unfoldable pub message : ℕ → List ℕ → List ℕ → Message
-message id name body = record { id = id; name = name; body = body }
+message id name body = untried id name body
 
 -- the name `row`
 unfoldable pub rowName : List ℕ

@@ -1,4 +1,4 @@
--- Reading a file with a table of rows (id, where its line begins): what the parts of the reader answer. Rows beyond
+-- Reading a file with a table of rows (id, where its line begins, attempts): what the parts of the reader answer. Rows beyond
 -- the table's room are let go from the largest id on,
 -- and read in a later pass.
 use mathlib.Core.Path.{_≡_}
@@ -8,7 +8,7 @@ use Prim.Native.Nat.{ℕ, suc, _+_, _-_, _*_, _^_, _≤_, _<_, max}
 use lib.Dec.{eqb, leb, ltb}
 use lib.ListN.{length, take, drop, getD}
 use Rattle.text.specs.Format.{Message}
-use Rattle.text.specs.Line.{Line, readLine, put, done, other, nameOf, bodyOf, lineAt}
+use Rattle.text.specs.Line.{Line, readLine, put, done, retry, other, nameOf, bodyOf, lineAt}
 use Rattle.text.specs.Bytes.{write, part}
 use Rattle.text.specs.declared.escape.Measure.{Measure}
 use Rattle.log.specs.declared.opening.Lengths.{Lengths}
@@ -24,14 +24,18 @@ use Rattle.log.specs.declared.opening.Decision.{Decision}
 use Rattle.log.specs.declared.opening.Decision.the-variants.{Refuse, Accept}
 use Rattle.log.specs.Opening.{readFile, allFit, Rising, refused, opened, opening, image, RECORDS, NAME, BODY}
 use Rattle.log.specs.Opening.{ENTRY}
-use Rattle.log.specs.Log.{row, rowId, rowAt}
+use Rattle.log.specs.Log.{row, rowId, rowAt, rowLen, rowTried}
 use Rattle.log.specs.Opened.{rowsFrom}
 use Rattle.text.specs.declared.escape.Measure.the-variants as measure
 
--- the message of a row: its id, with the name and body of the line where it begins
+-- the message of a row: its id and its attempts, with the name and body of the line where it begins
 abbrev pub rowMessage : List ℕ → List ℕ → Message
-rowMessage file r =
-    record { id = rowId r; name = nameOf (lineAt file (rowAt r)); body = bodyOf (lineAt file (rowAt r)) }
+rowMessage file r = record {
+  id = rowId r;
+  name = nameOf (lineAt file (rowAt r));
+  body = bodyOf (lineAt file (rowAt r));
+  attempts = rowTried r;
+}
 
 -- the messages of rows, in their order
 abbrev pub rowMessages : List ℕ → List (List ℕ) → List Message
@@ -55,6 +59,14 @@ insertRow e (x ∷ xs) = elim (ltb (rowId e) (rowId x)) [
 unfoldable pub removeRow : ℕ → List (List ℕ) → List (List ℕ)
 removeRow id [] = []
 removeRow id (x ∷ xs) = elim (eqb (rowId x) id) [ true ↦ removeRow id xs | false ↦ x ∷ removeRow id xs ]
+
+-- the rows with these attempts in those of an id
+unfoldable pub retryRow : ℕ → ℕ → List (List ℕ) → List (List ℕ)
+retryRow id n [] = []
+retryRow id n (x ∷ xs) = elim (eqb (rowId x) id) [
+  | true ↦ row (rowId x) (rowAt x) (rowLen x) n ∷ retryRow id n xs
+  | false ↦ x ∷ retryRow id n xs
+]
 
 -- the first place whose id is not below
 pub record PlaceOf (these : List (List ℕ)) (id place : ℕ) : Type 0 where
@@ -81,10 +93,12 @@ passRows p table = take (p .count) table
 -- what a line that begins at a place does to a pass; over: a record has the last id, so that there is no next one
 abbrev pub TookNext : ℕ → Pass → List (List ℕ) → Line → ℕ → Pass → List (List ℕ) → Type 0
 TookNext lo p table (put m) at q table' =
-    Took lo (p .hi) (passRows p table) (row (m .id) at 0) (q .hi) (passRows q table')
+    Took lo (p .hi) (passRows p table) (row (m .id) at 0 0) (q .hi) (passRows q table')
     × (q .next ≡ max (p .next) (suc (m .id))) × (m .id < 2 ^ 64 - 1)
 TookNext lo p table (done id) at q table' =
     (passRows q table' ≡ removeRow id (passRows p table)) × (q .hi ≡ p .hi) × (q .next ≡ p .next)
+TookNext lo p table (retry id n) at q table' =
+    (passRows q table' ≡ retryRow id n (passRows p table)) × (q .hi ≡ p .hi) × (q .next ≡ p .next)
 TookNext lo p table other at q table' =
     (passRows q table' ≡ passRows p table) × (q .hi ≡ p .hi) × (q .next ≡ p .next)
 
@@ -92,6 +106,7 @@ TookNext lo p table other at q table' =
 abbrev pub LastId : Line → Type 0
 LastId (put m) = 2 ^ 64 - 1 ≤ m .id
 LastId (done id) = ⊥
+LastId (retry id n) = ⊥
 LastId other = ⊥
 
 -- what a line did to a pass: it goes on, changed as above, with no more rows than the table has; or it is over, and the
@@ -189,16 +204,17 @@ fromStore i (x ∷ xs) store =
       id = getD x 0 0;
       name = take (getD x 1 0) (drop (ENTRY * i) store);
       body = take (getD x 2 0) (drop (ENTRY * i + NAME) store);
+      attempts = getD x 3 0;
     } ∷ fromStore (suc i) xs store
 
--- what the log, the records' table and the answer are after the messages' records were written from the first byte on
+-- what the log, the records' table and the answer are after the messages were written from the first byte on
 pub record Imaged : Type 0 where
   pub log : List ℕ
   pub table : List (List ℕ)
   pub size : ℕ
 
--- the messages' records written over the log from its first byte on, their rows over the table's first ones, and the
--- length of these records
+-- the messages' records and retry lines written over the log from its first byte on, their rows over the table's first
+-- ones, and the length of these lines
 abbrev pub imaged : List ℕ → List (List ℕ) → List Message → Imaged
 imaged log table ms =
     record { log = write log 0 (image ms); table = write table 0 (rowsFrom 0 ms); size = length (image ms) }

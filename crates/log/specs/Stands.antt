@@ -5,7 +5,7 @@ use mathlib.Core.List.{List, [], _∷_}
 use Prim.Native.Nat.{ℕ, _+_, _^_, _≤_, _<_}
 use lib.Dec.{leb}
 use lib.ListN.{length}
-use Rattle.text.specs.Format.{Message, recordLine}
+use Rattle.text.specs.Format.{Message, ATTEMPTS, recordLine}
 use Rattle.text.specs.Bytes.{part}
 use Rattle.log.specs.Opening.{allFit, Rising, image, RECORDS}
 use Rattle.log.specs.Log.{row, rowAt, Wal, openRows}
@@ -15,13 +15,19 @@ use Rattle.log.specs.Recovery.{LogWorld}
 abbrev pub Small : List Message → Type 0
 Small ms = (leb (length ms) RECORDS && allFit ms) ≡ true
 
--- the rows say where the messages' records stand, in their order, from `start` on and up to `size`
+-- every message's attempts can be written in a retry line
+abbrev pub Tries : List Message → Type 0
+Tries [] = Unit
+Tries (m ∷ ms) = (m .attempts ≤ ATTEMPTS) × Tries ms
+
+-- the rows say where the messages' records stand, in their order, from `start` on and up to `size`, and how often each
+-- was tried
 abbrev pub Tabled : List ℕ → ℕ → List Message → List (List ℕ) → ℕ → Type 0
 Tabled bytes start [] [] size = start ≤ size
 Tabled bytes start [] (r ∷ rs) size = ⊥
 Tabled bytes start (m ∷ ms) [] size = ⊥
 Tabled bytes start (m ∷ ms) (r ∷ rs) size =
-    (r ≡ row (m .id) (rowAt r) (length (recordLine m))) × (start ≤ rowAt r)
+    (r ≡ row (m .id) (rowAt r) (length (recordLine m)) (m .attempts)) × (start ≤ rowAt r)
     × (part bytes (rowAt r) (rowAt r + length (recordLine m)) ≡ recordLine m)
     × Tabled bytes (rowAt r + length (recordLine m)) ms rs size
 
@@ -29,9 +35,11 @@ Tabled bytes start (m ∷ ms) (r ∷ rs) size =
 pub record Stands (w : Wal) (ms : List Message) : Type 0 where
   pub rising : Rising 0 ms (w .counters .next)
   pub small : Small ms
+  pub tries : Tries ms
   pub top : w .counters .next < 2 ^ 64
   pub room : w .counters .size ≤ length (w .bytes)
   pub live : w .counters .live ≡ length (image ms)
+  pub fits : w .counters .live ≤ w .counters .size
   pub count : w .counters .count ≡ length ms
   pub rows : length (w .table) ≡ RECORDS
   pub tabled : Tabled (w .bytes) 0 ms (openRows w) (w .counters .size)

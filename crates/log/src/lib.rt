@@ -1,10 +1,11 @@
 // The write-ahead log of the rail pool, over a lent slice of bytes: each message logged, each marked done, so that a
 // restart hands back only the rest.
 // State: the lent log (its first `size` bytes are the file), a lent table of 256 rows of open records (id, where the
-// record begins, its length) in rising id order, and the counters, lent by `&mut`. One invariant, a law and no
-// precondition: the table is what the bytes say (specs/Stands, theorem `standing`).
+// record begins, its length, its attempts) in rising id order, and the counters, lent by `&mut`. One invariant, a law
+// and no precondition: the table is what the bytes say (specs/Stands, theorem `standing`).
 // Cost: `open_log` reads the file once, and once more each time that its table of 257 rows had to let open records go;
-// `append` goes by the record's length, `mark` by the table's, `sync` by neither; a rewrite moves the open records.
+// `append` goes by the record's length, `mark` by the table's, `retry` and `sync` by neither; a rewrite moves the open
+// records.
 // Each call ends on any bytes, tables and numbers and equals its definition (specs/Log, specs/Opened). The theorem
 // (proofs/Recovery): after any list of calls with any arguments, wherever the power fails, the next opening hands back
 // exactly the messages of one moment no earlier than the last confirmed flush or replace.
@@ -12,8 +13,9 @@ ghost use mathlib.Core.Path.{_≡_};
 ghost use Rattle.log.specs.Log.{logNumberOf};
 
 pub mod opening; // opening.rt: a file read, decided on and written anew
+pub mod rewrite; // rewrite.rt: the log rewritten to its open records and their retry lines
 pub mod table; // table.rt: rows of the table of open records
-pub mod wal; // wal.rt: append, mark, sync, and the rewrite
+pub mod wal; // wal.rt: append, mark, retry, sync
 
 // The most open records: as many messages as there are.
 pub const RECORDS: usize = 256;
@@ -33,11 +35,11 @@ pub const STORE: usize = RECORDS * ENTRY;
 // The id under which a message is logged.
 pub struct LogId(pub u64);
 
-// A row of the open records, as it is lent: the id, where the record begins, its length.
-pub type RecordRow = [u64; 3];
+// A row of the open records, as it is lent: the id, where the record begins, its length, and its attempts.
+pub type RecordRow = [u64; 4];
 
-// The log's counters: the next id, the length of the open records, the file's length, whether a record was appended
-// since the last flush, and the number of open records.
+// The log's counters: the next id, the length of the open records and their retry lines, the file's length, whether a
+// record was appended since the last flush, and the number of open records.
 pub struct Counters {
     pub next: u64,
     pub live: usize,
@@ -70,7 +72,7 @@ pub enum Answer {
     Refused(Refusal),
 }
 
-// What a mark or a sync has due: an order, or nothing. Neither is ever turned away.
+// What a mark, a retry or a sync has due: an order, or nothing. None of them is ever turned away.
 pub enum Due {
     Ordered(Order),
     Nothing,
@@ -82,7 +84,7 @@ pub struct Answered {
     pub answer: Answer,
 }
 
-// The counters after a mark or a sync, and the order that is due.
+// The counters after a mark, a retry or a sync, and the order that is due.
 pub struct AnsweredDue {
     pub counters: Counters,
     pub due: Due,

@@ -9,7 +9,7 @@ ghost use Rattle.text.specs.Bytes.{write};
 ghost use Rattle.text.specs.Line.{readLine, nameOf, bodyOf, lineAt};
 ghost use Rattle.log.specs.Opening.{readFile, allFit, image};
 ghost use Rattle.log.specs.Opened.{sized, stored, leftRow, noCounters, openedLogBy, openLog};
-ghost use Rattle.log.specs.Scan.{rowMessages, RowsRise, PlaceOf, holds, measuredLen, Took, passRows, removeRow};
+ghost use Rattle.log.specs.Scan.{rowMessages, RowsRise, PlaceOf, holds, measuredLen, Took, passRows, removeRow, retryRow};
 ghost use Rattle.log.specs.Scan.{TookLine, CanTake, TookNextLine, going, passBegun, Scanned, LeftIn, Accepted};
 ghost use Rattle.log.specs.Scan.{Decided, fitLine, fitLeft, fromStore, imaged, lengthsOf};
 ghost use Rattle.log.specs.Log.{row};
@@ -25,6 +25,7 @@ use crate::RECORDS;
 use crate::RecordRow;
 use crate::Refusal;
 use crate::STORE;
+use crate::rewrite::put_tries;
 use crate::table::Found;
 use crate::table::close_row;
 use crate::table::open_row;
@@ -43,8 +44,9 @@ use text::lines::next;
 use text::lines::reader;
 use text::record::encode_record;
 
-// A row of what an opening left, as it is lent: the id of a message, the lengths of its name and of its body.
-pub type LeftRow = [u64; 3];
+// A row of what an opening left, as it is lent: the id of a message, the lengths of its name and of its body, and its
+// attempts.
+pub type LeftRow = [u64; 4];
 
 // A pass over the file: the rows in use, the id from which on rows were let go, and the next id so far.
 pub(crate) struct Pass {
@@ -116,7 +118,7 @@ fn put_row(rows: &mut [RecordRow], p: Pass, lo: u64, id: u64, at: usize) -> Pass
     requires { ⌜ (p .count ≤ length (now rows)) × (0 < length (now rows))
         × RowsRise lo (passRows p (now rows)) (p .hi) ⌝ }
     ensures within { λ r. ⌜ r .count ≤ length (now (rows .exit)) ⌝ }
-    ensures took { λ r. ⌜ Took lo (p .hi) (passRows p (now (rows .entry))) (row id at 0) (r .hi)
+    ensures took { λ r. ⌜ Took lo (p .hi) (passRows p (now (rows .entry))) (row id at 0 0) (r .hi)
         (passRows r (now (rows .exit))) ⌝ }
     ensures next { λ r. ⌜ r .next ≡ p .next ⌝ }
 {
@@ -129,7 +131,7 @@ fn put_row(rows: &mut [RecordRow], p: Pass, lo: u64, id: u64, at: usize) -> Pass
     if hi <= id {
         return p;
     }
-    let e = [id, at as u64, 0];
+    let e = [id, at as u64, 0, 0];
     let i = row_place(rows, count, id);
     if row_is(rows, i, count, id) {
         rows[i] = e;
@@ -179,6 +181,18 @@ fn take_row(rows: &mut [RecordRow], p: Pass, id: u64) -> Pass
     }
 }
 
+// A retry line taken in: the row of its id, where there is one, has its attempts.
+fn retry_row(rows: &mut [RecordRow], count: usize, id: u64, attempts: u64)
+    requires { ⌜ (count ≤ length (now rows)) × RowsRise 0 (take count (now rows)) (2 ^ 64) ⌝ }
+    ensures { λ r. ⌜ take count (now (rows .exit)) ≡ retryRow id attempts (take count (now (rows .entry))) ⌝ }
+{
+    let Found::At(i) = search_row(rows, count, id) else {
+        return;
+    };
+    let r = rows[i];
+    rows[i] = [r[0], r[1], r[2], attempts];
+}
+
 // The next id after a record.
 fn next_after(n: u64, id: u64) -> u64
     requires { ⌜ id < 2 ^ 64 - 1 ⌝ }
@@ -224,6 +238,10 @@ fn pass_line(rows: &mut [RecordRow], p: Pass, lo: u64, line: &[u8], at: usize) -
         LineKind::Done(id) => {
             let q = take_row(rows, p, id);
             Taken::Next(q)
+        }
+        LineKind::Retry { id, attempts } => {
+            retry_row(rows, p.count, id, attempts);
+            Taken::Next(p)
         }
         LineKind::Other => Taken::Next(p),
     }
@@ -403,12 +421,13 @@ fn store_rows(file: &[u8], rows: &[RecordRow], count: usize, store: &mut [u8], l
     while i < count {
         let r = rows[i];
         let l = copy_row(file, r[1] as usize, store, ENTRY * i);
-        set_row(left, i, r[0], l.name, l.body);
+        set_row(left, i, r[0], l.name, l.body, r[3]);
         i += 1;
     }
 }
 
-// The records of the store's messages, written one behind the other from the first byte on, and their rows.
+// The records of the store's messages, each with its retry line behind it, written one behind the other from the first
+// byte on, and their rows.
 fn write_image(
     log: &mut [u8],
     records: &mut [RecordRow],
@@ -435,8 +454,8 @@ fn write_image(
         let c = a + x[1] as usize;
         let d = b + x[2] as usize;
         let n = len_of(encode_record(&mut log[p..], x[0], &store[a..c], &store[b..d]));
-        set_row(records, i, x[0], p, n);
-        p += n;
+        set_row(records, i, x[0], p, n, x[3]);
+        p = put_tries(log, p + n, x[0], x[3]);
         i += 1;
     }
     p
@@ -520,7 +539,7 @@ fn accept(
 }
 
 // Opens the log whose file is the first n bytes: what is left goes into the store, the log is written anew, and for
-// each entry of the store in use the id and the lengths of name and body are handed back.
+// each entry of the store in use the id, the lengths of name and body, and the attempts are handed back.
 pub fn open_log(
     log: &mut [u8],
     n: usize,
@@ -538,7 +557,7 @@ pub fn open_log(
         ≡ openLog (now (log .entry)) n (now (store .entry)) (now (records .entry)) (now (left .entry)) ⌝ }
 {
     if sizes_fit(log.len(), n, store.len(), records.len(), left.len()) {
-        let mut rows = [[0u64; 3]; RECORDS + 1];
+        let mut rows = [[0u64; 4]; RECORDS + 1];
         match decide(&mut rows, &log[..n]) {
             Decision::Refuse(r) => closed(r),
             Decision::Accept { count, next } => accept(

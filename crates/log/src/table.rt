@@ -1,5 +1,5 @@
-// Rows of the table of open records: an id, where its record begins, and the record's length. The first `count` rows
-// are in use.
+// Rows of the table of open records: an id, where its record begins, the record's length, and its attempts. The first
+// `count` rows are in use.
 ghost use mathlib.Core.Path.{_≡_};
 ghost use mathlib.Core.List.{_∷_};
 ghost use Prim.Native.Nat.{_+_, _≤_, _<_};
@@ -39,10 +39,10 @@ pub(crate) fn search_row(rows: &[RecordRow], count: usize, id: u64) -> Found
 }
 
 // A row stored, where there is one at that place.
-pub(crate) fn set_row(rows: &mut [RecordRow], i: usize, id: u64, at: usize, len: usize)
-    ensures { λ r. ⌜ now (rows .exit) ≡ set (now (rows .entry)) i (row id at len) ⌝ }
+pub(crate) fn set_row(rows: &mut [RecordRow], i: usize, id: u64, at: usize, len: usize, tried: u64)
+    ensures { λ r. ⌜ now (rows .exit) ≡ set (now (rows .entry)) i (row id at len tried) ⌝ }
 {
-    let r = [id, at as u64, len as u64];
+    let r = [id, at as u64, len as u64, tried];
     if i < rows.len() {
         rows[i] = r;
     }

@@ -1,15 +1,14 @@
-// The log's steps: append, mark and sync, and the rewrite to the open records.
-// The counters are lent by `&mut` to `append`, `mark` and `sync`, which are proved by walks (tools/stepped.py). The
-// work is in `append_step`, `mark_step` and `sync_step`, by value.
+// The log's steps: append, mark, retry and sync.
+// The counters are lent by `&mut` to `append`, `mark`, `retry` and `sync`, which are proved by walks (tools/stepped.py).
+// The work is in `append_step`, `mark_step`, `retry_step` and `sync_step`, by value.
 ghost use mathlib.Core.Path.{_≡_};
 ghost use mathlib.Core.List.{[]};
 ghost use Prim.Native.Nat.{_+_, _-_, _≤_};
-ghost use lib.Dec.{leb};
-ghost use lib.ListN.{length, take, getD};
-ghost use Rattle.text.specs.Bytes.{write, part};
-ghost use Rattle.log.specs.Log.{state, rowLen, compactedBytes, compactedRows, CanAppend, newMessage, logged};
-ghost use Rattle.log.specs.Log.{appended};
-ghost use Rattle.log.specs.Log.{appendOf, withoutRow, keeps, markedDone, markOf, syncLog};
+ghost use lib.ListN.{length, getD, set};
+ghost use Rattle.text.specs.Format.{untried};
+ghost use Rattle.log.specs.Log.{state, row, rowAt, rowLen, rowTries, rowSpan, CanAppend, newMessage, logged};
+ghost use Rattle.log.specs.Log.{appended, appendOf, withoutRow, keeps, markedDone, markOf};
+ghost use Rattle.log.specs.Log.{retryWritten, retriedAt, countsTries, retryOf, syncLog};
 ghost use Rattle.log.specs.declared.Answer.the-variants.{Refused};
 use crate::Answer;
 use crate::Answered;
@@ -22,74 +21,21 @@ use crate::NAME;
 use crate::Order;
 use crate::RecordRow;
 use crate::Refusal;
+use crate::rewrite::compact;
+use crate::rewrite::fits_behind;
+use crate::rewrite::tries_len;
 use crate::table::Found;
 use crate::table::close_row;
 use crate::table::search_row;
 use crate::table::set_row;
 use text::escape::Measure;
+use text::line::ATTEMPTS;
 use text::record::done_len;
 use text::record::encode_done;
 use text::record::encode_record;
+use text::record::encode_retry;
 use text::record::record_len;
-
-// The n bytes from a on moved down to `to`.
-fn move_down(log: &mut [u8], a: usize, n: usize, to: usize)
-    requires { ⌜ (to ≤ a) × (a + n ≤ length (now log)) ⌝ }
-    ensures { λ r. ⌜ now (log .exit) ≡ write (now (log .entry)) to (part (now (log .entry)) a (a + n)) ⌝ }
-{
-    if to == a {
-        return;
-    }
-    let end = a + n;
-    let mut k = a;
-    let mut p = to;
-    while k < end {
-        let b = log[k];
-        log[p] = b;
-        p += 1;
-        k += 1;
-    }
-}
-
-// Whether n bytes fit behind `size` bytes of `long`.
-fn fits_behind(size: usize, n: usize, long: usize) -> bool
-    ensures { λ r. ⌜ r ≡ leb (size + n) long ⌝ }
-{
-    if long < size {
-        return false;
-    }
-    n <= long - size
-}
-
-// The log rewritten to its open records: their ranges are moved down, in their order, and their rows say where to. It
-// goes by the table, and reads no line.
-fn compact(log: &mut [u8], records: &mut [RecordRow], count: usize)
-    ensures bytes { λ r. ⌜ now (log .exit)
-        ≡ compactedBytes (take count (now (records .entry))) 0 (now (log .entry)) ⌝ }
-    ensures table { λ r. ⌜ now (records .exit)
-        ≡ write (now (records .entry)) 0
-        (compactedRows (length (now (log .entry))) (take count (now (records .entry))) 0) ⌝ }
-{
-    let mut to: usize = 0;
-    let mut i: usize = 0;
-    while i < count {
-        if records.len() <= i {
-            return;
-        }
-        let r = records[i];
-        let k = i;
-        i += 1;
-        let at = r[1] as usize;
-        let len = r[2] as usize;
-        if to <= at {
-            if fits_behind(at, len, log.len()) {
-                move_down(log, at, len, to);
-                records[k] = [r[0], to as u64, r[2]];
-                to += len;
-            }
-        }
-    }
-}
+use text::record::retry_len;
 
 // The record of a message behind the file's bytes, its row behind the others, and the counters after it.
 fn put_record(
@@ -105,13 +51,13 @@ fn put_record(
         × (counters .size + len ≤ length (now log)) ⌝ }
     ensures { λ r. ⌜ state (now (log .exit)) (now (records .exit)) r
         ≡ logged (state (now (log .entry)) (now (records .entry)) counters)
-        (record { id = counters .next; name = now (name .entry); body = now (body .entry) }) ⌝ }
+        (untried (counters .next) (now (name .entry)) (now (body .entry))) ⌝ }
 {
     let next = counters.next;
     let size = counters.size;
     let count = counters.count;
     encode_record(&mut log[size..], next, name, body);
-    set_row(records, count, next, size, len);
+    set_row(records, count, next, size, len, 0);
     Counters {
         next: next + 1,
         live: counters.live + len,
@@ -134,7 +80,7 @@ fn append_record(
         (newMessage (state (now log) (now records) counters) (now name) (now body)) len ⌝ }
     ensures { λ r. ⌜ record { wal = state (now (log .exit)) (now (records .exit)) (r .counters); answer = r .answer }
         ≡ appended (state (now (log .entry)) (now (records .entry)) counters)
-        (record { id = counters .next; name = now (name .entry); body = now (body .entry) }) ⌝ }
+        (untried (counters .next) (now (name .entry)) (now (body .entry))) ⌝ }
 {
     let size = counters.size;
     if fits_behind(size, len, log.len()) {
@@ -233,15 +179,16 @@ fn saturating_sub(a: usize, b: usize) -> usize
     a - b
 }
 
-// The length of the record of a row, 0 where there is no such row.
-fn len_at(records: &[RecordRow], i: usize) -> usize
-    ensures { λ r. ⌜ r ≡ rowLen (getD (now (records .entry)) i []) ⌝ }
+// A length less those of a row's record and retry line; where there is no such row, the length itself.
+fn less_span(live: usize, records: &[RecordRow], i: usize) -> usize
+    ensures { λ r. ⌜ r ≡ live - rowSpan (getD (now (records .entry)) i []) ⌝ }
 {
     if i < records.len() {
         let r = records[i];
-        return r[2] as usize;
+        let rest = saturating_sub(live, r[2] as usize);
+        return saturating_sub(rest, tries_len(r[0], r[3]));
     }
-    0
+    live
 }
 
 // The row of a message that is done taken out, and the counters after it.
@@ -250,9 +197,8 @@ fn take_record(records: &mut [RecordRow], counters: Counters, i: usize) -> Count
 {
     let live = counters.live;
     let count = counters.count;
-    let len = len_at(records, i);
+    let rest = less_span(live, records, i);
     close_row(records, i, count);
-    let rest = saturating_sub(live, len);
     let fewer = saturating_sub(count, 1);
     Counters {
         next: counters.next,
@@ -358,6 +304,157 @@ pub fn mark(
         ≡ markOf limit (state (now (log .entry)) (now (records .entry)) (now (counters .entry))) (id .0) ⌝ }
 {
     let s = mark_step(*counters, log, records, limit, id);
+    *counters = s.counters;
+    s.due
+}
+
+// A length less that of a row's retry line; where there is no such row, the length itself.
+fn less_tries(live: usize, records: &[RecordRow], i: usize) -> usize
+    ensures { λ r. ⌜ r ≡ live - length (rowTries (getD (now (records .entry)) i [])) ⌝ }
+{
+    if i < records.len() {
+        let r = records[i];
+        return saturating_sub(live, tries_len(r[0], r[3]));
+    }
+    live
+}
+
+// A row with other attempts, where there is one at that place.
+fn set_tried(records: &mut [RecordRow], i: usize, id: u64, attempts: u64)
+    ensures { λ r. ⌜ now (records .exit)
+        ≡ set (now (records .entry)) i
+        (row id (rowAt (getD (now (records .entry)) i [])) (rowLen (getD (now (records .entry)) i [])) attempts) ⌝ }
+{
+    if i < records.len() {
+        let r = records[i];
+        records[i] = [id, r[1], r[2], attempts];
+    }
+}
+
+// The retry line behind the file's bytes, or the log rewritten with it. The row has the attempts already.
+fn write_retry(
+    log: &mut [u8],
+    records: &mut [RecordRow],
+    counters: Counters,
+    id: u64,
+    attempts: u64,
+) -> AnsweredDue
+    ensures { λ r. ⌜ record { wal = state (now (log .exit)) (now (records .exit)) (r .counters); due = r .due }
+        ≡ retryWritten (state (now (log .entry)) (now (records .entry)) counters) id attempts ⌝ }
+{
+    let size = counters.size;
+    let live = counters.live;
+    let count = counters.count;
+    let n = retry_len(id, attempts);
+    if fits_behind(size, n, log.len()) {
+        encode_retry(&mut log[size..], id, attempts);
+        let more = Counters {
+            next: counters.next,
+            live,
+            size: size + n,
+            dirty: counters.dirty,
+            count,
+        };
+        return AnsweredDue {
+            counters: more,
+            due: Due::Ordered(Order::Append(size, size + n)),
+        };
+    }
+    compact(log, records, count);
+    let dense = Counters {
+        next: counters.next,
+        live,
+        size: live,
+        dirty: counters.dirty,
+        count,
+    };
+    AnsweredDue {
+        counters: dense,
+        due: Due::Ordered(Order::Replace(live)),
+    }
+}
+
+// The retry of an open id, its row at place i: written, if the open records and their retry lines then fit.
+fn retry_at(
+    log: &mut [u8],
+    records: &mut [RecordRow],
+    counters: Counters,
+    id: u64,
+    attempts: u64,
+    i: usize,
+) -> AnsweredDue
+    ensures { λ r. ⌜ record { wal = state (now (log .exit)) (now (records .exit)) (r .counters); due = r .due }
+        ≡ retriedAt (state (now (log .entry)) (now (records .entry)) counters) id attempts i ⌝ }
+{
+    let n = retry_len(id, attempts);
+    let rest = less_tries(counters.live, records, i);
+    if fits_behind(rest, n, log.len()) {
+        set_tried(records, i, id, attempts);
+        let tried = Counters {
+            next: counters.next,
+            live: rest + n,
+            size: counters.size,
+            dirty: counters.dirty,
+            count: counters.count,
+        };
+        return write_retry(log, records, tried, id, attempts);
+    }
+    AnsweredDue {
+        counters,
+        due: Due::Nothing,
+    }
+}
+
+// Whether a retry line may say this number.
+fn counts_tries(attempts: u64) -> bool
+    ensures { λ r. ⌜ r ≡ countsTries attempts ⌝ }
+{
+    if attempts == 0 {
+        return false;
+    }
+    attempts <= ATTEMPTS
+}
+
+// Retry, by value.
+fn retry_step(
+    counters: Counters,
+    log: &mut [u8],
+    records: &mut [RecordRow],
+    id: LogId,
+    attempts: u64,
+) -> AnsweredDue
+    ensures { λ r. ⌜ record { wal = state (now (log .exit)) (now (records .exit)) (r .counters); due = r .due }
+        ≡ retryOf (state (now (log .entry)) (now (records .entry)) counters) (id .0) attempts ⌝ }
+{
+    let n = id.0;
+    let count = counters.count;
+    if counts_tries(attempts) {
+        let Found::At(i) = search_row(records, count, n) else {
+            return AnsweredDue {
+                counters,
+                due: Due::Nothing,
+            };
+        };
+        return retry_at(log, records, counters, n, attempts, i);
+    }
+    AnsweredDue {
+        counters,
+        due: Due::Nothing,
+    }
+}
+
+// Writes how often a message was tried; for an id that is not open, and of 0 or more than 255, it does nothing.
+pub fn retry(
+    counters: &mut Counters,
+    log: &mut [u8],
+    records: &mut [RecordRow],
+    id: LogId,
+    attempts: u64,
+) -> Due
+    ensures { λ d. ⌜ record { wal = state (now (log .exit)) (now (records .exit)) (now (counters .exit)); due = d }
+        ≡ retryOf (state (now (log .entry)) (now (records .entry)) (now (counters .entry))) (id .0) attempts ⌝ }
+{
+    let s = retry_step(*counters, log, records, id, attempts);
     *counters = s.counters;
     s.due
 }

@@ -84,7 +84,7 @@ filledBy f o t =
 
 -- the table that the log fills with the rows of the messages left: 256 blank rows
 abbrev pub noLeft : Table
-noLeft = replicate RECORDS (0 ∷ 0 ∷ 0 ∷ [])
+noLeft = replicate RECORDS (0 ∷ 0 ∷ 0 ∷ 0 ∷ [])
 
 -- the lent tables that an opening fills: groups, lists of messages, their rows, and keys
 abbrev pub tablesIn : Lent → Tables

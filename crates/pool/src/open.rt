@@ -155,7 +155,7 @@ pub fn open(
             answer::refused(r)
         }
         Check::Fine => {
-            let mut left = [[0u64; 3]; RECORDS];
+            let mut left = [[0u64; 4]; RECORDS];
             let s = opening::open_log(log, n, store, records, &mut left);
             let counters = s.counters;
             let answer = s.answer;

@@ -27,7 +27,7 @@ pub record Reopening : Type 0 where
 -- opening with a store and tables that hold zeros
 unfoldable pub freshly : List ℕ → ℕ → Opened
 freshly log n =
-    openLog log n (replicate STORE 0) (replicate RECORDS (0 ∷ 0 ∷ 0 ∷ [])) (replicate RECORDS (0 ∷ 0 ∷ 0 ∷ []))
+    openLog log n (replicate STORE 0) (replicate RECORDS (0 ∷ 0 ∷ 0 ∷ 0 ∷ [])) (replicate RECORDS (0 ∷ 0 ∷ 0 ∷ 0 ∷ []))
 
 -- what a lent log becomes when its first n bytes are opened, and the answer; store and tables are not kept
 abbrev pub reopenOf : List ℕ → ℕ → Reopening

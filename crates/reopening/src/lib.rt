@@ -35,8 +35,8 @@ pub fn reopen(log: &mut [u8], n: usize) -> Reopened
     ensures { λ r. ⌜ record { log = now (log .exit); answer = r } ≡ reopenOf (now (log .entry)) n ⌝ }
 {
     let mut store = [0u8; STORE];
-    let mut records = [[0u64; 3]; RECORDS];
-    let mut left = [[0u64; 3]; RECORDS];
+    let mut records = [[0u64; 4]; RECORDS];
+    let mut left = [[0u64; 4]; RECORDS];
     let opened = log::opening::open_log(log, n, &mut store, &mut records, &mut left);
     let answer = opened.answer;
     answered(answer)

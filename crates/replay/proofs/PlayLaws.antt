@@ -252,7 +252,7 @@ module _ (s bytes store out : List ℕ) where
       -- what is lent beside log and store is blank; the groups are read, and the file is in its place
       pub script-opened : length store ≡ h .stored → {given given′ records groups links rows keys actors : Table}
           {log : List ℕ}
-          → given ≡ blank 16 37 → records ≡ blank 256 3 → groups ≡ blank 8 37 → links ≡ blank 262 4 → rows
+          → given ≡ blank 16 37 → records ≡ blank 256 4 → groups ≡ blank 8 37 → links ≡ blank 262 4 → rows
           ≡ blank 256 7 → keys ≡ blank 34 65 → actors ≡ blank 128 12
           → given′ ≡ groupsInto (h .groups) s 88 given → log ≡ placed s (h .file) (h .n) bytes → {p : Played}
           → p ≡ playOpened (h .show) s (h .file + h .n)

@@ -27,7 +27,7 @@ pub extern "C" fn replay(script: &[u8], log: &mut [u8], store: &mut [u8], out: &
     }
     let mut given = [[0u64; 37]; 16];
     let mut pool = [0u64; 28];
-    let mut records = [[0u64; 3]; RECORDS];
+    let mut records = [[0u64; 4]; RECORDS];
     let mut groups = [[0u64; 37]; lists::GROUPS];
     let mut links = [[0u64; 4]; lists::LISTS];
     let mut rows = [[0u64; 7]; lists::ENTRIES];

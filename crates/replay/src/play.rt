@@ -328,7 +328,7 @@ pub(crate) fn play(
     keys: &mut [KeyRow],
     actors: &mut [ActorRow],
 ) -> Done
-    requires { ⌜ (now given ≡ blank 16 37) × (now records ≡ blank 256 3) × (now groups ≡ blank 8 37)
+    requires { ⌜ (now given ≡ blank 16 37) × (now records ≡ blank 256 4) × (now groups ≡ blank 8 37)
         × (now links ≡ blank 262 4)
         × (now rows ≡ blank 256 7) × (now keys ≡ blank 34 65) × (now actors ≡ blank 128 12) ⌝ }
     ensures { λ r.

@@ -13,14 +13,14 @@ pub record LeftPlaced : Type 0 where
   pub links : Table
   pub rows : Table
 
--- row i of what the log left: the id, and the lengths of name and body
+-- row i of what the log left: the id, the lengths of name and body, and the attempts
 abbrev pub leftAt : Table → ℕ → List ℕ
-leftAt left i = getD left i (0 ∷ 0 ∷ 0 ∷ [])
+leftAt left i = getD left i (0 ∷ 0 ∷ 0 ∷ 0 ∷ [])
 
--- attempts 0, nobody waits for it
+-- with the attempts that the log left, and nobody waits for it
 abbrev pub leftMessage : List ℕ → Message
 leftMessage row = record {
-  attempts = 0;
+  attempts = getD row 3 0;
   «name_len» = getD row 1 0;
   «body_len» = getD row 2 0;
   caller = caller.Nobody;

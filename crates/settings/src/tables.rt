@@ -24,11 +24,15 @@ pub fn blank_keys(keys: &mut [KeyRow])
     }
 }
 
-// A row of what the log left, past the table's end an empty one: id, the lengths of name and body.
+// A row of what the log left, past the table's end an empty one: id, the lengths of name and body, and the attempts.
 fn left_row(left: &[LeftRow], i: usize) -> LeftRow
     ensures { λ r. ⌜ r ≡ leftAt (now (left .entry)) i ⌝ }
 {
-    if i < left.len() { left[i] } else { [0, 0, 0] }
+    if i < left.len() {
+        left[i]
+    } else {
+        [0, 0, 0, 0]
+    }
 }
 
 // Its message's row.
@@ -37,7 +41,7 @@ fn put_left_row(rows: &mut [MessageRow], entry: usize, row: LeftRow)
 {
     let caller = Caller::Nobody;
     let id = Logged::As(LogId(row[0]));
-    message::put_row(rows, entry, 0, row[1], row[2], caller, id);
+    message::put_row(rows, entry, row[3], row[1], row[2], caller, id);
 }
 
 // The first n messages left get their rows, and go from the free entries to pending, in order.

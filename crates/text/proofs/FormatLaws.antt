@@ -9,7 +9,7 @@ use borrow.Author.Tests.{ltb-true, eqb-true, lt-ltb, le-leb, eq-eqb, ne-eqb}
 use lib.Dec.{eqb, leb, ltb}
 use lib.ListN.{length, length-append}
 use Rattle.text.specs.Bytes.{All, Free}
-use Rattle.text.specs.Format.{TAB, LF, DIGIT0, BACKSLASH, escapeByte, escape, Message, recordText, escaped}
+use Rattle.text.specs.Format.{TAB, LF, DIGIT0, BACKSLASH, escapeByte, escape, Message, recordText, retryText, escaped}
 use Rattle.text.specs.Format.{unescape, digits, printId, decimal, line, joinHead}
 use Rattle.text.specs.Format.{split, allButLast, lines, fields}
 use Rattle.text.proofs.Bridge.{decimal-head}
@@ -192,6 +192,18 @@ fields-record m = rw append-assoc (cc (
 pub fields-done : (n : ℕ) → fields (printId n) ≡ printId n ∷ []
 unfolding fields
 fields-done n = split-last TAB (printId n) (plain-tab (printId n) (printId-plain n))
+
+pub fields-retry : (id n : ℕ) → fields (retryText id n) ≡ printId id ∷ printId n ∷ []
+unfolding fields retryText
+fields-retry id n =
+    split-piece TAB (printId id) (printId n) (plain-tab (printId id) (printId-plain id))
+    ∙ ap (λ r. printId id ∷ r) (split-last TAB (printId n) (plain-tab (printId n) (printId-plain n)))
+
+pub retryText-free : (id n : ℕ) → Free LF (retryText id n)
+unfolding retryText
+retryText-free id n =
+    All-append (λ b. eqb b LF ≡ false) (printId id) (TAB ∷ printId n) (plain-lf (printId id) (printId-plain id))
+    (refl, plain-lf (printId n) (printId-plain n))
 
 pub recordText-free : (m : Message) → Free LF (recordText m)
 unfolding recordText

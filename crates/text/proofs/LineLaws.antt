@@ -6,17 +6,18 @@ use mathlib.Core.Option.{none, some, Option}
 use Prim.Native.Nat.{ℕ, suc, _+_, _-_, _≤_, _<_}
 use native.Mathlib.Numerals.{add-one}
 use native.Mathlib.Omega.{arith}
-use borrow.Author.Tests.{ne-eqb, eqb-true}
-use lib.Dec.{eqb}
+use borrow.Author.Tests.{ne-eqb, eqb-true, le-leb, lt-leb}
+use lib.Dec.{eqb, leb}
 use lib.ListN.{length, take, drop, getD, length-append, length-drop, drop-of-length-le}
 use lib.Seq.{take-suc, take-all, take-at, drop-at, length-take-le, getD-drop, split-at, drop-drop}
-use Rattle.text.specs.Format.{TAB, LF, unescape, joinHead, split, lines, line, fields, readId}
+use Rattle.text.specs.Format.{TAB, LF, ATTEMPTS, untried, unescape, joinHead, split, lines, line, fields, readId}
 use Rattle.text.specs.Bytes.{Free, part}
-use Rattle.text.specs.Line.{Line, put, done, other, readFields, readLine, doneOf, putOf, nameOf, bodyOf}
+use Rattle.text.specs.Line.{Line, put, done, retry, other, readFields, readLine, doneOf, attemptsOf, putOf, nameOf}
+use Rattle.text.specs.Line.{bodyOf}
 use Rattle.text.specs.Line.{ofRecord, nameIn, bodyIn, nameField, bodyField}
-use Rattle.text.specs.Answers.{First, FirstFrom, idOf, doneKind, putKind, lineKindIn, lineKind}
+use Rattle.text.specs.Answers.{First, FirstFrom, idOf, doneKind, retryKind, putKind, lineKindIn, lineKind}
 use Rattle.text.specs.declared.line.LineKind.{LineKind}
-use Rattle.text.specs.declared.line.LineKind.the-variants.{Put, Done, Other}
+use Rattle.text.specs.declared.line.LineKind.the-variants.{Put, Done, Retry, Other}
 use Rattle.text.specs.declared.ids.IdRead.{IdRead}
 use Rattle.text.specs.declared.ids.IdRead.the-variants.{Is, Not}
 use Rattle.text.proofs.FormatLaws.{All-append, split-piece, split-last, lines-line, lines-torn, split-some}
@@ -97,7 +98,8 @@ module _ (text : List ℕ) (a b : ℕ) (f : First text TAB a) (h : a < length te
     unfolding fields
     fields-one = piece text TAB a f h
 
-    pub kind-two : length text ≤ b → lineKind text ≡ Other
+    pub kind-two : length text ≤ b
+        → lineKind text ≡ retryKind (idOf (readId (take a text))) (idOf (readId (drop (a + 1) text)))
     unfolding lineKind lineKindIn
     kind-two l = ap lineKindIn (fields-one ∙ ap (λ r. take a text ∷ r) (last-from text (a + 1) TAB b g l))
 
@@ -140,29 +142,28 @@ module _ (text : List ℕ) (a b : ℕ) (f : First text TAB a) (h : a < length te
 
 -- the line that a kind stands for, and the two fields at its places
 abbrev pub kindOf : List ℕ → LineKind → Line
-kindOf line (Put id a b c d) = put (record {
-  id = id;
-  name = unescape (part line a b);
-  body =
-      unescape (part line c d);
-})
+kindOf line (Put id a b c d) = put (untried id (unescape (part line a b)) (unescape (part line c d)))
 kindOf line (Done id) = done id
+kindOf line (Retry id n) = retry id n
 kindOf line Other = other
 
 abbrev pub namePart : List ℕ → LineKind → List ℕ
 namePart line (Put id a b c d) = part line a b
 namePart line (Done id) = []
+namePart line (Retry id n) = []
 namePart line Other = []
 
 abbrev pub bodyPart : List ℕ → LineKind → List ℕ
 bodyPart line (Put id a b c d) = part line c d
 bodyPart line (Done id) = []
+bodyPart line (Retry id n) = []
 bodyPart line Other = []
 
 -- the places lie inside the line
 abbrev pub Inside : List ℕ → LineKind → Type 0
 Inside line (Put id a b c d) = (a ≤ b) × (b ≤ c) × (c ≤ d) × (d ≤ length line)
 Inside line (Done id) = Unit
+Inside line (Retry id n) = Unit
 Inside line Other = Unit
 
 -- pieces put together again with their separator are the text
@@ -230,6 +231,56 @@ unfolding doneOf
 done-says line none = refl
 done-says line (some id) = refl
 
+-- what holds of a retry line and of one that says nothing, holds of any line of two fields
+retry-rule : (P : LineKind → Type 0) → ((id n : ℕ) → P (Retry id n)) → P Other → (i k : IdRead) → P (retryKind i k)
+retry-rule P told nothing (Is id) (Is n) = at (leb n ATTEMPTS)
+  where
+    at : (t : Bool) → P (elim t [ true ↦ Retry id n | false ↦ Other ])
+    at true = told id n
+    at false = nothing
+retry-rule P told nothing (Is id) Not = nothing
+retry-rule P told nothing Not k = nothing
+
+-- a number up to 255 is the attempts of the id, and with one above the line says nothing
+pub kind-tried : (i k : IdRead) (id n : ℕ) → i ≡ Is id → k ≡ Is n → n ≤ ATTEMPTS → Retry id n ≡ retryKind i k
+kind-tried i k id n e f l = cc (le-leb n ATTEMPTS l)
+
+pub kind-over : (i k : IdRead) (id n : ℕ) → i ≡ Is id → k ≡ Is n → ATTEMPTS < n → Other ≡ retryKind i k
+kind-over i k id n e f l = cc (lt-leb n ATTEMPTS l)
+
+retry-says : (line : List ℕ) (o p : Option ℕ) → kindOf line (retryKind (idOf o) (idOf p)) ≡ attemptsOf o p
+unfolding attemptsOf
+retry-says line none none = refl
+retry-says line none (some n) = refl
+retry-says line (some id) none = refl
+retry-says line (some id) (some n) = at (leb n ATTEMPTS)
+  where
+    at : (t : Bool) → kindOf line (elim t [ true ↦ Retry id n | false ↦ Other ])
+        ≡ elim t [ true ↦ retry id n | false ↦ other ]
+    at true = refl
+    at false = refl
+
+-- a line of two fields has no name, and no body
+retry-no-name : (o p : Option ℕ) → [] ≡ nameOf (attemptsOf o p)
+unfolding attemptsOf
+retry-no-name none p = refl
+retry-no-name (some id) none = refl
+retry-no-name (some id) (some n) = at (leb n ATTEMPTS)
+  where
+    at : (t : Bool) → [] ≡ nameOf (elim t [ true ↦ retry id n | false ↦ other ])
+    at true = refl
+    at false = refl
+
+retry-no-body : (o p : Option ℕ) → [] ≡ bodyOf (attemptsOf o p)
+unfolding attemptsOf
+retry-no-body none p = refl
+retry-no-body (some id) none = refl
+retry-no-body (some id) (some n) = at (leb n ATTEMPTS)
+  where
+    at : (t : Bool) → [] ≡ bodyOf (elim t [ true ↦ retry id n | false ↦ other ])
+    at true = refl
+    at false = refl
+
 put-says : (line name body : List ℕ) (o : Option ℕ) (a b c d : ℕ) → part line a b ≡ name → part line c d ≡ body
     → kindOf line (putKind (idOf o) a b c d) ≡ putOf o name body
 unfolding putOf
@@ -267,7 +318,7 @@ module _ (text : List ℕ) where
       at : (fs : List (List ℕ)) → fields text ≡ fs → kindOf text (lineKindIn fs) ≡ readFields fs
       at [] e = refl
       at (a ∷ []) e = done-says text (readId a)
-      at (a ∷ b ∷ []) e = refl
+      at (a ∷ b ∷ []) e = retry-says text (readId a) (readId b)
       at (a ∷ b ∷ c ∷ []) e = put-says text b c (readId a) _ _ _ _ (name-there text a b c e) (body-there text a b c e)
       at (a ∷ b ∷ c ∷ d ∷ rest) e = refl
 
@@ -278,7 +329,8 @@ module _ (text : List ℕ) where
       at : (fs : List (List ℕ)) → fields text ≡ fs → Inside text (lineKindIn fs)
       at [] e = tt
       at (a ∷ []) e = done-inside text (idOf (readId a))
-      at (a ∷ b ∷ []) e = tt
+      at (a ∷ b ∷ []) e =
+          retry-rule (Inside text) (λ id n. tt) tt (idOf (readId a)) (idOf (readId b))
       at (a ∷ b ∷ c ∷ []) e = put-inside text (idOf (readId a)) _ _ _ _ (omega arith) (omega arith) (omega arith)
           (omega (arith, three-long text a b c e))
       at (a ∷ b ∷ c ∷ d ∷ rest) e = tt
@@ -291,7 +343,8 @@ module _ (text : List ℕ) where
       at : (fs : List (List ℕ)) → fields text ≡ fs → namePart text (lineKindIn fs) ≡ nameIn fs
       at [] e = refl
       at (a ∷ []) e = done-part text (idOf (readId a)) .0
-      at (a ∷ b ∷ []) e = refl
+      at (a ∷ b ∷ []) e =
+          retry-rule (λ k. namePart text k ≡ []) (λ id n. refl) refl (idOf (readId a)) (idOf (readId b))
       at (a ∷ b ∷ c ∷ []) e = put-name text b (readId a) _ _ _ _ (name-there text a b c e)
       at (a ∷ b ∷ c ∷ d ∷ rest) e = refl
 
@@ -302,7 +355,8 @@ module _ (text : List ℕ) where
       at : (fs : List (List ℕ)) → fields text ≡ fs → bodyPart text (lineKindIn fs) ≡ bodyIn fs
       at [] e = refl
       at (a ∷ []) e = done-part text (idOf (readId a)) .1
-      at (a ∷ b ∷ []) e = refl
+      at (a ∷ b ∷ []) e =
+          retry-rule (λ k. bodyPart text k ≡ []) (λ id n. refl) refl (idOf (readId a)) (idOf (readId b))
       at (a ∷ b ∷ c ∷ []) e = put-body text c (readId a) _ _ _ _ (body-there text a b c e)
       at (a ∷ b ∷ c ∷ d ∷ rest) e = refl
 
@@ -322,7 +376,7 @@ module _ (text : List ℕ) where
       at : (fs : List (List ℕ)) → unescape (nameIn fs) ≡ nameOf (readFields fs)
       at [] = refl
       at (a ∷ []) = none-done (readId a)
-      at (a ∷ b ∷ []) = refl
+      at (a ∷ b ∷ []) = retry-no-name (readId a) (readId b)
       at (a ∷ b ∷ c ∷ []) = of (readId a) b c
       at (a ∷ b ∷ c ∷ d ∷ rest) = refl
 
@@ -341,7 +395,7 @@ module _ (text : List ℕ) where
       at : (fs : List (List ℕ)) → unescape (bodyIn fs) ≡ bodyOf (readFields fs)
       at [] = refl
       at (a ∷ []) = none-done (readId a)
-      at (a ∷ b ∷ []) = refl
+      at (a ∷ b ∷ []) = retry-no-body (readId a) (readId b)
       at (a ∷ b ∷ c ∷ []) = of (readId a) b c
       at (a ∷ b ∷ c ∷ d ∷ rest) = refl
 

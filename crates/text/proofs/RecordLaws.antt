@@ -4,7 +4,7 @@ use mathlib.Core.List.{List, [], _∷_, _++_, append-assoc}
 use Prim.Native.Nat.{ℕ, _+_, _≤_}
 use native.Mathlib.Omega.{arith}
 use lib.ListN.{length, length-append}
-use Rattle.text.specs.Format.{printId, escape, Message, recordText, recordLine, doneLine, line}
+use Rattle.text.specs.Format.{printId, escape, Message, recordText, recordLine, doneLine, retryText, retryLine, line}
 use Rattle.text.specs.Bytes.{Wrote}
 use Rattle.text.proofs.WriteLaws.{Writing, begin, further}
 
@@ -25,6 +25,16 @@ pub done-parts : (id : ℕ) → doneLine id ≡ printId id ++ afterBody
 unfolding doneLine line
 done-parts id = refl
 
+abbrev pub afterTried : ℕ → List ℕ
+afterTried n = 9 ∷ (printId n ++ afterBody)
+
+pub retry-parts : (id n : ℕ) → retryLine id n ≡ printId id ++ afterTried n
+unfolding retryLine retryText line
+retry-parts id n = simp append-assoc
+
+pub retry-length : (id n : ℕ) → length (retryLine id n) ≡ length (printId id) + length (printId n) + 2
+retry-length id n = rw (retry-parts id n) (simp length-append (omega arith))
+
 pub record-length : (m : Message) → length (recordLine m) ≡ length (printId (m .id)) + length (escape (m .name))
     + length (escape (m .body)) + 3
 record-length m = rw (record-parts m) (simp length-append (omega arith))
@@ -35,6 +45,10 @@ done-length id = rw (done-parts id) (simp length-append)
 pub wrote-id : (m : Message) {out d : List ℕ} {a : ℕ} → length (recordLine m) ≤ length out
     → Wrote out 0 (printId (m .id)) d a → Writing out 0 (recordLine m) d a (afterId m)
 wrote-id m {out} h p = further (begin out 0 (recordLine m) (omega arith)) (record-parts m) p
+
+pub wrote-tried : (id n : ℕ) {out d : List ℕ} {a : ℕ} → length (retryLine id n) ≤ length out
+    → Wrote out 0 (printId id) d a → Writing out 0 (retryLine id n) d a (afterTried n)
+wrote-tried id n {out} h p = further (begin out 0 (retryLine id n) (omega arith)) (retry-parts id n) p
 
 module _ {d₀ : List ℕ} {at₀ : ℕ} {t d : List ℕ} {a : ℕ} where
   pub byte : {b : ℕ} {r d′ : List ℕ} {a′ : ℕ} → Writing d₀ at₀ t d a (b ∷ r) → Wrote d a (b ∷ []) d′ a′

@@ -1,17 +1,17 @@
 -- One spelling for an id: what is read as a number is exactly what the number is printed as.
-use mathlib.Core.Path.{_≡_, refl, ap, sym, _∙_}
+use mathlib.Core.Path.{_≡_, refl, ap, sym, _∙_, subst}
 use mathlib.Core.Bool.{Bool, true, false}
 use mathlib.Core.Option.{Option, none, some}
 use mathlib.Core.List.{List, [], _∷_, _++_, append-assoc, append-nil}
 use Prim.Native.Nat.{ℕ, zero, suc, _+_, _-_, _*_, _/_, _%_, _^_, _≤_, _<_}
 use native.Mathlib.Omega.{arith}
-use borrow.Author.Tests.{ltb-true, ltb-false, eqb-false, lt-ltb, ne-eqb}
-use lib.Dec.{ltb}
+use borrow.Author.Tests.{ltb-true, ltb-false, leb-true, eqb-false, lt-ltb, le-leb, ne-eqb}
+use lib.Dec.{leb, ltb}
 use lib.ListN.{length, getD}
 use Rattle.text.specs.Format.{DIGIT0, digits, printId, decimal, below64, readDigits, leadingZero, readId}
-use Rattle.text.specs.Format.{OneSpelling, Message, fields}
-use Rattle.text.specs.Line.{Line, put, done, other, putOf, doneOf, readFields, readLine, firstText}
-use Rattle.text.specs.Line.{FieldsOf, LineSpelled, Unspelled}
+use Rattle.text.specs.Format.{OneSpelling, Message, ATTEMPTS, fields}
+use Rattle.text.specs.Line.{Line, put, done, retry, other, putOf, doneOf, attemptsOf, readFields, readLine}
+use Rattle.text.specs.Line.{FieldsOf, RetryFields, LineSpelled, Unspelled, firstText}
 use Rattle.text.proofs.Bridge.{decimal-head, decimal-grows}
 use Rattle.text.proofs.FormatLaws.{digits-say, digits-there}
 use Rattle.text.proofs.IdLaws.{read-start, zero-short, zero-first, readId-digits}
@@ -161,6 +161,57 @@ unfolding doneOf
 one-put none m e = let z : _≡_ {A = ℕ} 0 1 = cc in omega arith
 one-put (some id) m e = let z : _≡_ {A = ℕ} 0 1 = cc in omega arith
 
+one-retry : (o : Option ℕ) (id n : ℕ) → doneOf o ≡ retry id n → ⊥
+unfolding doneOf
+one-retry none id n e = let z : _≡_ {A = ℕ} 0 1 = cc in omega arith
+one-retry (some x) id n e = let z : _≡_ {A = ℕ} 0 1 = cc in omega arith
+
+-- what two fields say: an id's attempts or nothing
+two-rule : (P : Line → Type 0) → ((id n : ℕ) → P (retry id n)) → P other → (o p : Option ℕ) → P (attemptsOf o p)
+unfolding attemptsOf
+two-rule P told nothing none p = nothing
+two-rule P told nothing (some id) none = nothing
+two-rule P told nothing (some id) (some n) = at (leb n ATTEMPTS)
+  where
+    at : (t : Bool) → P (elim t [ true ↦ retry id n | false ↦ other ])
+    at true = told id n
+    at false = nothing
+
+two-done : (o p : Option ℕ) (n : ℕ) → attemptsOf o p ≡ done n → ⊥
+two-done o p n =
+    two-rule (λ l. l ≡ done n → ⊥) (λ id k e. let z : _≡_ {A = ℕ} 0 1 = cc in omega arith)
+    (λ e. let z : _≡_ {A = ℕ} 0 1 = cc in omega arith) o p
+
+pub two-put : (o p : Option ℕ) (m : Message) → attemptsOf o p ≡ put m → ⊥
+two-put o p m =
+    two-rule (λ l. l ≡ put m → ⊥) (λ id k e. let z : _≡_ {A = ℕ} 0 1 = cc in omega arith)
+    (λ e. let z : _≡_ {A = ℕ} 0 1 = cc in omega arith) o p
+
+two-retry : (a b : List ℕ) (id n : ℕ) (o p : Option ℕ) → readId a ≡ o → readId b ≡ p → attemptsOf o p ≡ retry id n
+    → RetryFields id n (a ∷ b ∷ [])
+unfolding attemptsOf
+two-retry a b id n none p q r e = let z : _≡_ {A = ℕ} 0 1 = cc in absurd (omega arith)
+two-retry a b id n (some x) none q r e = let z : _≡_ {A = ℕ} 0 1 = cc in absurd (omega arith)
+two-retry a b id n (some x) (some k) q r e = at (leb k ATTEMPTS) refl
+  where
+    at : (t : Bool) → leb k ATTEMPTS ≡ t → RetryFields id n (a ∷ b ∷ [])
+    at true l =
+        let same : x ≡ id = cc in
+        let tried : k ≡ n = cc in
+        let first : OneSpelling a x = one-spelling a x in
+        let second : OneSpelling b k = one-spelling b k in
+        record {
+          two = cc (first .printed q, second .printed r, same, tried);
+          below = subst (λ y. y < 2 ^ 64) same (first .below q);
+          few = subst (λ y. y ≤ ATTEMPTS) tried (leb-true k ATTEMPTS l);
+        }
+    at false l = let z : _≡_ {A = ℕ} 0 1 = cc in absurd (omega arith)
+
+three-retry : (o : Option ℕ) (b c : List ℕ) (id n : ℕ) → putOf o b c ≡ retry id n → ⊥
+unfolding putOf
+three-retry none b c id n e = let z : _≡_ {A = ℕ} 0 1 = cc in omega arith
+three-retry (some x) b c id n e = let z : _≡_ {A = ℕ} 0 1 = cc in omega arith
+
 three-done : (o : Option ℕ) (b c : List ℕ) (n : ℕ) → putOf o b c ≡ done n → ⊥
 unfolding putOf
 three-done none b c n e = let z : _≡_ {A = ℕ} 0 1 = cc in omega arith
@@ -180,6 +231,7 @@ three-put a b c m (some id) p e =
       below = rw same (read .below p);
       named = cc;
       says = cc;
+      fresh = cc;
     }
 
 module _ (text : List ℕ) where
@@ -190,7 +242,7 @@ module _ (text : List ℕ) where
       let read = one-spelling a n in
       let is : readId a ≡ some n = one-done (readId a) n e in
       (ap {B = List (List ℕ)} (λ t. t ∷ []) (read .printed is), read .below is)
-  done-fields n (a ∷ b ∷ []) e = let z : _≡_ {A = ℕ} 0 1 = cc in absurd (omega arith)
+  done-fields n (a ∷ b ∷ []) e = absurd (two-done (readId a) (readId b) n e)
   done-fields n (a ∷ b ∷ c ∷ []) e = absurd (three-done (readId a) b c n e)
   done-fields n (a ∷ b ∷ c ∷ d ∷ rest) e = let z : _≡_ {A = ℕ} 0 1 = cc in absurd (omega arith)
 
@@ -198,9 +250,27 @@ module _ (text : List ℕ) where
   unfolding readFields
   record-fields m [] e = let z : _≡_ {A = ℕ} 0 1 = cc in absurd (omega arith)
   record-fields m (a ∷ []) e = absurd (one-put (readId a) m e)
-  record-fields m (a ∷ b ∷ []) e = let z : _≡_ {A = ℕ} 0 1 = cc in absurd (omega arith)
+  record-fields m (a ∷ b ∷ []) e = absurd (two-put (readId a) (readId b) m e)
   record-fields m (a ∷ b ∷ c ∷ []) e = three-put a b c m (readId a) refl e
   record-fields m (a ∷ b ∷ c ∷ d ∷ rest) e = let z : _≡_ {A = ℕ} 0 1 = cc in absurd (omega arith)
+
+  retry-fields : (id n : ℕ) (fs : List (List ℕ)) → readFields fs ≡ retry id n → RetryFields id n fs
+  unfolding readFields
+  retry-fields id n [] e = let z : _≡_ {A = ℕ} 0 1 = cc in absurd (omega arith)
+  retry-fields id n (a ∷ []) e = absurd (one-retry (readId a) id n e)
+  retry-fields id n (a ∷ b ∷ []) e = two-retry a b id n (readId a) (readId b) refl refl e
+  retry-fields id n (a ∷ b ∷ c ∷ []) e = absurd (three-retry (readId a) b c id n e)
+  retry-fields id n (a ∷ b ∷ c ∷ d ∷ rest) e = let z : _≡_ {A = ℕ} 0 1 = cc in absurd (omega arith)
+
+  retry-back : (id n : ℕ) → RetryFields id n (fields text) → readLine text ≡ retry id n
+  unfolding readLine readFields attemptsOf
+  retry-back id n are =
+      cc (
+        are .two,
+        readId-printId id (are .below),
+        readId-printId n (omega (arith, are .few)),
+        le-leb n ATTEMPTS (are .few),
+      )
 
   done-back : (n : ℕ) → fields text ≡ printId n ∷ [] → n < 2 ^ 64 → readLine text ≡ done n
   unfolding readLine readFields doneOf
@@ -211,6 +281,7 @@ module _ (text : List ℕ) where
   record-back m are = rw (are .three) (rw (readId-printId (m .id) (are .below)) (rw (
     sym (are .named),
     sym (are .says),
+    sym (are .fresh),
   ) refl))
 
   pub line-spelled : LineSpelled text
@@ -218,6 +289,8 @@ module _ (text : List ℕ) where
   line-spelled = record {
     is-done = λ n. done-fields n (fields text);
     done-is = done-back;
+    is-retry = λ id n. retry-fields id n (fields text);
+    retry-is = retry-back;
     is-record = λ m. record-fields m (fields text);
     record-is = record-back;
   }
@@ -233,4 +306,7 @@ unspelled text strange = at (readLine text) refl
     at (done n) e =
         let are = line-spelled text .is-done n e in
         absurd (strange n (are .1) (ap firstText (are .0)))
+    at (retry id n) e =
+        let are = line-spelled text .is-retry id n e in
+        absurd (strange id (are .below) (ap firstText (are .two)))
     at other e = e

@@ -7,13 +7,13 @@ use Prim.Native.Nat.{ℕ, _+_, _-_, _≤_, _<_}
 use lib.Dec.{leb}
 use lib.ListN.{length, take, drop, getD}
 use Rattle.text.specs.Bytes.{write, part, Free}
-use Rattle.text.specs.Format.{LF, readId, lines, fields}
+use Rattle.text.specs.Format.{LF, ATTEMPTS, readId, lines, fields}
 use Rattle.text.specs.declared.ids.IdRead.{IdRead}
 use Rattle.text.specs.declared.ids.IdRead.the-variants.{Is, Not}
 use Rattle.text.specs.declared.escape.Measure.{Measure}
 use Rattle.text.specs.declared.escape.Measure.the-variants.{Len, Over}
 use Rattle.text.specs.declared.line.LineKind.{LineKind}
-use Rattle.text.specs.declared.line.LineKind.the-variants.{Put, Done, Other}
+use Rattle.text.specs.declared.line.LineKind.the-variants.{Put, Done, Retry, Other}
 
 -- what reading a text as an id answers: the number, or that it is no id
 abbrev pub idOf : Option ℕ → IdRead
@@ -53,6 +53,12 @@ abbrev pub doneKind : IdRead → LineKind
 doneKind (Is id) = Done id
 doneKind Not = Other
 
+-- a line of two fields: with an id and a number up to 255 it says the attempts of the id, else nothing
+abbrev pub retryKind : IdRead → IdRead → LineKind
+retryKind (Is id) (Is n) = elim (leb n ATTEMPTS) [ true ↦ Retry id n | false ↦ Other ]
+retryKind (Is id) Not = Other
+retryKind Not n = Other
+
 -- a line of three fields: with an id it is a record whose name stands from a to b and body from c to d, else nothing
 abbrev pub putKind : IdRead → ℕ → ℕ → ℕ → ℕ → LineKind
 putKind (Is id) a b c d = Put id a b c d
@@ -63,7 +69,7 @@ putKind Not a b c d = Other
 unfoldable pub lineKindIn : List (List ℕ) → LineKind
 lineKindIn [] = Other
 lineKindIn (a ∷ []) = doneKind (idOf (readId a))
-lineKindIn (a ∷ b ∷ []) = Other
+lineKindIn (a ∷ b ∷ []) = retryKind (idOf (readId a)) (idOf (readId b))
 lineKindIn (a ∷ b ∷ c ∷ []) =
     let name = length a + 1 in
     let body = name + length b + 1 in

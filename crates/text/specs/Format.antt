@@ -113,11 +113,21 @@ pub record OneSpelling (text : List ℕ) (n : ℕ) : Type 0 where
   pub says : readId text ≡ some n → decimal 0 text ≡ some n
   pub plain : readId text ≡ some n → leadingZero text ≡ false
 
--- a message as the log has it (docs/RULES.md, 1): its id, group name and body
+-- the most attempts that a retry line may say
+abbrev pub ATTEMPTS : ℕ
+ATTEMPTS = 255
+
+-- a message as the log has it (docs/RULES.md, 1): its id, group name and body, and its attempts, which are 0 until a
+-- retry line says another number
 pub record Message : Type 0 where
   pub id : ℕ
   pub name : List ℕ
   pub body : List ℕ
+  pub attempts : ℕ
+
+-- a message whose record was just read or written: its attempts are 0
+abbrev pub untried : ℕ → List ℕ → List ℕ → Message
+untried id name body = record { id = id; name = name; body = body; attempts = 0 }
 
 -- Record: id, TAB, name, TAB, body, the last two escaped; LF ends it
 unfoldable pub recordText : Message → List ℕ
@@ -134,6 +144,22 @@ recordLine m = line (recordText m)
 -- Done line: the id alone; LF ends it
 unfoldable pub doneLine : ℕ → List ℕ
 doneLine id = line (printId id)
+
+-- Retry: the id, TAB, the attempts, spelled as an id is ..
+unfoldable pub retryText : ℕ → ℕ → List ℕ
+retryText id n = printId id ++ TAB ∷ printId n
+
+-- .. and LF ends it: the line that a retry writes
+unfoldable pub retryLine : ℕ → ℕ → List ℕ
+retryLine id n = line (retryText id n)
+
+-- the retry line that goes with a message's record when the log is written anew: none while its attempts are 0
+unfoldable pub attemptsLine : ℕ → ℕ → List ℕ
+attemptsLine id n = elim (eqb n 0) [ true ↦ [] | false ↦ retryLine id n ]
+
+-- what the log has of an open message when it is written anew: its record, and directly behind it its retry line
+unfoldable pub messageLines : Message → List ℕ
+messageLines m = recordLine m ++ attemptsLine (m .id) (m .attempts)
 
 -- a byte goes to the front of the first piece
 unfoldable pub joinHead : ℕ → List (List ℕ) → List (List ℕ)

@@ -3,11 +3,15 @@ ghost use mathlib.Core.Path.{_≡_};
 ghost use Prim.Native.Nat.{_≤_};
 ghost use lib.ListN.{length};
 ghost use Rattle.text.specs.Line.{nameField, bodyField};
-ghost use Rattle.text.specs.Answers.{First, FirstFrom, doneKind, putKind, lineKind, LineEnd};
+ghost use Rattle.text.specs.Answers.{First, FirstFrom, doneKind, retryKind, putKind, lineKind, LineEnd};
 use crate::ids::IdRead;
 use crate::ids::read_id;
 
-// What a line says: a record with its id and the places of its name and body, a done id, or nothing.
+// The most attempts that a retry line may say.
+pub const ATTEMPTS: u64 = 255;
+
+// What a line says: a record with its id and the places of its name and body, a done id, the attempts of an id, or
+// nothing.
 pub enum LineKind {
     Put {
         id: u64,
@@ -17,6 +21,10 @@ pub enum LineKind {
         body_end: usize,
     },
     Done(u64),
+    Retry {
+        id: u64,
+        attempts: u64,
+    },
     Other,
 }
 
@@ -51,6 +59,21 @@ fn done_kind(i: IdRead) -> LineKind
     }
 }
 
+fn retry_kind(i: IdRead, n: IdRead) -> LineKind
+    ensures { λ r. ⌜ r ≡ retryKind i n ⌝ }
+{
+    let IdRead::Is(id) = i else {
+        return LineKind::Other;
+    };
+    let IdRead::Is(attempts) = n else {
+        return LineKind::Other;
+    };
+    if ATTEMPTS < attempts {
+        return LineKind::Other;
+    }
+    LineKind::Retry { id, attempts }
+}
+
 fn put_kind(i: IdRead, a: usize, b: usize, c: usize, d: usize) -> LineKind
     ensures { λ r. ⌜ r ≡ putKind i a b c d ⌝ }
 {
@@ -77,7 +100,8 @@ pub fn line_kind(line: &[u8]) -> LineKind
     }
     let b = find_from(line, a + 1, b'\t');
     if b == n {
-        return LineKind::Other;
+        let id = read_id(&line[..a]);
+        return retry_kind(id, read_id(&line[a + 1..]));
     }
     let c = find_from(line, b + 1, b'\t');
     if c < n {
@@ -110,6 +134,7 @@ pub fn name_field(line: &[u8]) -> &[u8]
             body_end: _,
         } => &line[name..name_end],
         LineKind::Done(_) => &line[0..0],
+        LineKind::Retry { id: _, attempts: _ } => &line[0..0],
         LineKind::Other => &line[0..0],
     }
 }
@@ -127,6 +152,7 @@ pub fn body_field(line: &[u8]) -> &[u8]
             body_end,
         } => &line[body..body_end],
         LineKind::Done(_) => &line[0..0],
+        LineKind::Retry { id: _, attempts: _ } => &line[0..0],
         LineKind::Other => &line[0..0],
     }
 }

@@ -1,8 +1,8 @@
-// Records and done lines: measured, and written into a part of the log.
+// Records, done lines and retry lines: measured, and written into a part of the log.
 ghost use mathlib.Core.Path.{_≡_};
-ghost use Prim.Native.Nat.{_≤_};
+ghost use Prim.Native.Nat.{_+_, _≤_};
 ghost use lib.ListN.{length};
-ghost use Rattle.text.specs.Format.{recordLine, doneLine};
+ghost use Rattle.text.specs.Format.{printId, untried, recordLine, doneLine, retryLine};
 ghost use Rattle.text.specs.Bytes.{Wrote};
 ghost use Rattle.text.specs.Answers.{lengthWithin, filled};
 use crate::escape::Measure;
@@ -15,7 +15,7 @@ use crate::ids::print_id;
 // The length of a message's record, where it is at most `most`.
 pub fn record_len(id: u64, name: &[u8], body: &[u8], most: usize) -> Measure
     ensures { λ r. ⌜ r
-        ≡ lengthWithin (length (recordLine (record { id = id; name = now (name .entry); body = now (body .entry) })))
+        ≡ lengthWithin (length (recordLine (untried id (now (name .entry)) (now (body .entry)))))
         most ⌝ }
 {
     let rest = id_len(id) + 3;
@@ -33,9 +33,9 @@ pub fn record_len(id: u64, name: &[u8], body: &[u8], most: usize) -> Measure
 
 // The record of a message, written from the first byte on.
 fn write_record(out: &mut [u8], id: u64, name: &[u8], body: &[u8]) -> usize
-    requires { ⌜ length (recordLine (record { id = id; name = now name; body = now body })) ≤ length (now out) ⌝ }
+    requires { ⌜ length (recordLine (untried id (now name) (now body))) ≤ length (now out) ⌝ }
     ensures { λ r. ⌜ Wrote (now (out .entry)) 0
-        (recordLine (record { id = id; name = now (name .entry); body = now (body .entry) })) (now (out .exit)) r ⌝ }
+        (recordLine (untried id (now (name .entry)) (now (body .entry)))) (now (out .exit)) r ⌝ }
 {
     let a = print_id(out, id);
     let b = put(out, a, b'\t');
@@ -50,7 +50,7 @@ fn write_record(out: &mut [u8], id: u64, name: &[u8], body: &[u8]) -> usize
 pub fn encode_record(out: &mut [u8], id: u64, name: &[u8], body: &[u8]) -> Measure
     ensures { λ r. ⌜ record { bytes = now (out .exit); answer = r }
         ≡ filled (now (out .entry))
-        (recordLine (record { id = id; name = now (name .entry); body = now (body .entry) })) ⌝ }
+        (recordLine (untried id (now (name .entry)) (now (body .entry)))) ⌝ }
 {
     let Measure::Len(_) = record_len(id, name, body, out.len()) else {
         return Measure::Over;
@@ -76,5 +76,36 @@ pub fn encode_done(out: &mut [u8], id: u64) -> Measure
     }
     let a = print_id(out, id);
     let n = put(out, a, b'\n');
+    Measure::Len(n)
+}
+
+// The length of the line of an id's attempts.
+pub fn retry_len(id: u64, attempts: u64) -> usize
+    ensures { λ r. ⌜ r ≡ length (retryLine id attempts) ⌝ }
+{
+    id_len(id) + id_len(attempts) + 2
+}
+
+// An id's digits, written from a place on.
+fn put_id(out: &mut [u8], at: usize, id: u64) -> usize
+    requires { ⌜ at + length (printId id) ≤ length (now out) ⌝ }
+    ensures { λ r. ⌜ Wrote (now (out .entry)) at (printId id) (now (out .exit)) r ⌝ }
+{
+    at + print_id(&mut out[at..], id)
+}
+
+// The line of an id's attempts fills the first bytes of `out`; one that does not fit is left out.
+pub fn encode_retry(out: &mut [u8], id: u64, attempts: u64) -> Measure
+    ensures { λ r. ⌜ record { bytes = now (out .exit); answer = r }
+        ≡ filled (now (out .entry)) (retryLine id attempts) ⌝ }
+{
+    let len = retry_len(id, attempts);
+    if out.len() < len {
+        return Measure::Over;
+    }
+    let a = print_id(out, id);
+    let b = put(out, a, b'\t');
+    let c = put_id(out, b, attempts);
+    let n = put(out, c, b'\n');
     Measure::Len(n)
 }

@@ -47,6 +47,7 @@ use Rattle.pool.specs.Admit as one
 use Rattle.theorem.specs.Rail.{Call, admit, callOf, World, orderedFor, ordersIn, ofRecord}
 use Rattle.theorem.proofs.Invariant.{Agrees, Ledger, Working, Steady}
 use Rattle.theorem.proofs.Ids.{count-snoc, now-count}
+use Rattle.theorem.proofs.Tried.{comes-tried, snoc-tried}
 use Rattle.theorem.proofs.After.{orderOf, Ends, turned, took, rest-steady, call-sound, shown-rule, table-rule}
 use Rattle.theorem.proofs.Refusals.{Fine, fine-check, Appends, fine-appends}
 
@@ -121,6 +122,7 @@ unlogged-works long j s m works came = record {
   ok = came .ok;
   lives = less-lives (s .links) (m .links) (s .keys) (s .actors) (came .less) (works .lives);
   here = at-less (s .links) (m .links) (came .less) (s .keys) (s .actors) (s .pool .turn .at) (works .here);
+  tried = comes-tried (came .comes) (j .now) (works .tried);
   wal = works .wal;
   agrees = works .agrees;
   journal = works .journal;
@@ -268,6 +270,14 @@ module _ (long : ℕ) (limits : Limits) (w : World) (steady : Steady long limits
               lives = less-lives (s .links) (after .links) (s .keys) (s .actors) (came .less) (steady .works .lives);
               here = at-less (s .links) (after .links) (came .less) (s .keys) (s .actors) (s .pool .turn .at)
                   (steady .works .here);
+              tried = snoc-tried (j .now) (log.newMessage v name body)
+                  (comes-tried (came .comes) (j .now) (steady .works .tried))
+                  (record {
+                    entry = came .comes .entry;
+                    busy = came .comes .there;
+                    own = came .comes .own;
+                    most = omega arith;
+                  });
               wal = refl;
               agrees = refl;
               journal = recorded-sound long j v name body (out .order) (steady .works .journal) settled old

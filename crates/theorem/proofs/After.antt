@@ -3,7 +3,8 @@
 -- table refuses nothing. Assumes nothing.
 use mathlib.Core.Path.{_≡_, refl, sym, ap, _∙_, subst}
 use mathlib.Core.Bool.{true, false, _&&_}
-use mathlib.Core.List.{List, [], _∷_, _++_}
+use mathlib.Core.List.{List, [], _∷_, _++_, append-nil}
+use mathlib.Core.Logic.{inl, inr}
 use Prim.Native.Nat.{ℕ, _+_, _≤_, _<_}
 use native.Mathlib.Omega.{arith}
 use native.Mathlib.Decide.{ℕ-discrete}
@@ -11,8 +12,9 @@ use borrow.Author.Tests.{eq-eqb, ne-eqb, not-false}
 use lib.ListN.{length, drop}
 use Rattle.text.specs.Format.{Message}
 use Rattle.lists.specs.Family.{count}
-use Rattle.log.specs.Opening.{remove}
+use Rattle.log.specs.Opening.{remove, retried}
 use Rattle.log.specs.declared.Order.{Order}
+use Rattle.actor.specs.Messages.{loggedNumber, messageAt}
 use Rattle.actor.specs.declared.question.Reply.{Reply}
 use Rattle.turn.specs.declared.state.Disk.{Disk}
 use Rattle.turn.specs.declared.state.Disk.the-variants as order
@@ -32,15 +34,17 @@ use Rattle.answers.specs.Answers.{Did, refused, shown}
 use Rattle.answers.specs.Refusals.{judged, byTable, inTurn, isMessage, fitsIn, noEntryFree}
 use Rattle.answers.specs.Refusals.{turnRefusals, replyRefusals, syncRefusals}
 use Rattle.pool.specs.Run.{answeredOf}
-use Rattle.theorem.specs.Rail.{Call, World, moved, unordered, Shown, nothing, shows, ordersIn, orderShown}
-use Rattle.theorem.specs.Rail.{ofMark, purposeOf, outOfPlaces, OrderFits, orderedFor, ordered, answered}
+use Rattle.theorem.specs.Rail.{Call, World, inPlaces, turnEffect, moved, unordered, Shown, nothing, shows, ordersIn, orderShown}
+use Rattle.theorem.specs.Rail.{ofTurn, purposeOf, outOfPlaces, triedAs, retriedLast, LastTried, TurnFits}
+use Rattle.theorem.specs.Rail.{OrderFits, orderedFor, ordered, answered}
 use Rattle.theorem.specs.Rail.{accepted}
 use Rattle.theorem.specs.Rail.{stepDid}
-use Rattle.theorem.proofs.Ids.{gone-same, gone-other, count-snoc}
-use Rattle.theorem.proofs.Left.{none-out, marked-in, marked-out, marked-one}
+use Rattle.theorem.proofs.Ids.{gone-same, gone-other, retried-ids, count-snoc}
+use Rattle.theorem.proofs.Left.{none-out, retried-none, marked-in, marked-out, marked-one}
 use Rattle.answers.proofs.RefusalLaws.{fine-clear}
 use Rattle.theorem.proofs.Refusals.{is-free}
-use Rattle.theorem.proofs.Invariant.{Ledger, Working, TailKept, Runs, still, marks, markedOff, Steady}
+use Rattle.theorem.proofs.Invariant.{Ledger, Working, TailKept, Runs, still, marks, tries, markedOff, retriedAs}
+use Rattle.theorem.proofs.Invariant.{Steady}
 
 -- an id that was logged and not done is done
 marked-ledger : (j j′ : disk.LogWorld) (top : ℕ) (logged done : List ℕ) (id : ℕ) → Ledger j top logged done
@@ -97,11 +101,34 @@ orderOf order.Failed = nothing
 abbrev pub orderedIn : Call → World → State → disk.LogWorld → Disk → World
 orderedIn c w s j d = ordered c w s j (orderOf d)
 
--- a call whose orders are marks: it takes off as many messages as it has orders
+-- a call whose orders are marks and retries
 abbrev pub Marking : World → Call → Type 0
 Marking w c =
-    (purposeOf c ≡ ofMark)
-    × ((s : State) (o : Shown) → length (outOfPlaces s (w .journal .now)) ≡ ordersIn o → OrderFits w c s o)
+    (purposeOf c ≡ ofTurn)
+    × ((s : State) (o : Shown) → TurnFits s (w .journal .now) o → OrderFits w c s o)
+
+-- after a retry no message is out of the places, and the last of pending has its attempts in the log
+pub retried-effect : (s : State) (now : List Message) (l : LastTried s now) → outOfPlaces s now ≡ []
+    → turnEffect s now ≡ retried (l .id .0) (messageAt (s .rows) (l .entry) .attempts) now
+retried-effect s now l none =
+    rw (ap length none)
+    (ap (λ f. triedAs s f now) (l .last)
+    ∙ ap (λ x. retried (loggedNumber x) (messageAt (s .rows) (l .entry) .attempts) now) (l .own))
+
+-- after a mark one is
+pub marked-effect : (s : State) (now left : List Message) → length (outOfPlaces s now) ≡ 1 → inPlaces s now ≡ left
+    → turnEffect s now ≡ left
+marked-effect s now left one is = rw one is
+
+-- a retry leaves every id as it was
+retried-ledger : (j j′ : disk.LogWorld) (top : ℕ) (logged done : List ℕ) (x n : ℕ) → Ledger j top logged done
+    → j′ .now ≡ retried x n (j .now) → j′ .wal .counters .next ≡ j .wal .counters .next → Ledger j′ top logged done
+retried-ledger j j′ top logged done x n old now next = record {
+  next-is = old .next-is ∙ sym next;
+  adds = λ y. rw (now, retried-ids x n (j .now)) (old .adds y);
+  once = old .once;
+  below = λ y some. omega (arith, old .below y some);
+}
 
 module _ (long : ℕ) (limits : Limits) where
   pub data Ends (w : World) (c : Call) (d : Did) : Type 0 where
@@ -161,19 +188,44 @@ module _ (long : ℕ) (limits : Limits) where
                 refl next;
             limits-are = is;
           } in
-          let left = marked-in s (id .0) (j .now) there (open-once j ledger (id .0)) (works .ids) in
+          let one = marked-one s (id .0) (j .now) there (open-once j ledger (id .0)) (works .ids) in
+          let left =
+          marked-effect s (j .now) _ one (marked-in s (id .0) (j .now) there (open-once j ledger (id .0)) (works .ids))
+          in
           let ids = marked-out s (id .0) (j .now) there (open-once j ledger (id .0)) (works .ids) in
           subst (λ d. Steady long limits (orderedIn c w s j d)) (sym waits)
           (subst (λ k. Steady long limits (orderedFor w s j o k)) (sym (own .0))
           (subst (λ now. Steady long limits (offBy w s j o now (idsOf (outOfPlaces s (j .now))))) (sym left)
           (subst (λ x. Steady long limits (offBy w s j o (remove (id .0) (j .now)) x)) (sym ids) off)))
+      go (tries o for l waits next tail works) =
+          let n = messageAt (s .rows) (l .entry) .attempts in
+          let none : outOfPlaces s (j .now) ≡ [] = retried-none s (l .id .0) n (j .now) (works .ids) in
+          let off : Steady long limits (offBy w s j o (retried (l .id .0) n (j .now)) []) =
+          subst (λ ids. Steady long limits (record {
+            state = s;
+            journal = retriedAs j s o (l .id) n;
+            next = w .next;
+            logged = w .logged;
+            done = ids;
+          })) (sym (append-nil (w .done)))
+          (record {
+            works = works;
+            ledger = retried-ledger j (retriedAs j s o (l .id) n) (w .next) (w .logged) (w .done) (l .id .0) n ledger
+                refl next;
+            limits-are = is;
+          }) in
+          subst (λ d. Steady long limits (orderedIn c w s j d)) (sym waits)
+          (subst (λ k. Steady long limits (orderedFor w s j o k)) (sym (own .0))
+          (subst (λ now. Steady long limits (offBy w s j o now (idsOf (outOfPlaces s (j .now)))))
+          (sym (retried-effect s (j .now) l none))
+          (subst (λ x. Steady long limits (offBy w s j o (retried (l .id .0) n (j .now)) (idsOf x))) (sym none) off)))
 
   -- nothing is marked: every message stands where it can be found
   pub none-fits : (c : Call) (w : World) (s : State) (j : disk.LogWorld) → Marking w c → j .now ≡ w .journal .now
       → Working long j s → OrderFits w c s nothing
   none-fits c w s j own same works =
       own .1 s nothing
-      (ap length (subst (λ now. outOfPlaces s now ≡ []) same (none-out s (j .now) (works .ids))))
+      (inl (ap length (subst (λ now. outOfPlaces s now ≡ []) same (none-out s (j .now) (works .ids)))))
 
   pub runs-fits : (c : Call) (w : World) (s : State) (j : disk.LogWorld) → Marking w c → j .now ≡ w .journal .now
       → Runs long j s → Ledger j (w .next) (w .logged) (w .done)
@@ -184,8 +236,16 @@ module _ (long : ℕ) (limits : Limits) where
   runs-fits c w s j own same (marks o id waits there next tail works) ledger =
       subst (λ d. OrderFits w c s (orderOf d)) (sym waits)
       (own .1 s (shows o)
-      (subst (λ now. length (outOfPlaces s now) ≡ 1) same
-      (marked-one s (id .0) (j .now) there (open-once j ledger (id .0)) (works .ids))))
+      (inl (subst (λ now. length (outOfPlaces s now) ≡ 1) same
+      (marked-one s (id .0) (j .now) there (open-once j ledger (id .0)) (works .ids)))))
+  runs-fits c w s j own same (tries o for l waits next tail works) ledger =
+      subst (λ d. OrderFits w c s (orderOf d)) (sym waits)
+      (own .1 s (shows o)
+      (inr (subst (λ now. (ordersIn (shows o) ≡ 1) × (length (outOfPlaces s now) ≡ 0) × LastTried s now) same (
+        refl,
+        ap length (retried-none s (l .id .0) (messageAt (s .rows) (l .entry) .attempts) (j .now) (works .ids)),
+        l,
+      ))))
 
   -- after a run the log's bytes at and after its size are those from before it
   pub runs-tail : (j : disk.LogWorld) (s : State) (bytes : List ℕ) → j .wal .bytes ≡ bytes → Runs long j s
@@ -193,6 +253,8 @@ module _ (long : ℕ) (limits : Limits) where
   runs-tail j s bytes from (still free works) =
       ap (drop (s .pool .turn .counters .size)) (sym (ap (λ v. v .bytes) (works .wal)) ∙ from)
   runs-tail j s bytes from (marks o id waits there next tail works) =
+      tail ∙ ap (drop (s .pool .turn .counters .size)) from
+  runs-tail j s bytes from (tries o for l waits next tail works) =
       tail ∙ ap (drop (s .pool .turn .counters .size)) from
 
   -- a world after a call that ended so, and whose answer shows the order that waits

@@ -129,7 +129,7 @@ put-left (m ∷ ms) t rows left i n rest filled sum room behind =
     let row : List ℕ = tables.leftAt left i in
     let t′ : Table = moveFirst t FREE PENDING in
     let rows′ : Table = putMessage rows i (leftMessage row) in
-    let here : row ≡ leftRow m = at-drop left i (leftRow m) (map leftRow ms ++ rest) behind (0 ∷ 0 ∷ 0 ∷ []) in
+    let here : row ≡ leftRow m = at-drop left i (leftRow m) (map leftRow ms ++ rest) behind (0 ∷ 0 ∷ 0 ∷ 0 ∷ []) in
     let next : drop (suc i) left ≡ map leftRow ms ++ rest = next-drop left i (leftRow m) (map leftRow ms ++ rest)
     behind in
     let more : Filled t′ rows′ (suc i) = filled-more t rows i filled (omega arith) rows′ (put-long rows i row) in

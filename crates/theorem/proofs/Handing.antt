@@ -15,6 +15,7 @@ use Rattle.lists.specs.Links.{Table, startFrom}
 use Rattle.lists.specs.Family.{count, upFrom}
 use Rattle.theorem.specs.Places.{idCount}
 use Rattle.theorem.specs.Handing.{messageIn, idsOf, putMessages, Hands}
+use Rattle.theorem.proofs.Tried.{left-tried}
 use Rattle.theorem.proofs.Filling.{Stand, Left, filled-none, put-left, filled-sound, filled-stands}
 
 -- ---- of messages that stand in the rows from i on
@@ -39,7 +40,7 @@ entries-stand (m ∷ ms) store rows i (here, later) =
 -- ---- the messages left
 
 abbrev noRows : Table
-noRows = replicate 256 (0 ∷ 0 ∷ 0 ∷ [])
+noRows = replicate 256 (0 ∷ 0 ∷ 0 ∷ 0 ∷ [])
 
 -- written from the first row on, the messages' rows stand in front
 all-left : (ms : List Message)
@@ -61,6 +62,7 @@ hands rows store ms sized long few fit =
     record {
       sound = filled-sound links rows′ (length ms) (put .filled);
       same = λ x. filled-stands links rows′ (length ms) (put .filled) x ∙ ids-stand ms rows′ 0 x (put .stand);
+      tried = left-tried (put .filled) ms 0 (omega arith) (put .stand);
       back =
           ap (map (messageIn store′ rows′)) (put .filled .pending)
           ∙ (entries-stand ms store′ rows′ 0 (put .stand) ∙ read-back ms 0 store fit (omega arith));

@@ -14,7 +14,7 @@ use Rattle.lists.specs.Links.{pick}
 use Rattle.lists.specs.Family.{count}
 use Rattle.lists.proofs.Counts.{count-same, count-other, count-append}
 use Rattle.lists.proofs.Family.{count-none}
-use Rattle.log.specs.Opening.{Rising, remove}
+use Rattle.log.specs.Opening.{Rising, remove, retried}
 use Rattle.log.proofs.OpeningLaws.{Rising-le}
 use Rattle.theorem.specs.Handing.{idsOf}
 
@@ -73,6 +73,17 @@ gone-other id x (m ∷ ms) other = go (gone-other id x ms other) (ℕ-discrete (
     go rest (yes p) = rw (eq-eqb (m .id) id p, remove)
         (omega (arith, count-other x (m .id) (idsOf ms) (λ z. other (omega arith))))
     go rest (no p) = rw (ne-eqb (m .id) id p, remove) (omega arith)
+
+-- a retry leaves every id
+pub retried-ids : (x n : ℕ) (ms : List Message) → idsOf (retried x n ms) ≡ idsOf ms
+unfolding retried
+retried-ids x n [] = refl
+retried-ids x n (m ∷ ms) = go (eqb (m .id) x) refl (retried-ids x n ms)
+  where
+    go : (b : Bool) → eqb (m .id) x ≡ b → idsOf (retried x n ms) ≡ idsOf ms
+        → idsOf (retried x n (m ∷ ms)) ≡ idsOf (m ∷ ms)
+    go true e later = rw (e, retried) (ap (λ r. m .id ∷ r) later)
+    go false e later = rw (e, retried) (ap (λ r. m .id ∷ r) later)
 
 -- one id more
 pub count-snoc : (x y : ℕ) (xs : List ℕ) → count x (xs ++ (y ∷ [])) ≡ count x xs + pick (eqb y x) 1 0

@@ -5,9 +5,11 @@ use Prim.Native.Nat.{ℕ, _+_, _≤_, _<_}
 use Rattle.lists.specs.Family.{count}
 use Rattle.log.specs.declared.LogId.{LogId}
 use Rattle.log.specs.declared.Order.{Order}
-use Rattle.log.specs.Opening.{remove}
+use Rattle.log.specs.Opening.{remove, retried}
 use Rattle.log.specs.Recovery as disk
 use Rattle.log.proofs.RecoveryLaws as log
+use Rattle.actor.specs.Messages.{messageAt}
+use Rattle.turn.specs.declared.state.OrderFor.{OrderFor}
 use Rattle.turn.specs.declared.state.OrderFor.the-variants as orderFor
 use Rattle.turn.specs.declared.state.Disk.{Disk}
 use Rattle.turn.specs.declared.state.Disk.the-variants as order
@@ -18,8 +20,8 @@ use Rattle.theorem.specs.Keeping.{PointOk}
 use Rattle.theorem.specs.Living.{AtLives}
 use Rattle.theorem.proofs.Turn.{StateSound}
 use Rattle.theorem.proofs.LivingTurn.{StateLives}
-use Rattle.theorem.specs.Handing.{idsOf}
-use Rattle.theorem.specs.Rail.{World, KeepsTail}
+use Rattle.theorem.specs.Handing.{idsOf, AllTried}
+use Rattle.theorem.specs.Rail.{World, KeepsTail, LastTried}
 
 -- the pool's disk and the journal's say the same
 abbrev pub Agrees : Disk → disk.Status → List ℕ → Type 0
@@ -36,13 +38,14 @@ pub record Ledger (j : disk.LogWorld) (next : ℕ) (logged done : List ℕ) : Ty
   pub below : (x : ℕ) → 0 < count x logged → x < j .wal .counters .next
 
 -- a state with the journal beside it: sound lists; each id stands as often as it is logged and not done; who holds a
--- message lives; the log of the journal; the disk
+-- message lives; no message has more attempts in the log than in its row; the log of the journal; the disk
 pub record Working (long : ℕ) (j : disk.LogWorld) (s : State) : Type 0 where
   pub sound : StateSound s
   pub ids : (x : ℕ) → stands x (s .links) (s .rows) ≡ count x (idsOf (j .now))
   pub ok : PointOk (s .pool .turn .at) (s .links)
   pub lives : StateLives s
   pub here : AtLives (s .pool .turn .at) (s .links) (s .keys) (s .actors)
+  pub tried : AllTried (s .links) (s .rows) (j .now)
   pub wal : j .wal ≡ walOf s
   pub agrees : Agrees (s .pool .turn .disk) (j .disk .status) (s .bytes)
   pub journal : log.Sound long j
@@ -51,17 +54,24 @@ pub record Working (long : ℕ) (j : disk.LogWorld) (s : State) : Type 0 where
 abbrev pub markedOff : disk.LogWorld → State → Order → LogId → disk.LogWorld
 markedOff j s o id = disk.issue j (walOf s) (remove (id .0) (j .now)) (disk.sent (s .bytes) o)
 
+-- the journal after the order of a retry
+abbrev pub retriedAs : disk.LogWorld → State → Order → LogId → ℕ → disk.LogWorld
+retriedAs j s o id n = disk.issue j (walOf s) (retried (id .0) n (j .now)) (disk.sent (s .bytes) o)
+
 -- the log's bytes at and after its size are those given
 abbrev pub TailKept : List ℕ → State → Type 0
 TailKept bytes s = KeepsTail (s .pool .turn .counters .size) bytes (s .bytes)
 
--- how a run ended: with no order, or with the mark of a message that was logged and not done, the log's bytes behind
--- its new size as they were
+-- how a run ended: with no order, or with the mark or the retry of a message that was logged and not done, the log's
+-- bytes behind its new size as they were
 pub data Runs (long : ℕ) (j : disk.LogWorld) (s : State) : Type 0 where
   still : s .pool .turn .disk ≡ order.Free → Working long j s → Runs long j s
   marks : (o : Order) (id : LogId) → s .pool .turn .disk ≡ order.Waits o (orderFor.Mark id)
       → 0 < count (id .0) (idsOf (j .now)) → s .pool .turn .counters .next ≡ j .wal .counters .next
       → TailKept (j .wal .bytes) s → Working long (markedOff j s o id) s → Runs long j s
+  tries : (o : Order) (for : OrderFor) (l : LastTried s (j .now)) → s .pool .turn .disk ≡ order.Waits o for
+      → s .pool .turn .counters .next ≡ j .wal .counters .next → TailKept (j .wal .bytes) s
+      → Working long (retriedAs j s o (l .id) (messageAt (s .rows) (l .entry) .attempts)) s → Runs long j s
 
 -- what holds after every list of calls
 pub record Steady (long : ℕ) (limits : Limits) (w : World) : Type 0 where

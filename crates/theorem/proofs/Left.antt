@@ -12,12 +12,12 @@ use lib.ListN.{length, length-map, replicate}
 use Rattle.text.specs.Format.{Message}
 use Rattle.lists.specs.Family.{count}
 use Rattle.lists.proofs.Counts.{count-same, count-other}
-use Rattle.log.specs.Opening.{remove}
+use Rattle.log.specs.Opening.{remove, retried}
 use Rattle.theorem.specs.Places.{stands}
 use Rattle.theorem.specs.Handing.{idsOf}
 use Rattle.turn.specs.State.{State}
 use Rattle.theorem.specs.Rail.{isPlaced, inPlaces, outOfPlaces}
-use Rattle.theorem.proofs.Ids.{gone-same, gone-other}
+use Rattle.theorem.proofs.Ids.{gone-same, gone-other, retried-ids}
 
 -- a message that stands in a place is kept, one that stands in none is out
 module _ (s : State) (m : Message) (ms : List Message) where
@@ -47,6 +47,10 @@ all-in s (m ∷ ms) all =
 -- with no mark none is out
 pub none-out : (s : State) (ms : List Message) → StandAs s ms → outOfPlaces s ms ≡ []
 none-out s ms same = all-in s ms (λ y there. omega (arith, same y))
+
+-- with a retry none is: every id stands as among the messages with its attempts set
+pub retried-none : (s : State) (x n : ℕ) (ms : List Message) → StandAs s (retried x n ms) → outOfPlaces s ms ≡ []
+retried-none s x n ms same = none-out s ms (λ y. same y ∙ ap (count y) (retried-ids x n ms))
 
 -- ---- every message stands in a place, but those of one id
 

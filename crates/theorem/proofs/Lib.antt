@@ -4,6 +4,7 @@ pub mod Through
 pub mod PlaceMoves
 pub mod Steps
 pub mod Filling
+pub mod Tried
 pub mod Handing
 pub mod HandedShown
 pub mod Chained
@@ -21,6 +22,7 @@ pub mod LivingRouting
 pub mod LivingTicking
 pub mod LivingTurn
 pub mod MailSteps
+pub mod Retries
 pub mod Invariant
 pub mod Ids
 pub mod Left

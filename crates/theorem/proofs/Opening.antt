@@ -135,6 +135,7 @@ module _ (l : Lent) (t : Taken l) where
     ok = omega arith;
     lives = start-lives (length (l .keys)) (l .rows) _ (length left) (l .actors) (sizes .1 .0) (sizes .1 .1);
     here = start-hand (l .rows) _ (length left);
+    tried = given-back .tried;
     wal = refl;
     agrees = refl;
     journal = start-sound (l .bytes) (l .size) (l .store) (l .records) noLeft (t .found) (t .sizes) (t .reads);

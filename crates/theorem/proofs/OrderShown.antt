@@ -1,14 +1,19 @@
 -- An order that waits after an accepted call is the one that the call's answer shows; a reply fits that order, or,
 -- with none waiting, the turn's question. Assumes nothing.
 use mathlib.Core.Path.{_≡_, refl, sym, ap, _∙_}
-use mathlib.Core.Bool.{true, false, false≢true}
+use mathlib.Core.Bool.{Bool, true, false, false≢true}
 use mathlib.Core.Logic.{_⊎_, inl, inr}
 use mathlib.Core.List.{List}
 use Prim.Native.Nat.{ℕ, _<_, _≤_}
 use native.Mathlib.Omega.{arith}
 use borrow.Author.Tests.{eqb-true}
-use lib.Dec.{leb}
+use lib.Dec.{eqb, leb}
+use Rattle.lists.specs.declared.Found.{Found}
+use Rattle.lists.specs.declared.Found.the-variants as found
+use Rattle.lists.specs.declared.keys.Key.{Key}
+use Rattle.lists.specs.declared.keys.Key.the-variants as key
 use Rattle.lists.specs.Links.{Table, firstOf, HAND}
+use Rattle.lists.specs.KeyLists.{keysAt, frontOf}
 use Rattle.log.specs.declared.Answer as of-log
 use Rattle.log.specs.declared.Answer.the-variants as logged
 use Rattle.log.specs.declared.Order.{Order}
@@ -29,6 +34,11 @@ use Rattle.steps.specs.declared.eval.EvalAsk.{EvalAsk}
 use Rattle.steps.specs.declared.eval.EvalAsk.the-variants as eval
 use Rattle.steps.specs.StepFixed.{fixedAsks}
 use Rattle.steps.specs.StepEval.{askTell, evalAsks}
+use Rattle.actor.specs.declared.message.Logged.{Logged}
+use Rattle.actor.specs.declared.message.Logged.the-variants as named
+use Rattle.actor.specs.Messages.{messageAt}
+use Rattle.points.specs.declared.at.Point.{Point}
+use Rattle.points.specs.declared.at.Point.the-variants as point
 use Rattle.points.specs.declared.at.At.{At}
 use Rattle.points.specs.declared.at.At.the-variants as at
 use Rattle.points.specs.declared.at.Ask.{Ask}
@@ -39,6 +49,10 @@ use Rattle.turn.specs.declared.state.Disk.{Disk}
 use Rattle.turn.specs.declared.state.Disk.the-variants as order
 use Rattle.turn.specs.State.{State, walOf, withPool, isFree, runningOf}
 use Rattle.turn.specs.Asks.{askedBy, askedAt, askedIn, openIn}
+use Rattle.group.specs.Roster.{TRAPPED}
+use Rattle.tick.specs.Crash.{crashTrapped, crashTrappedKey}
+use Rattle.turn.specs.Go.{goOf}
+use Rattle.turn.specs.Retry.{againAt, retryLogged, retryEntry, ranOf}
 use Rattle.turn.specs.Resume.{resumeOf}
 use Rattle.turn.specs.Step.{markAt, turnStep, advanced}
 use Rattle.theorem.proofs.Steps.{pick-rule}
@@ -187,11 +201,50 @@ reply-fits s r fits = go (s .pool .turn .disk) (storedIn r) (reply-kind r) fits
 abbrev Moving : State → Type 0
 Moving s = (isFree (s .pool .turn .disk) ≡ true) ⊎ (inTurn (s .pool .turn .at) ≡ true)
 
+-- a point that tried a message again leaves the turn at a point
+entry-moving : (s : State) (f : Found) → isFree (s .pool .turn .disk) ≡ true
+    → ((e : ℕ) → f ≡ found.Entry e → inTurn (s .pool .turn .at) ≡ true) → Moving (retryEntry s f)
+unfolding retryEntry retryLogged
+entry-moving s found.Nothing free under = inl free
+entry-moving s (found.Entry e) free under = by (messageAt (s .rows) e .id)
+  where
+    by : (l : Logged) → Moving (retryLogged s l (messageAt (s .rows) e .attempts))
+    by (named.As id) = inr (under e refl)
+    by named.Never = inl free
+
+again-in-turn : (s : State) (p : Point) (e : ℕ) → againAt s p ≡ found.Entry e
+    → inTurn (goOf s p .pool .turn .at) ≡ true
+unfolding againAt goOf crashTrapped crashTrappedKey
+again-in-turn s (point.Seed g) e is = let z : _≡_ {A = ℕ} 0 1 = cc in absurd (omega arith)
+again-in-turn s (point.Intake left) e is = let z : _≡_ {A = ℕ} 0 1 = cc in absurd (omega arith)
+again-in-turn s (point.Route left) e is = let z : _≡_ {A = ℕ} 0 1 = cc in absurd (omega arith)
+again-in-turn s (point.Wake g clock) e is = let z : _≡_ {A = ℕ} 0 1 = cc in absurd (omega arith)
+again-in-turn s (point.WakeNext g clock left) e is = let z : _≡_ {A = ℕ} 0 1 = cc in absurd (omega arith)
+again-in-turn s (point.Ready g clock pops) e is = let z : _≡_ {A = ℕ} 0 1 = cc in absurd (omega arith)
+again-in-turn s (point.StepEnd c x) e is = let z : _≡_ {A = ℕ} 0 1 = cc in absurd (omega arith)
+again-in-turn s (point.Settle c x) e is = let z : _≡_ {A = ℕ} 0 1 = cc in absurd (omega arith)
+again-in-turn s (point.Crash c) e is = refl
+again-in-turn s (point.AskTrap c) e is = let z : _≡_ {A = ℕ} 0 1 = cc in absurd (omega arith)
+again-in-turn s (point.CrashTrapped c left) e is = at (eqb left 0) refl
+  where
+    by : eqb left 0 ≡ false → (k : Key) → frontOf (keysAt (s .keys) TRAPPED) ≡ k
+        → inTurn (goOf s (point.CrashTrapped c left) .pool .turn .at) ≡ true
+    by b (key.At k) front = rw (b, front) refl
+    by b key.Nothing front = rw (b, front) refl
+
+    at : (b : Bool) → eqb left 0 ≡ b → inTurn (goOf s (point.CrashTrapped c left) .pool .turn .at) ≡ true
+    at true b = rw b refl
+    at false b = by b (frontOf (keysAt (s .keys) TRAPPED)) refl
+
+ran-moving : (s : State) (p : Point) → isFree (goOf s p .pool .turn .disk) ≡ true → Moving (ranOf s p)
+unfolding ranOf
+ran-moving s p free = entry-moving (goOf s p) (againAt s p) free (again-in-turn s p)
+
 step-moving : (s : State) → runningOf (s .pool) ≡ true → Moving s → Moving (turnStep s)
 step-moving s run moves =
     step-rule Moving s run
     (λ p at-is free. pick-rule Moving (isFree (markAt s p .pool .turn .disk))
-    (λ e. inl (ap (λ (a : Aside). isFree (a .disk)) (go-aside (markAt s p) p) ∙ e))
+    (λ e. ran-moving (markAt s p) p (ap (λ (a : Aside). isFree (a .disk)) (go-aside (markAt s p) p) ∙ e))
     (λ e. inr (ap inTurn (mark-stays s p .0 ∙ at-is))))
 
 free-none : (d : Disk) → isFree d ≡ true → orderOf d ≡ nothing

@@ -1,23 +1,27 @@
 -- What a move between two places keeps, and what a message that comes or goes changes. Assumes nothing.
 use mathlib.Core.Path.{_≡_, refl, sym, ap, _∙_}
-use Prim.Native.Nat.{ℕ, _+_, _*_, _-_, _<_}
+use mathlib.Core.Logic.{_≢_}
+use mathlib.Core.List.{[]}
+use Prim.Native.Nat.{ℕ, _+_, _*_, _-_, _^_, _≤_, _<_}
 use native.Mathlib.Omega.{arith}
 use borrow.Author.Tests.{lt-ltb}
-use lib.ListN.{length, take, length-append, length-drop}
+use lib.ListN.{length, take, drop, getD, length-append, length-drop}
 use lib.Seq.{length-take-le}
 use Rattle.lists.specs.Links.{pick, Table, FREE, headOf, lenOf, capped, moveFirst, moveFirstToFront, moveAll}
-use Rattle.lists.specs.Links.{mailboxOf, handOf, OVER, HAND}
+use Rattle.lists.specs.Links.{mailboxOf, handOf, OVER, HAND, LISTS, ENTRIES}
 use Rattle.lists.specs.Family.{count, view, Pair, Moved, MovedToFront}
-use Rattle.lists.proofs.Family.{length-view, first-view, count-at, entry}
+use Rattle.lists.proofs.Counts.{count-same, count-other, count-append, count-split, take-one, total-one}
+use Rattle.lists.proofs.Family.{length-view, first-view, count-at, count-none, entry}
 use Rattle.lists.proofs.Moves.{move-first, move-first-to-front}
 use Rattle.actor.specs.declared.message.Message.{Message}
 use Rattle.actor.specs.Messages.{messageAt, putMessage}
-use Rattle.actor.proofs.Back.{message-put}
+use Rattle.actor.proofs.Back.{message-put, message-other}
 use Rattle.steps.specs.Steps.{overFirst}
 use Rattle.steps.proofs.Times.{capped-fits}
 use Rattle.group.specs.Roster.{overAll, queuedAfter}
 use Rattle.theorem.specs.Places.{isId, idCount, stands, mailTotal, Sound, Keeps, NotMailbox, Comes, Goes}
-use Rattle.theorem.proofs.Totals.{id-first, id-append, id-split, rows-length, stands-row, stands-free}
+use Rattle.theorem.proofs.Totals.{id-first, id-append, id-split, rows-length, row-id, row-tried, stands-row}
+use Rattle.theorem.proofs.Totals.{stands-free}
 use Rattle.theorem.proofs.Through.{mailbox-is, aside-not-mailbox, aside-mailbox, Through, mail-not-mailbox}
 use Rattle.theorem.proofs.Through.{mail-fits, mail-by}
 use Rattle.theorem.proofs.Through.{moved-exchange, moved-to-front-exchange, free-change, exchange-through}
@@ -54,11 +58,23 @@ not-mailbox-held slot slot-is = rw (hand-is slot slot-is) (record {
 
 pub then-keeps : {t rows t₁ rows₁ t₂ rows₂ : Table} {q₁ q₂ : ℕ} → Keeps t rows t₁ rows₁ q₁ → Keeps t₁ rows₁ t₂ rows₂ q₂
     → Keeps t rows t₂ rows₂ q₂
-then-keeps first second = record { sound = second .sound; same = λ x. second .same x ∙ first .same x }
+then-keeps first second = record {
+  sound = second .sound;
+  same = λ x. second .same x ∙ first .same x;
+  busy = λ e id own none. second .busy e id (first .named e ∙ own) (first .busy e id own none);
+  named = λ e. second .named e ∙ first .named e;
+  tried = λ e n small most. second .tried e n small (first .tried e n small most);
+}
 
 module _ (t rows : Table) (q : ℕ) (sound : Sound t rows q) where
   pub same-keeps : Keeps t rows t rows q
-  same-keeps = record { sound = sound; same = λ x. refl }
+  same-keeps = record {
+    sound = sound;
+    same = λ x. refl;
+    busy = λ e id own none. none;
+    named = λ e. refl;
+    tried = λ e n small most. most;
+  }
 
   pub move-keeps : (from to : ℕ) → NotMailbox from → NotMailbox to → Keeps t rows (moveFirst t from to) rows q
   move-keeps from to f g =
@@ -188,12 +204,17 @@ module _ (t rows : Table) (q : ℕ) (sound : Sound t rows q) where
       rows (capped (q + 1))
   back-keeps slot slot-is some = put-back-keeps slot slot-is some
 
-  -- a row is written anew under the same log id
-  pub row-keeps : (e : ℕ) (m : Message) → m .id ≡ messageAt rows e .id → Keeps t rows t (putMessage rows e m) q
-  row-keeps e m same =
+  -- a row is written anew under the same log id, with no fewer attempts
+  pub row-keeps : (e : ℕ) (m : Message) → m .id ≡ messageAt rows e .id
+      → ((n : ℕ) → n < 2 ^ 64 → n ≤ messageAt rows e .attempts → n ≤ m .attempts)
+      → Keeps t rows t (putMessage rows e m) q
+  row-keeps e m same more =
       record {
         sound = record { good = sound .good; sized = rows-length rows e m ∙ sound .sized; mail = sound .mail };
         same = λ x. stands-row x t rows e m same;
+        busy = λ k id own none. none;
+        named = row-id rows e m same;
+        tried = λ k n small most. row-tried rows e m k n (more n small) most;
       }
 
   -- the first free entry goes to a place
@@ -242,6 +263,12 @@ module _ (t rows : Table) (q : ℕ) (sound : Sound t rows q) where
               came-mail to g;
         };
         more = more;
+        busy = λ e none. ap (count e) (came to g .left) ∙ omega (arith, count-split e 1 (view t FREE));
+        kept = λ e none. message-other rows (headOf t FREE) m e
+            (λ is. omega (arith, here, ap (λ k. count k (view t FREE)) is));
+        entry = headOf t FREE;
+        there = ap (count (headOf t FREE)) (came to g .left) ∙ last-free;
+        own = ap (λ (x : Message). x .id) written;
       }
     where
       first : 0 < length (view t FREE)
@@ -250,13 +277,23 @@ module _ (t rows : Table) (q : ℕ) (sound : Sound t rows q) where
       here : 0 < count (headOf t FREE) (view t FREE)
       here = rw (first-view t FREE first) at (count-at (view t FREE) 0 first)
 
+      inside : headOf t FREE < ENTRIES
+      inside = entry t (sound .good) (headOf t FREE) FREE (omega arith) here
+
       written : messageAt (putMessage rows (headOf t FREE) m) (headOf t FREE) ≡ m
-      written = message-put rows (headOf t FREE) m (omega (
-        arith,
-        sound .sized,
-        entry t (sound .good) (headOf t FREE)
-            FREE (omega arith) here,
-      ))
+      written = message-put rows (headOf t FREE) m (omega (arith, sound .sized, inside))
+
+      -- it stood among what is free once, as the first
+      last-free : count (headOf t FREE) (drop 1 (view t FREE)) ≡ 0
+      last-free =
+          omega (
+            arith,
+            count-split (headOf t FREE) 1 (view t FREE),
+            ap (count (headOf t FREE)) (take-one (view t FREE) first),
+            count-same (headOf t FREE) (getD (view t FREE) 0 0) [] (first-view t FREE first),
+            total-one (count (headOf t FREE)) LISTS (view t) FREE (omega arith) (count-none (headOf t FREE)),
+            sound .good .once (headOf t FREE) inside,
+          )
 
       more : (x : ℕ) → stands x (moveFirst t FREE to) (putMessage rows (headOf t FREE) m)
           ≡ stands x t rows + pick (isId x (m .id)) 1 0
@@ -274,8 +311,22 @@ module _ (t rows : Table) (q : ℕ) (sound : Sound t rows q) where
       record {
         sound = record { good = gone .good; sized = sound .sized; mail = mail };
         less = less;
+        busy = λ e other own apart none.
+            ap (count e) (gone .joined)
+            ∙ omega (arith, count-append e (view t FREE) (take 1 (view t OVER)), not-first e apart);
       }
     where
+      first-over : 0 < length (view t OVER)
+      first-over = omega (arith, length-view t OVER)
+
+      -- an entry with another id is not the one that goes
+      not-first : (e : ℕ) → messageAt rows e .id ≢ messageAt rows (headOf t OVER) .id
+          → count e (take 1 (view t OVER)) ≡ 0
+      not-first e apart =
+          ap (count e) (take-one (view t OVER) first-over)
+          ∙ (count-other e (getD (view t OVER) 0 0) []
+          (λ is. apart (ap (λ k. messageAt rows k .id) (sym is ∙ first-view t OVER first-over))) ∙ count-none e)
+
       pair : Pair t OVER FREE
       pair = record { good = sound .good; from-is = omega arith; to-is = omega arith; apart = λ e. omega arith }
 

@@ -88,6 +88,7 @@ steady-holds l limits w steady safe = record {
         few-hand (w .state .pool .turn .at) (w .state .links) (w .state .keys) (w .state .actors)
             (steady .works .here),
       );
+  tried = steady .works .tried;
   safe = safe;
 }
 

@@ -24,6 +24,7 @@ use Rattle.actor.specs.Entry.{Arrival, keepOf}
 use Rattle.theorem.proofs.PlaceMoves.{not-mailbox-pending}
 use Rattle.theorem.proofs.Steps.{pick-rule}
 use Rattle.theorem.specs.Keeping.{PointOk}
+use Rattle.theorem.specs.Handing.{AllTried}
 use Rattle.theorem.specs.Living.{stepHand, AtLives}
 use Rattle.theorem.proofs.Turn.{resume-keeps}
 use Rattle.theorem.proofs.LivingTurn.{resume-lives}
@@ -199,6 +200,7 @@ module _ (long : ℕ) (limits : Limits) (w : World) (steady : Steady long limits
     ok = works .ok;
     lives = works .lives;
     here = works .here;
+    tried = subst (AllTried (s .links) (s .rows)) (sym now) (works .tried);
     wal = wal;
     agrees = agrees;
     journal = journal;
@@ -214,6 +216,7 @@ module _ (long : ℕ) (limits : Limits) (w : World) (steady : Steady long limits
     lives = works .lives;
     here = first-lives (s .links) (s .keys) (s .actors) (p .seeded)
         (rest-hand (p .turn .at) (s .links) (s .keys) (s .actors) rests (works .here));
+    tried = works .tried;
     wal = works .wal;
     agrees = works .agrees;
     journal = works .journal;
@@ -236,6 +239,7 @@ module _ (long : ℕ) (limits : Limits) (w : World) (steady : Steady long limits
     ok = works .ok;
     lives = works .lives;
     here = works .here;
+    tried = works .tried;
     wal = works .wal;
     agrees = works .agrees;
     journal = works .journal;

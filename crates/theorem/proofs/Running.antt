@@ -1,24 +1,32 @@
--- A turn that runs: no order goes out, or one, the mark of a message that was logged and not done. Assumes nothing.
+-- A turn that runs: no order goes out, or one, the mark or the retry of a message that was logged and not done. Assumes
+-- nothing.
 use mathlib.Core.Path.{_≡_, refl, sym, ap, _∙_, subst}
-use mathlib.Core.Bool.{true, false, false≢true, _&&_}
-use mathlib.Core.List.{List}
-use Prim.Native.Nat.{ℕ, _+_, _<_}
+use mathlib.Core.Bool.{Bool, true, false, false≢true, _&&_}
+use mathlib.Core.List.{List, [], _∷_}
+use Prim.Native.Nat.{ℕ, suc, _+_, _<_, _≤_}
 use native.Mathlib.Omega.{arith}
-use borrow.Author.Tests.{eqb-false, eq-eqb}
-use lib.Dec.{eqb}
+use native.Mathlib.Decide.{ℕ-discrete}
+use borrow.Author.Tests.{eqb-false, eq-eqb, leb-true, ltb-true}
+use lib.Dec.{eqb, leb, ltb}
 use lib.ListN.{drop}
 use Rattle.lists.specs.declared.Found.{Found}
 use Rattle.lists.specs.declared.Found.the-variants as found
-use Rattle.lists.specs.Links.{pick, FREE, Table, lenOf, headOf, firstOf, moveFirst, OVER}
-use Rattle.lists.specs.Family.{count}
+use Rattle.text.specs.Format.{ATTEMPTS, Message}
+use Rattle.lists.specs.Links.{pick, FREE, Table, lenOf, headOf, firstOf, moveFirst, PENDING, OVER}
+use Rattle.lists.specs.Family.{count, view}
+use Rattle.lists.proofs.Counts.{count-same, count-other, total-one}
+use Rattle.lists.proofs.Family.{nowhere-else}
 use Rattle.log.specs.declared.LogId.{LogId}
+use Rattle.log.specs.declared.Order.{Order}
 use Rattle.log.specs.declared.Due.{Due}
 use Rattle.log.specs.declared.Due.the-variants as due
-use Rattle.log.specs.Opening.{remove}
-use Rattle.log.specs.Log.{Wal, DidMark, markOf}
+use Rattle.log.specs.Opening.{remove, retried}
+use Rattle.log.specs.Log.{Wal, DidMark, markOf, countsTries, retryOf}
 use Rattle.log.specs.Stands.{Stands}
 use Rattle.log.specs.Recovery as disk
 use Rattle.log.proofs.RecoveryLaws as log
+use Rattle.log.proofs.Recovery.{call-tail, call-idle}
+use Rattle.log.proofs.OpeningLaws.{and-left, and-right}
 use Rattle.actor.specs.declared.message.Logged.{Logged}
 use Rattle.actor.specs.declared.message.Logged.the-variants as logged
 use Rattle.actor.specs.Messages.{messageAt}
@@ -28,14 +36,20 @@ use Rattle.points.specs.declared.at.Point.{Point}
 use Rattle.points.specs.declared.at.Point.the-variants as point
 use Rattle.turn.specs.declared.state.Disk.{Disk}
 use Rattle.turn.specs.declared.state.Disk.the-variants as order
+use Rattle.turn.specs.declared.state.OrderFor.the-variants as orderFor
 use Rattle.turn.specs.declared.state.Limits.{Limits}
-use Rattle.turn.specs.State.{State, walOf, withLinks, isFree, runsAt, runningOf, marksAt}
+use Rattle.turn.specs.State.{State, walOf, withPool, withDisk, withLinks, isFree, runsAt, runningOf, marksAt}
 use Rattle.turn.specs.Go.{goOf}
+use Rattle.turn.specs.Retry.{againAt, retriedIn, retryLogged, retryEntry, ranOf}
 use Rattle.turn.specs.Step.{marked, markLogged, markEntry, markFirst, markAt, goFree, stepAt}
 use Rattle.turn.specs.Step.{turnStep, advanced}
 use Rattle.turn.specs.Advance.{GoesOn, here, step}
 use Rattle.turn.proofs.Advance.{advances}
-use Rattle.theorem.specs.Places.{isId, stands, Goes}
+use Rattle.theorem.specs.Places.{isId, idCount, stands, Goes}
+use Rattle.theorem.specs.Rail.{lastIn, LastTried}
+use Rattle.theorem.proofs.Totals.{id-none}
+use Rattle.theorem.proofs.Tried.{kept-tried, goes-tried, never-tried, again-tried}
+use Rattle.theorem.proofs.Retries.{again-last, retry-next}
 use Rattle.theorem.proofs.PlaceMoves.{goes}
 use Rattle.theorem.proofs.Steps.{pick-rule}
 use Rattle.theorem.specs.Keeping.{PointOk}
@@ -44,7 +58,8 @@ use Rattle.theorem.proofs.Turn.{StateKeeps, go-keeps}
 use Rattle.theorem.proofs.Living.{Less, less-lives, at-less, first-less}
 use Rattle.theorem.proofs.LivingTurn.{StateStands, go-lives}
 use Rattle.theorem.specs.Handing.{idsOf}
-use Rattle.theorem.proofs.Invariant.{Agrees, Working, TailKept, Runs, still, marks, markedOff}
+use Rattle.theorem.proofs.Invariant.{Agrees, Working, TailKept, Runs, still, marks, tries, markedOff, retriedAs}
+use Rattle.theorem.proofs.Ids.{retried-ids}
 use Rattle.theorem.proofs.Marks.{GoesOut, mark-goes, mark-sound, mark-tail, ids-marked}
 
 -- ---- the parts of a step
@@ -97,6 +112,21 @@ pub mark-stays : (s : State) (p : Point) → Stays s (markAt s p)
 unfolding markFirst
 mark-stays s p = pick-rule (Stays s) (marksAt p) (λ e. found-stays s (firstOf (s .links) OVER)) (λ e. (refl, refl))
 
+-- nor what is tried again and written
+retried-stays : (s : State) (l : Logged) (n : ℕ) → Stays s (retryLogged s l n)
+unfolding retryLogged
+retried-stays s (logged.As id) n = (refl, refl)
+retried-stays s logged.Never n = (refl, refl)
+
+entry-stays : (s : State) (f : Found) → Stays s (retryEntry s f)
+unfolding retryEntry
+entry-stays s (found.Entry e) = retried-stays s (messageAt (s .rows) e .id) (messageAt (s .rows) e .attempts)
+entry-stays s found.Nothing = (refl, refl)
+
+pub ran-stays : (s : State) (p : Point) → Stays (goOf s p) (ranOf s p)
+unfolding ranOf
+ran-stays s p = entry-stays (goOf s p) (againAt s p)
+
 -- a state that runs is at a point, with no order waiting: what holds of that point's step holds of the state's
 pub step-rule : (P : State → Type 0) (s : State) → runningOf (s .pool) ≡ true
     → ((p : Point) → s .pool .turn .at ≡ at.Runs p → s .pool .turn .disk ≡ order.Free → P (goFree (markAt s p) p))
@@ -130,7 +160,8 @@ module _ (l : Lasting) where
 
   goes-lasting : (s : State) (p : Point) → Lasts s → Lasts (goFree s p)
   goes-lasting s p is =
-      pick-rule Lasts (isFree (s .pool .turn .disk)) (λ e. ap (λ (a : Aside). a .lasting) (go-aside s p) ∙ is)
+      pick-rule Lasts (isFree (s .pool .turn .disk))
+      (λ e. ran-stays s p .1 ∙ (ap (λ (a : Aside). a .lasting) (go-aside s p) ∙ is))
       (λ e. is)
 
   pub run-lasting : (s : State) → Lasts s → Lasts (advanced s)
@@ -148,6 +179,7 @@ moved-works long j s s′ works aside went holds = record {
   ok = went .ok;
   lives = holds .lives;
   here = holds .ok;
+  tried = kept-tried (went .keeps) (j .now) (log.sound-stands long j (works .journal) .stands .tries) (works .tried);
   wal = works .wal ∙ sym (ap (λ (a : Aside). a .wal) aside);
   agrees = subst (λ (a : Aside). Agrees (a .disk) (j .disk .status) (a .wal .bytes)) (sym aside) (works .agrees);
   journal = works .journal;
@@ -236,6 +268,7 @@ module _ (long : ℕ) (j : disk.LogWorld) (s : State) (free : s .pool .turn .dis
         ok = ok;
         lives = lives .lives;
         here = lives .ok;
+        tried = goes-tried id (rw is at gone) (j .now) (works .tried);
         wal = refl;
         agrees = refl;
         journal = journal;
@@ -262,6 +295,7 @@ module _ (long : ℕ) (j : disk.LogWorld) (s : State) (free : s .pool .turn .dis
           ok = ok;
           lives = lives .lives;
           here = lives .ok;
+          tried = never-tried (rw is at gone) (j .now) (works .tried);
           wal = works .wal;
           agrees = works .agrees;
           journal = works .journal;
@@ -277,16 +311,201 @@ module _ (long : ℕ) (j : disk.LogWorld) (s : State) (free : s .pool .turn .dis
   marks-run : Runs long j (markAt s p)
   marks-run = pick-rule (Runs long j) (marksAt p) (λ e. first-runs) (λ e. still free works)
 
+-- ---- what a point tried again is written
+
+-- the journal after a retry whose order goes out
+retry-sound : (long : ℕ) (j : disk.LogWorld) (x n : ℕ) (o : Order) → j .disk .status ≡ disk.settled
+    → log.Sound long j → retryOf (j .wal) x n .due ≡ due.Ordered o
+    → log.Sound long (disk.issue j (retryOf (j .wal) x n .wal) (retried x n (j .now))
+    (disk.sent (retryOf (j .wal) x n .wal .bytes) o))
+unfolding disk.stepLog disk.called disk.didCall disk.callEffect
+retry-sound long j x n o settles sound goes =
+    let stepped = subst (λ s. log.Sound long (disk.stepLog 0 s j (disk.call (disk.retry x n)))) settles
+    (log.step-sound long 0 j (disk.call (disk.retry x n)) sound) in
+    subst (λ a. log.Sound long (disk.issued j (disk.retry x n) (retryOf (j .wal) x n .wal) (disk.orderedDue a))) goes
+    stepped
+
+-- the log's bytes at and after the new size are as they were
+retry-tail : (w : Wal) (ms : List Message) (x n : ℕ) → Stands w ms
+    → drop (retryOf w x n .wal .counters .size) (retryOf w x n .wal .bytes)
+    ≡ drop (retryOf w x n .wal .counters .size) (w .bytes)
+unfolding disk.didCall
+retry-tail w ms x n stands = call-tail 0 w ms (disk.retry x n) stands
+
+-- with no order the log is as it was
+retry-idle : (w : Wal) (x n : ℕ) → retryOf w x n .due ≡ due.Nothing → retryOf w x n .wal ≡ w
+unfolding disk.didCall
+retry-idle w x n is = call-idle 0 w (disk.retry x n) (ap disk.orderedDue is)
+
+-- the last of some entries is one of them
+last-there : (es : List ℕ) (e : ℕ) → lastIn es ≡ found.Entry e → 0 < count e es
+unfolding lastIn
+last-there [] e is = let z : _≡_ {A = ℕ} 0 1 = cc in absurd (omega arith)
+last-there (x ∷ []) e is = let same : x ≡ e = cc in omega (arith, count-same e x [] same)
+last-there (x ∷ y ∷ es) e is = at (ℕ-discrete x e) (last-there (y ∷ es) e is)
+  where
+    at : Dec (x ≡ e) → 0 < count e (y ∷ es) → 0 < count e (x ∷ y ∷ es)
+    at (yes p) later = omega (arith, count-same e x (y ∷ es) p)
+    at (no p) later = omega (arith, count-other e x (y ∷ es) p)
+
+-- an entry with a log id in a list: the id stands there
+id-there : (x : ℕ) (rows : Table) (e : ℕ) (id : LogId) → messageAt rows e .id ≡ logged.As id → x ≡ id .0 → (es : List ℕ)
+    → 0 < count e es → 0 < idCount x rows es
+unfolding idCount count
+id-there x rows e id own is [] there = there
+id-there x rows e id own is (k ∷ es) there = at (ℕ-discrete k e) (id-there x rows e id own is es)
+  where
+    at : Dec (k ≡ e) → (0 < count e es → 0 < idCount x rows es) → 0 < idCount x rows (k ∷ es)
+    at (yes p) later =
+        let here : messageAt rows k .id ≡ logged.As id = ap (λ y. messageAt rows y .id) p ∙ own in
+        rw here (rw (eq-eqb (id .0) x (sym is)) (omega arith))
+    at (no p) later = omega (arith, later (omega (arith, count-other e k es p)))
+
+module _ (long : ℕ) (j : disk.LogWorld) (s : State) (free : s .pool .turn .disk ≡ order.Free) (works : Working long j s)
+    (e : ℕ) (last : lastIn (view (s .links) PENDING) ≡ found.Entry e) where
+  abbrev n : ℕ
+  n = messageAt (s .rows) e .attempts
+
+  retry-settles : j .disk .status ≡ disk.settled
+  retry-settles = subst (λ d. Agrees d (j .disk .status) (s .bytes)) free (works .agrees)
+
+  retry-stands : Stands (walOf s) (j .now)
+  retry-stands = subst (λ v. Stands v (j .now)) (works .wal) (log.sound-stands long j (works .journal) .stands)
+
+  in-pending : 0 < count e (view (s .links) PENDING)
+  in-pending = last-there (view (s .links) PENDING) e last
+
+  not-free : count e (view (s .links) FREE) ≡ 0
+  not-free = nowhere-else (s .links) (works .sound .good) e PENDING FREE (omega arith) in-pending (λ z. omega arith)
+
+  module _ (id : LogId) (own : messageAt (s .rows) e .id ≡ logged.As id) where
+    abbrev written : DidMark
+    written = retryOf (walOf s) (id .0) n
+
+    among : 0 < count (id .0) (idsOf (j .now))
+    unfolding stands
+    among =
+        omega (
+          arith,
+          works .ids (id .0),
+          id-there (id .0) (s .rows) e id own refl (view (s .links) PENDING) in-pending,
+          total-one (idCount (id .0) (s .rows)) 261 (λ (k : ℕ). view (s .links) (suc k)) 1 (omega arith)
+              (id-none (id .0) (s .rows)),
+        )
+
+    abbrev wroteBy : Due → State
+    wroteBy d = retriedIn s id (record { wal = written .wal; due = d })
+
+    -- its order goes out
+    module _ (o : Order) (goes : written .due ≡ due.Ordered o) where
+      counts : countsTries n ≡ true
+      unfolding retryOf
+      counts = at (countsTries n) refl
+        where
+          at : (b : Bool) → countsTries n ≡ b → countsTries n ≡ true
+          at true c = c
+          at false c = let z : _≡_ {A = ℕ} 0 1 = cc goes in absurd (omega arith)
+
+      abbrev wrote : State
+      wrote = wroteBy (due.Ordered o)
+
+      lasts : LastTried wrote (j .now)
+      unfolding countsTries
+      lasts = record {
+        entry = e;
+        last = last;
+        id = id;
+        own = own;
+        among = among;
+        told = ltb-true 0 n (and-left (ltb 0 n) (leb n ATTEMPTS) counts);
+        most = leb-true n ATTEMPTS (and-right (ltb 0 n) (leb n ATTEMPTS) counts);
+      }
+
+      journal-is : log.Sound long (disk.issue j (written .wal) (retried (id .0) n (j .now)) (disk.sent (written .wal .bytes) o))
+      journal-is =
+          subst (λ v. retryOf v (id .0) n .due ≡ due.Ordered o
+          → log.Sound long (disk.issue j (retryOf v (id .0) n .wal) (retried (id .0) n (j .now))
+          (disk.sent (retryOf v (id .0) n .wal .bytes) o)))
+          (works .wal) (retry-sound long j (id .0) n o retry-settles (works .journal)) goes
+
+      stopped-works : Working long (retriedAs j wrote o id n) wrote
+      unfolding disk.issue
+      stopped-works = record {
+        sound = works .sound;
+        ids = λ x. works .ids x ∙ ap (count x) (sym (retried-ids (id .0) n (j .now)));
+        ok = works .ok;
+        lives = works .lives;
+        here = works .here;
+        tried = again-tried (s .links) (s .rows) id e n not-free own (omega arith) (j .now) (works .tried);
+        wal = refl;
+        agrees = refl;
+        journal = journal-is;
+      }
+
+      wrote-tail : TailKept (j .wal .bytes) wrote
+      wrote-tail =
+          retry-tail (walOf s) (j .now) (id .0) n retry-stands
+          ∙ ap (λ v. drop (written .wal .counters .size) (v .bytes)) (sym (works .wal))
+
+      wrote-runs : Runs long j wrote
+      unfolding lasts
+      wrote-runs =
+          tries o (orderFor.Retry id) lasts refl
+          (retry-next (walOf s) (id .0) n ∙ sym (ap (λ v. v .counters .next) (works .wal))) wrote-tail stopped-works
+
+    -- it has none: nothing changed
+    unwritten : written .due ≡ due.Nothing → wroteBy due.Nothing ≡ s
+    unwritten none =
+        let same : written .wal ≡ walOf s = retry-idle (walOf s) (id .0) n none in
+        ap (λ (v : Wal). retriedIn s id (record { wal = v; due = due.Nothing })) same
+        ∙ ap (λ d. withPool s (withDisk (s .pool) (s .pool .turn .counters) d)) (sym free)
+
+    logged-runs : Runs long j (wroteBy (written .due))
+    logged-runs = at (written .due) refl
+      where
+        at : (d : Due) → written .due ≡ d → Runs long j (wroteBy (written .due))
+        at (due.Ordered o) is = subst (λ d. Runs long j (wroteBy d)) (sym is) (wrote-runs o is)
+        at due.Nothing is =
+            subst (λ d. Runs long j (wroteBy d)) (sym is)
+            (subst (Runs long j) (sym (unwritten is)) (still free works))
+
+  pub entry-runs : Runs long j (retryEntry s (found.Entry e))
+  unfolding retryEntry retryLogged
+  entry-runs = at (messageAt (s .rows) e .id) refl
+    where
+      at : (l : Logged) → messageAt (s .rows) e .id ≡ l → Runs long j (retryLogged s (messageAt (s .rows) e .id) n)
+      at (logged.As id) is = subst (λ l. Runs long j (retryLogged s l n)) (sym is) (logged-runs id is)
+      at logged.Never is = subst (λ l. Runs long j (retryLogged s l n)) (sym is) (still free works)
+
+-- the point runs, and what it tried again is written
+ran-runs : (long : ℕ) (j : disk.LogWorld) (s : State) (p : Point) → s .pool .turn .at ≡ at.Runs p
+    → s .pool .turn .disk ≡ order.Free → Working long j s → Runs long j (ranOf s p)
+unfolding ranOf retryEntry
+ran-runs long j s p at-is free works = go (againAt s p) refl
+  where
+    went : Working long j (goOf s p)
+    went = point-works long j s p at-is works
+
+    stays : goOf s p .pool .turn .disk ≡ order.Free
+    stays = ap (λ (a : Aside). a .disk) (go-aside s p) ∙ free
+
+    go : (f : Found) → againAt s p ≡ f → Runs long j (retryEntry (goOf s p) (againAt s p))
+    go (found.Entry e) is =
+        subst (λ f. Runs long j (retryEntry (goOf s p) f)) (sym is)
+        (entry-runs long j (goOf s p) stays went e (again-last s p e (works .sound .good) is))
+    go found.Nothing is = subst (λ f. Runs long j (retryEntry (goOf s p) f)) (sym is) (still stays went)
+
 -- ---- a step, and a run
 
 -- the point runs, unless an order waits
 free-runs : (long : ℕ) (j : disk.LogWorld) (s : State) (p : Point) → s .pool .turn .at ≡ at.Runs p → Runs long j s
     → Runs long j (goFree s p)
 free-runs long j s p at-is (still free works) =
-    subst (λ d. Runs long j (pick (isFree d) (goOf s p) s)) (sym free)
-    (still (ap (λ (a : Aside). a .disk) (go-aside s p) ∙ free) (point-works long j s p at-is works))
+    subst (λ d. Runs long j (pick (isFree d) (ranOf s p) s)) (sym free) (ran-runs long j s p at-is free works)
 free-runs long j s p at-is (marks o id waits there next tail works) =
-    subst (λ d. Runs long j (pick (isFree d) (goOf s p) s)) (sym waits) (marks o id waits there next tail works)
+    subst (λ d. Runs long j (pick (isFree d) (ranOf s p) s)) (sym waits) (marks o id waits there next tail works)
+free-runs long j s p at-is (tries o for l waits next tail works) =
+    subst (λ d. Runs long j (pick (isFree d) (ranOf s p) s)) (sym waits) (tries o for l waits next tail works)
 
 step-runs : (long : ℕ) (j : disk.LogWorld) (s : State) → runningOf (s .pool) ≡ true → Runs long j s
     → Runs long j (turnStep s)
@@ -294,6 +513,9 @@ step-runs long j s run (still free works) =
     step-rule (Runs long j) s run
     (λ p at-is is. free-runs long j (markAt s p) p (mark-stays s p .0 ∙ at-is) (marks-run long j s free works p at-is))
 step-runs long j s run (marks o id waits there next tail works) =
+    step-rule (Runs long j) s run
+    (λ p at-is free. absurd (false≢true (sym (ap isFree waits) ∙ ap isFree free)))
+step-runs long j s run (tries o for l waits next tail works) =
     step-rule (Runs long j) s run
     (λ p at-is free. absurd (false≢true (sym (ap isFree waits) ∙ ap isFree free)))
 

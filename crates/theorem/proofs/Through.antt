@@ -5,13 +5,14 @@ use mathlib.Core.List.{List, [], _∷_}
 use Prim.Native.Nat.{ℕ, zero, suc, _+_, _*_, _≤_, _<_}
 use native.Mathlib.Omega.{arith}
 use native.Mathlib.Decide.{ℕ-discrete, decLt}
-use borrow.Author.Tests.{lt-ltb, le-ltb}
+use borrow.Author.Tests.{lt-ltb, le-ltb, eq-eqb}
 use lib.ListN.{length, take}
 use Rattle.lists.specs.Links.{LISTS, ENTRIES, FREE, Table, lenOf, capped, ifMoves, moveFirst, moveAll, mailboxOf, OVER}
-use Rattle.lists.specs.Family.{firstIn, total, view, Good, Pair, Moved, MovedAll, MovedToFront}
-use Rattle.lists.proofs.Counts.{total-kept, put-two}
+use Rattle.lists.specs.Family.{count, firstIn, total, view, Good, Pair, Moved, MovedAll, MovedToFront}
+use Rattle.lists.proofs.Counts.{total-kept, put-two, count-append, count-other}
 use Rattle.lists.proofs.Family.{length-view, first-is, at-most-all, len-past}
 use Rattle.lists.proofs.Moves.{move-first, move-all, same-list, no-such-to, no-such-from}
+use Rattle.log.specs.declared.LogId.{LogId}
 use Rattle.actor.specs.declared.message.Logged.{Logged}
 use Rattle.actor.specs.declared.message.Logged.the-variants as logged
 use Rattle.actor.specs.Messages.{messageAt}
@@ -64,9 +65,16 @@ pub record Through (t rows r : Table) (slot : ℕ) : Type 0 where
   pub good : Good r
   pub same : (x : ℕ) → stands x r rows ≡ stands x t rows
   pub others : (s : ℕ) → s < 128 → s ≢ slot → view r (6 + 2 * s) ≡ view t (6 + 2 * s)
+  pub busy : (e : ℕ) (id : LogId) → messageAt rows e .id ≡ logged.As id → count e (view t FREE) ≡ 0
+      → count e (view r FREE) ≡ 0
 
 pub same-through : (t rows : Table) (slot : ℕ) → Good t → Through t rows t slot
-same-through t rows slot good = record { good = good; same = λ x. refl; others = λ s s-is other. refl }
+same-through t rows slot good = record {
+  good = good;
+  same = λ x. refl;
+  others = λ s s-is other. refl;
+  busy = λ e id own none. none;
+}
 
 -- one after the other
 pub then-through : {t rows r u : Table} {slot : ℕ} → Through t rows r slot → Through r rows u slot
@@ -76,6 +84,7 @@ then-through first second =
       good = second .good;
       same = λ x. second .same x ∙ first .same x;
       others = λ s s-is other. second .others s s-is other ∙ first .others s s-is other;
+      busy = λ e id own none. second .busy e id own (first .busy e id own none);
     }
 
 -- past the last mailbox there is none
@@ -147,6 +156,9 @@ module _ (t rows r : Table) (q slot : ℕ) (sound : Sound t rows q) (through : T
           omega (arith, mail-by);
     };
     same = through .same;
+    busy = through .busy;
+    named = λ e. refl;
+    tried = λ e n small most. most;
   }
 
   -- no mailbox changes
@@ -270,6 +282,8 @@ exchange-through rows slot e f g =
       good = e .good;
       same = λ x. stands-same e x rows (f .place) (g .place);
       others = λ s s-is other. e .others (6 + 2 * s) (f .no-mail s s-is other) (g .no-mail s s-is other);
+      busy = λ x id own none.
+          ap (count x) (e .others FREE (λ z. omega (arith, f .place)) (λ z. omega (arith, g .place))) ∙ none;
     }
 
 -- ---- moves
@@ -284,6 +298,19 @@ module _ (t rows : Table) (good : Good t) (from slot : ℕ) (f : Aside slot from
   all-through to g =
       all-rule t good from to (λ (r : Table). Through t rows r slot) (same-through t rows slot good)
       (λ pair. exchange-through rows slot (moved-all-exchange pair (move-all pair)) f g)
+
+  -- an entry with a log id is none of those that have none
+  unnamed : (e : ℕ) (id : LogId) → messageAt rows e .id ≡ logged.As id → (es : List ℕ) → idCount (id .0) rows es ≡ 0
+      → count e es ≡ 0
+  unfolding idCount count
+  unnamed e id own [] none = refl
+  unnamed e id own (x ∷ es) none = at (ℕ-discrete x e) (unnamed e id own es (omega arith))
+    where
+      at : Dec (x ≡ e) → count e es ≡ 0 → count e (x ∷ es) ≡ 0
+      at (yes is) later =
+          let here : messageAt rows x .id ≡ logged.As id = ap (λ k. messageAt rows k .id) is ∙ own in
+          absurd (omega (arith, rw (eq-eqb (id .0) (id .0) refl) at (rw here at none)))
+      at (no other) later = count-other e x es other ∙ later
 
   -- a message that is not logged goes
   free-through : ((x : ℕ) → idCount x rows (take 1 (view t from)) ≡ 0) → Through t rows (moveFirst t from FREE) slot
@@ -304,6 +331,13 @@ module _ (t rows : Table) (good : Good t) (from slot : ℕ) (f : Aside slot from
               id-append x rows (view t FREE) (take 1 (view t from)),
             );
             others = λ s s-is other. m .others (6 + 2 * s) (f .no-mail s s-is other) (λ z. omega arith);
+            busy = λ e id own none.
+                ap (count e) (m .joined)
+                ∙ omega (
+                  arith,
+                  count-append e (view t FREE) (take 1 (view t from)),
+                  unnamed e id own (take 1 (view t from)) (never (id .0)),
+                );
           }
 
   -- the first message is over

@@ -2,7 +2,7 @@
 -- nothing.
 use mathlib.Core.Path.{_≡_, refl}
 use mathlib.Core.Bool.{Bool, true, false, _&&_}
-use Prim.Native.Nat.{ℕ, _-_, _≤_, _<_}
+use Prim.Native.Nat.{ℕ, _+_, _-_, _^_, _≤_, _<_}
 use native.Mathlib.Omega.{arith}
 use native.Mathlib.Decide.{decLt}
 use borrow.Author.Tests.{eq-eqb, ltb-true, le-ltb}
@@ -12,7 +12,7 @@ use Rattle.lists.specs.declared.Found.{Found}
 use Rattle.lists.specs.declared.Found.the-variants as found
 use Rattle.lists.specs.declared.keys.Key.{Key}
 use Rattle.lists.specs.declared.keys.Key.the-variants as key
-use Rattle.lists.specs.Links.{LISTS, Table, lenOf, firstOf, moveFirst, mailboxOf, handOf, PENDING, HAND}
+use Rattle.lists.specs.Links.{LISTS, Table, lenOf, capped, firstOf, moveFirst, mailboxOf, handOf, PENDING, HAND}
 use Rattle.lists.specs.KeyLists.{blankRow, keysAt, frontOf, popFront}
 use Rattle.lists.specs.Slabs.{nextKey, containsOf}
 use Rattle.lists.proofs.Family.{len-past}
@@ -277,6 +277,12 @@ abbrev DyingKeeps : Table → Table → ℕ → Dying → Type 0
 DyingKeeps t rows q d = Keeps t rows (d .links) (d .rows) q
 
 module _ (groups t rows : Table) (g q : ℕ) (sound : Sound t rows q) where
+  -- one attempt more, up to the largest number, is no fewer
+  more-tried : (a n : ℕ) → n < 2 ^ 64 → n ≤ a → n ≤ capped (a + 1)
+  unfolding capped
+  more-tried a n small most =
+      pick-rule (λ k. n ≤ k) (leb (a + 1) 18446744073709551615) (λ e. omega arith) (λ e. omega arith)
+
   entry-keeps : (from e dead : ℕ) → NotMailbox from
       → DyingKeeps t rows q (crashing.crashedEntry groups (dying t rows dead) g from e)
   unfolding crashing.crashedEntry
@@ -284,7 +290,7 @@ module _ (groups t rows : Table) (g q : ℕ) (sound : Sound t rows q) where
       let again = move-keeps t rows q sound from PENDING not-mailbox not-mailbox-pending in
       pick-rule (DyingKeeps t rows q) (ltb (messageAt rows e .attempts) (groupAt groups g .retry))
       (λ b. then-keeps again (row-keeps (moveFirst t from PENDING) rows q (again .sound) e (triedOf (messageAt rows e))
-      refl))
+      refl (more-tried (messageAt rows e .attempts))))
       (λ b. over-keeps t rows q sound from not-mailbox)
 
   found-keeps : (from dead : ℕ) → NotMailbox from → (f : Found)

@@ -102,7 +102,7 @@ unfolding putMessage
 row-past rows e m out = set-out rows e (messageCells m) out
 
 -- under the same log id
-row-id : (rows : Table) (e : ℕ) (m : Message) → m .id ≡ messageAt rows e .id → (j : ℕ)
+pub row-id : (rows : Table) (e : ℕ) (m : Message) → m .id ≡ messageAt rows e .id → (j : ℕ)
     → messageAt (putMessage rows e m) j .id ≡ messageAt rows j .id
 row-id rows e m same j = go (ℕ-discrete j e) (decLt e (length rows))
   where
@@ -110,6 +110,16 @@ row-id rows e m same j = go (ℕ-discrete j e) (decLt e (length rows))
     go (no other) d = rw (message-other rows e m j other)
     go (yes here) (yes e-is) = rw (here, message-put rows e m e-is) same
     go (yes here) (no out) = rw (row-past rows e m (omega arith))
+
+-- with no fewer attempts
+pub row-tried : (rows : Table) (e : ℕ) (m : Message) (j n : ℕ) → (n ≤ messageAt rows e .attempts → n ≤ m .attempts)
+    → n ≤ messageAt rows j .attempts → n ≤ messageAt (putMessage rows e m) j .attempts
+row-tried rows e m j n more most = go (ℕ-discrete j e) (decLt e (length rows))
+  where
+    go : Dec (j ≡ e) → Dec (e < length rows) → n ≤ messageAt (putMessage rows e m) j .attempts
+    go (no other) d = rw (message-other rows e m j other) most
+    go (yes here) (yes e-is) = rw (here, message-put rows e m e-is) (more (rw here at most))
+    go (yes here) (no out) = rw (row-past rows e m (omega arith)) most
 
 pub id-same : (x : ℕ) (rows : Table) (e : ℕ) (m : Message) → m .id ≡ messageAt rows e .id → (xs : List ℕ)
     → idCount x (putMessage rows e m) xs ≡ idCount x rows xs

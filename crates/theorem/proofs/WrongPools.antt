@@ -9,11 +9,11 @@ use native.Mathlib.Omega.{arith}
 use lib.ListN.{length, drop, replicate, length-append, length-drop, length-replicate}
 use lib.Seq.{take-append-seam}
 use Rattle.text.specs.Format
-use Rattle.text.specs.Format.{Message}
+use Rattle.text.specs.Format.{Message, untried}
 use Rattle.text.specs.Line
 use Rattle.text.specs.Bytes
 use Rattle.lists.specs.Links.{Table}
-use Rattle.lists.specs.Family.{count}
+use Rattle.lists.specs.Family.{count, upFrom}
 use Rattle.log.specs.Opening
 use Rattle.log.specs.Opening.{Read, opening, opened, nothingRead}
 use Rattle.log.specs.declared.Order.the-variants.{Append}
@@ -37,12 +37,15 @@ use Rattle.answers.specs.declared.answer.Answer.the-variants as answer
 use Rattle.answers.specs.Answers.{Did}
 use Rattle.answers.specs.Refusals.{Lent, fileIn}
 use Rattle.theorem.specs.Rail.{Call, admit, turn, reply, World, nothing, stepDid, unordered, ordered, answered}
-use Rattle.theorem.specs.Rail.{begin, inPlaces, orderShown, mailboxAt, handAt, Placed, NextOpening, Holds}
+use Rattle.theorem.specs.Rail.{begin, turnEffect, lastIn, LastTried, orderShown, mailboxAt, handAt, Placed, NextOpening, Holds}
 use Rattle.theorem.proofs.Refusals.{Taken}
 use Rattle.theorem.proofs.Opened.{tables-true, opensAs, opens-as}
 use Rattle.theorem.proofs.Opening.{lent, hands-back}
 use Rattle.theorem.proofs.Instance.{rowsOf, rows-are, lentWith, taken-with, nothing-left}
-use Rattle.theorem.proofs.Left.{marked-in}
+use Rattle.theorem.proofs.Left.{none-out, marked-in, marked-one}
+use Rattle.theorem.proofs.After.{retried-effect, marked-effect}
+use Rattle.theorem.proofs.Handing.{put-all}
+use Rattle.theorem.proofs.Filling.{Left}
 
 -- ---- `placed`: a message that was not done stands nowhere, and no order is shown
 
@@ -160,7 +163,7 @@ appends s a b = record { state = s; answer = answer.Open (asked.Open (ask.Store 
 
 -- a message of no bytes, and its record, for ids below 10
 abbrev bare : ℕ → Message
-bare id = record { id = id; name = []; body = [] }
+bare id = untried id [] []
 
 abbrev bareLine : ℕ → List ℕ
 bareLine digit = digit ∷ 9 ∷ 9 ∷ 10 ∷ []
@@ -282,17 +285,20 @@ turned d =
 
 -- so 0 is the message that left
 one-left : (s : State)
-    → inPlaces (leaves s newBytes (oneStands .links) (oneStands .rows)) (bare 0 ∷ bare 1 ∷ []) ≡ bare 1 ∷ []
+    → turnEffect (leaves s newBytes (oneStands .links) (oneStands .rows)) (bare 0 ∷ bare 1 ∷ []) ≡ bare 1 ∷ []
 unfolding count Opening.remove
 one-left s =
-    marked-in (leaves s newBytes (oneStands .links) (oneStands .rows)) 0 (bare 0 ∷ bare 1 ∷ []) (omega arith)
-    (omega arith) (one-stands .same)
+    let left = leaves s newBytes (oneStands .links) (oneStands .rows) in
+    let both : List Message = bare 0 ∷ bare 1 ∷ [] in
+    marked-effect left both (bare 1 ∷ [])
+    (marked-one left 0 both (omega arith) (omega arith) (one-stands .same))
+    (marked-in left 0 both (omega arith) (omega arith) (one-stands .same))
 
 -- The moment after it has 1, and the file has 0.
 pub other-refused : Holds two (turned (openOf two)) → ⊥
 unfolding two-taken taken-with disk.issue disk.storedOrder disk.confirm disk.firmMoment disk.sent Format.escapeByte
     Format.escape Format.escaped Format.digits Format.printId Format.recordText Format.line Format.recordLine
-    Format.unescape Format.decimal Format.below64 Format.readDigits Format.readId Format.joinHead Format.split
+    Format.attemptsLine Format.messageLines Format.unescape Format.decimal Format.below64 Format.readDigits Format.readId Format.joinHead Format.split
     Format.allButLast Format.lines Format.fields Line.putOf Line.doneOf Line.readFields Line.readLine Opening.insert
     Opening.remove Opening.takeIn Opening.readLines Opening.readFile Opening.fits Opening.allFit Opening.judge
     Opening.opening Opening.image Bytes.write
@@ -302,3 +308,90 @@ other-refused =
     zero-left (turned (opensAs two twoRead)) (2, refl)
     (one-of-two (bare 0 ∷ []) (bare 0 ∷ bare 1 ∷ []) _ (λ e. omega (arith, ap length e))
     (λ e. omega (arith, ap firstId (e ∙ one-left (begun two (opensAs two twoRead) .state))))))
+
+-- ---- a pool that writes another number than the message's attempts: 0 was tried once, and the line says 2
+
+abbrev one : Lent
+one = lentWith (bareLine 48 ++ replicate 12 0) 4
+
+abbrev oneRead : Read
+oneRead = record { left = bare 0 ∷ []; next = 1 }
+
+one-taken : Taken one
+one-taken = taken-with (bareLine 48 ++ replicate 12 0) 4 oneRead (omega arith) (omega arith) (omega arith) zero-reads
+
+-- a message of no bytes that was tried so often
+abbrev triedBare : ℕ → ℕ → Message
+triedBare id n = record { id = id; name = []; body = []; attempts = n }
+
+-- with the line of 2 attempts behind it
+twice-reads : opening (bareLine 48 ++ (48 ∷ 9 ∷ 50 ∷ 10 ∷ []))
+    ≡ opened (record { left = triedBare 0 2 ∷ []; next = 1 })
+unfolding Format.unescape Format.decimal Format.below64 Format.readDigits Format.readId Format.joinHead Format.split
+    Format.allButLast Format.lines Format.fields Line.putOf Line.doneOf Line.attemptsOf Line.readFields Line.readLine
+    Opening.insert Opening.remove Opening.retried Opening.takeIn Opening.readLines Opening.readFile Opening.fits
+    Opening.allFit Opening.judge Opening.opening
+twice-reads = refl
+
+-- 0 stands in pending, and its row says 1
+abbrev onceStands : tables.LeftPlaced
+onceStands = putMessages (rowsOf 256) (triedBare 0 1 ∷ [])
+
+once-put : Left (rowsOf 256) 0 1 (triedBare 0 1 ∷ []) onceStands
+once-put = put-all (rowsOf 256) (triedBare 0 1 ∷ []) (rows-are 256) (omega arith)
+
+once-stands : Hands (rowsOf 256) (replicate 40960 0) (triedBare 0 1 ∷ [])
+unfolding Opening.fits Opening.allFit
+once-stands =
+    hands (rowsOf 256) (replicate 40960 0) (triedBare 0 1 ∷ []) (rows-are 256)
+    (length-replicate {A = ℕ} 40960 0) (omega arith) refl
+
+abbrev twiceBytes : List ℕ
+twiceBytes = bareLine 48 ++ (48 ∷ 9 ∷ 50 ∷ 10 ∷ []) ++ replicate 8 0
+
+abbrev told : Did → World
+told d =
+    let w = begun one d in
+    stepDid w turn
+    (appends (leaves (w .state) twiceBytes (onceStands .links) (onceStands .rows)) 4 8)
+
+once-last : (s : State) → LastTried (leaves s twiceBytes (onceStands .links) (onceStands .rows)) (bare 0 ∷ [])
+unfolding lastIn upFrom count
+once-last s = record {
+  entry = 0;
+  last = ap lastIn (once-put .filled .pending);
+  id = record { 0 = 0 };
+  own = ap (λ x. x .id) (once-put .stand .0);
+  among = omega arith;
+  told = omega (arith, ap (λ x. x .attempts) (once-put .stand .0));
+  most = omega (arith, ap (λ x. x .attempts) (once-put .stand .0));
+}
+
+-- so the moment after it says 1
+once-tried : (s : State)
+    → turnEffect (leaves s twiceBytes (onceStands .links) (onceStands .rows)) (bare 0 ∷ []) ≡ triedBare 0 1 ∷ []
+unfolding once-last Opening.retried
+once-tried s =
+    let left = leaves s twiceBytes (onceStands .links) (onceStands .rows) in
+    retried-effect left (bare 0 ∷ []) (once-last s) (none-out left (bare 0 ∷ []) (once-stands .same))
+    ∙ ap (λ n. triedBare 0 n ∷ []) (ap (λ x. x .attempts) (once-put .stand .0))
+
+abbrev firstTried : List Message → ℕ
+firstTried [] = 0
+firstTried (m ∷ ms) = m .attempts
+
+-- The moment after it says 1, the one before 0, and the file 2.
+pub told-refused : Holds one (told (openOf one)) → ⊥
+unfolding one-taken taken-with once-last disk.issue disk.storedOrder disk.confirm disk.firmMoment disk.sent
+    Format.escapeByte Format.escape Format.escaped Format.digits Format.printId Format.recordText Format.line
+    Format.recordLine Format.attemptsLine Format.messageLines Format.unescape Format.decimal Format.below64
+    Format.readDigits Format.readId Format.joinHead Format.split Format.allButLast Format.lines Format.fields
+    Line.putOf Line.doneOf Line.readFields Line.readLine Opening.insert Opening.remove Opening.takeIn
+    Opening.readLines Opening.readFile Opening.fits Opening.allFit Opening.judge Opening.opening Opening.image
+    Bytes.write
+told-refused =
+    subst (λ d. Holds one (told d) → ⊥) (sym (opens-as one one-taken))
+    (unsafe-refused one one-taken (bareLine 48 ++ (48 ∷ 9 ∷ 50 ∷ 10 ∷ []))
+    (record { left = triedBare 0 2 ∷ []; next = 1 }) (omega arith) twice-reads (told (opensAs one oneRead)) (4, refl)
+    (one-of-two (triedBare 0 2 ∷ []) (bare 0 ∷ []) _ (λ e. omega (arith, ap firstTried e))
+    (λ e. omega (arith, ap firstTried (e ∙ once-tried (begun one (opensAs one oneRead) .state))))))

@@ -5,11 +5,12 @@ use mathlib.Core.Path.{_≡_}
 use mathlib.Core.Bool.{Bool, false}
 use mathlib.Core.Logic.{_≢_}
 use mathlib.Core.List.{List, [], _∷_}
-use Prim.Native.Nat.{ℕ, suc, _+_, _*_, _≤_, _<_}
+use Prim.Native.Nat.{ℕ, suc, _+_, _*_, _^_, _≤_, _<_}
 use lib.Dec.{eqb}
 use lib.ListN.{length}
-use Rattle.lists.specs.Links.{pick, LISTS, Table, lenOf, ENTRIES, HAND, SLOTS}
-use Rattle.lists.specs.Family.{total, view, Good}
+use Rattle.lists.specs.Links.{pick, LISTS, FREE, Table, lenOf, ENTRIES, HAND, SLOTS}
+use Rattle.lists.specs.Family.{count, total, view, Good}
+use Rattle.log.specs.declared.LogId.{LogId}
 use Rattle.actor.specs.declared.message.Logged.{Logged}
 use Rattle.actor.specs.declared.message.Logged.the-variants as logged
 use Rattle.actor.specs.Messages.{messageAt}
@@ -42,10 +43,15 @@ pub record Sound (t rows : Table) (queued : ℕ) : Type 0 where
   pub sized : length rows ≡ ENTRIES
   pub mail : queued ≡ mailTotal t
 
--- a part of a turn: sound before, sound after, and every log id stands as often as before
+-- a part of a turn: sound before, sound after, and every log id stands as often as before; no entry with a log id
+-- comes to what is free, and every row has its log id as before and no fewer attempts
 pub record Keeps (t rows t′ rows′ : Table) (queued′ : ℕ) : Type 0 where
   pub sound : Sound t′ rows′ queued′
   pub same : (x : ℕ) → stands x t′ rows′ ≡ stands x t rows
+  pub busy : (e : ℕ) (id : LogId) → messageAt rows e .id ≡ logged.As id → count e (view t FREE) ≡ 0
+      → count e (view t′ FREE) ≡ 0
+  pub named : (e : ℕ) → messageAt rows′ e .id ≡ messageAt rows e .id
+  pub tried : (e n : ℕ) → n < 2 ^ 64 → n ≤ messageAt rows e .attempts → n ≤ messageAt rows′ e .attempts
 
 -- a place that is no mailbox: the inbox, pending, the batch, over, the step's hand, an actor's hand
 pub record NotMailbox (k : ℕ) : Type 0 where
@@ -53,15 +59,23 @@ pub record NotMailbox (k : ℕ) : Type 0 where
   pub place : 0 < k
   pub no-mail : (slot : ℕ) → slot < SLOTS → k ≢ 6 + 2 * slot
 
--- a message comes from the free entries: sound after, and its log id stands once more
+-- a message comes from the free entries: sound after, and its log id stands once more, at an entry that is not free
+-- then; the rows of those that were not free are as they were
 pub record Comes (t rows t′ rows′ : Table) (queued′ : ℕ) (id : Logged) : Type 0 where
   pub sound : Sound t′ rows′ queued′
   pub more : (x : ℕ) → stands x t′ rows′ ≡ stands x t rows + pick (isId x id) 1 0
+  pub busy : (e : ℕ) → count e (view t FREE) ≡ 0 → count e (view t′ FREE) ≡ 0
+  pub kept : (e : ℕ) → count e (view t FREE) ≡ 0 → messageAt rows′ e ≡ messageAt rows e
+  pub entry : ℕ
+  pub there : count entry (view t′ FREE) ≡ 0
+  pub own : messageAt rows′ entry .id ≡ id
 
--- a message goes to the free entries: sound after, and its log id stands once less
+-- a message goes to the free entries: sound after, and its log id stands once less; no entry with another id goes
 pub record Goes (t rows t′ rows′ : Table) (queued′ : ℕ) (id : Logged) : Type 0 where
   pub sound : Sound t′ rows′ queued′
   pub less : (x : ℕ) → stands x t′ rows′ + pick (isId x id) 1 0 ≡ stands x t rows
+  pub busy : (e : ℕ) (other : LogId) → messageAt rows e .id ≡ logged.As other → messageAt rows e .id ≢ id
+      → count e (view t FREE) ≡ 0 → count e (view t′ FREE) ≡ 0
 
 -- while Push is open its message is in the step's hand
 abbrev pub HandFull : FixedAsk → Table → Type 0

@@ -10,19 +10,24 @@ use mathlib.Core.Bool.{Bool, true, false}
 use mathlib.Core.Logic.{_⊎_}
 use mathlib.Core.List.{List, [], _∷_, _++_, List·Memᴰ}
 use Prim.Native.Nat.{ℕ, _+_, _*_, _<_, _≤_}
-use lib.Dec.{ltb}
+use lib.Dec.{eqb, ltb}
 use lib.ListN.{length, drop}
 use Rattle.group.specs.Roster.{ROWS}
-use Rattle.text.specs.Format.{Message}
-use Rattle.log.specs.Opening.{Opening, opened, refused, opening, Rising, RECORDS, STORE}
+use Rattle.text.specs.Format.{ATTEMPTS, Message, untried}
+use Rattle.log.specs.Opening.{Opening, opened, refused, opening, retried, Rising, RECORDS, STORE}
+use Rattle.log.specs.declared.LogId.{LogId}
 use Rattle.log.specs.Log.{Wal}
 use Rattle.log.specs.declared.Order.{Order}
 use Rattle.log.specs.declared.Order.the-variants.{Replace, Flush}
 use Rattle.log.specs.Recovery as disk
-use Rattle.lists.specs.Links.{pick, Table, LISTS, ENTRIES, INBOX, HAND, SLOTS, GROUPS, KEYS}
+use Rattle.lists.specs.declared.Found.{Found}
+use Rattle.lists.specs.declared.Found.the-variants as found
+use Rattle.lists.specs.Links.{pick, Table, LISTS, ENTRIES, INBOX, PENDING, HAND, SLOTS, GROUPS, KEYS}
 use Rattle.lists.specs.Family.{count, view}
 use Rattle.actor.specs.declared.message.Caller.{Caller}
 use Rattle.actor.specs.declared.message.Caller.the-variants as caller
+use Rattle.actor.specs.declared.message.Logged.the-variants as logged
+use Rattle.actor.specs.Messages.{loggedNumber, messageAt}
 use Rattle.actor.specs.declared.question.Reply.{Reply}
 use Rattle.actor.specs.declared.question.Question.{Question}
 use Rattle.actor.specs.declared.question.Question.the-variants as ask
@@ -31,7 +36,7 @@ use Rattle.actor.specs.declared.question.Asked.the-variants as asked
 use Rattle.theorem.specs.Places.{stands, mailTotal}
 use Rattle.theorem.specs.Mailboxes.{Chained}
 use Rattle.theorem.specs.Living.{given}
-use Rattle.theorem.specs.Handing.{handed, idsOf}
+use Rattle.theorem.specs.Handing.{handed, idsOf, AllTried}
 use Rattle.actor.specs.Entry.{storeEntry}
 use Rattle.turn.specs.State.{State, walOf}
 use Rattle.answers.specs.declared.answer.Refusal.the-variants.{NotLoaded}
@@ -137,49 +142,70 @@ unfoldable pub outOfPlaces : State → List Message → List Message
 outOfPlaces s [] = []
 outOfPlaces s (m ∷ ms) = pick (isPlaced s m) (outOfPlaces s ms) (m ∷ outOfPlaces s ms)
 
--- what an order is for: the record of a message with this name and body; a mark; or neither
+-- what an order is for: the record of a message with this name and body; a mark or a retry; or none of these
 pub data Purpose : Type 0 where
   ofRecord : List ℕ → List ℕ → Purpose
-  ofMark : Purpose
+  ofTurn : Purpose
   ofNeither : Purpose
 
 -- by the call that it came with: an admission for which no caller waits logs its message; what a turn or a reply
--- orders is a mark; no other call logs or marks
+-- orders is a mark or a retry; no other call logs, marks or retries
 abbrev pub purposeOf : Call → Purpose
 purposeOf (admit name body caller.Nobody) = ofRecord name body
 purposeOf (admit name body (caller.From who)) = ofNeither
-purposeOf turn = ofMark
-purposeOf (reply r name body) = ofMark
+purposeOf turn = ofTurn
+purposeOf (reply r name body) = ofTurn
 purposeOf sync = ofNeither
 purposeOf close = ofNeither
 
--- What an order does to the messages logged and not done. A record adds its message, with the name and body given and
--- the next id. A mark takes off the message that left the place "over" with it. That message may have come to "over"
--- in this very call, so the list "over" from before does not tell; but it stood in some place before, as every message
--- that is not done, and stands in none after. So a mark takes off what stands in none of the six places after the
--- call: exactly one message (`OrdersFit`, below). Any other order changes nothing.
+-- the last of some entries
+unfoldable pub lastIn : List ℕ → Found
+lastIn [] = found.Nothing
+lastIn (e ∷ []) = found.Entry e
+lastIn (e ∷ f ∷ es) = lastIn (f ∷ es)
+
+-- the messages with the attempts of an entry's row, where the entry's id is one of theirs
+abbrev pub triedAs : State → Found → List Message → List Message
+triedAs s (found.Entry e) now = retried (loggedNumber (messageAt (s .rows) e .id)) (messageAt (s .rows) e .attempts) now
+triedAs s found.Nothing now = now
+
+-- a retry sets the attempts of the message that came to pending's end with it, to those that its row has now
+abbrev pub retriedLast : State → List Message → List Message
+retriedLast s now = triedAs s (lastIn (view (s .links) PENDING)) now
+
+-- the order of a turn or a reply was a retry, if every message that was logged and not done stands in a place still;
+-- else a mark, and those that stand in none are taken off
+abbrev pub turnEffect : State → List Message → List Message
+turnEffect s now = pick (eqb (length (outOfPlaces s now)) 0) (retriedLast s now) (inPlaces s now)
+
+-- What an order does to the messages logged and not done. A record adds its message, with the name and body given, the
+-- next id and no attempts. A mark takes off the message that left the place "over" with it. That message may have come
+-- to "over" in this very call, so the list "over" from before does not tell; but it stood in some place before, as every
+-- message that is not done, and stands in none after. So a mark takes off what stands in none of the six places after
+-- the call: exactly one message (`OrdersFit`, below). A retry takes off none, and sets the attempts of the message that
+-- it brought to the end of pending. Any other order changes nothing.
 abbrev pub effect : ℕ → State → Purpose → List Message → List Message
-effect next s (ofRecord name body) now = now ++ (record { id = next; name = name; body = body } ∷ [])
-effect next s ofMark now = inPlaces s now
+effect next s (ofRecord name body) now = now ++ (untried next name body ∷ [])
+effect next s ofTurn now = turnEffect s now
 effect next s ofNeither now = now
 
 -- the next id, after an order: one more after a record; after any other order the same
 abbrev pub nextBy : Purpose → ℕ → ℕ
 nextBy (ofRecord name body) next = next + 1
-nextBy ofMark next = next
+nextBy ofTurn next = next
 nextBy ofNeither next = next
 
 -- the ids logged or handed back, after an order: a record adds the next id; any other order adds none
 abbrev pub loggedBy : ℕ → Purpose → List ℕ → List ℕ
 loggedBy next (ofRecord name body) ids = ids ++ (next ∷ [])
-loggedBy next ofMark ids = ids
+loggedBy next ofTurn ids = ids
 loggedBy next ofNeither ids = ids
 
--- the ids done, after an order: a mark adds those of the messages that were logged and not done, and stand in none of
--- the six places now; any other order adds none
+-- the ids done, after an order: one of a turn or a reply adds those of the messages that were logged and not done, and
+-- stand in none of the six places now, which after a retry are none; any other order adds none
 abbrev pub doneBy : State → List Message → Purpose → List ℕ → List ℕ
 doneBy s now (ofRecord name body) ids = ids
-doneBy s now ofMark ids = ids ++ idsOf (outOfPlaces s now)
+doneBy s now ofTurn ids = ids ++ idsOf (outOfPlaces s now)
 doneBy s now ofNeither ids = ids
 
 -- an order goes out: one more moment; its bytes are read from the log as the call left it
@@ -318,7 +344,7 @@ abbrev pub Living : Table → Table → ℕ → ℕ → Type 0
 Living t keys g k =
     (0 < length (mailboxAt t g k) + length (handAt t g k) → given keys g k ≡ true) × (length (handAt t g k) ≤ 1)
 
--- what an opening hands back: the messages in pending, in order, each with log id, group and body
+-- what an opening hands back: the messages in pending, in order, each with log id, group, body and attempts
 abbrev pub handedBack : State → List Message
 handedBack s = handed (s .store) (s .links) (s .rows)
 
@@ -338,7 +364,8 @@ pub record NextOpening (l next : Lent) (file : List ℕ) : Type 0 where
   pub keys : length (next .keys) ≡ ROWS
   pub actors : length (next .actors) ≡ SLOTS
 
--- every next opening of a file is accepted, and hands back the messages of one of these moments
+-- every next opening of a file is accepted, and hands back the messages of one of these moments, with the attempts that
+-- each had then
 pub record Reopens (l : Lent) (file : List ℕ) (moments : List (List Message)) : Type 0 where
   -- the file fits into the lent log
   pub fits : length file ≤ length (l .bytes)
@@ -360,6 +387,8 @@ pub record Holds (l : Lent) (w : World) : Type 0 where
   -- nobody who is not there holds a message, in any of the 8 groups of 16 keys; the step's hand holds at most one
   pub living : (g k : ℕ) → g < GROUPS → k < KEYS → Living (w .state .links) (w .state .keys) g k
   pub hand : length (view (w .state .links) HAND) ≤ 1
+  -- the attempts that the log has of a message are never more than those that the pool has
+  pub tried : AllTried (w .state .links) (w .state .rows) (w .journal .now)
   -- wherever the power fails, whichever file the write rule allows: a moment up to the cut, and no earlier than the
   -- last confirmed flush or replace
   pub safe : (file : List ℕ) → disk.Possible (w .journal .disk) file
@@ -434,14 +463,31 @@ pub record RefusedSame : Type 0 where
   pub openings : (l : Lent) → accepted (openOf l .answer) ≡ false → Untouched l (openOf l .state)
   pub calls : EveryCall CallRefusedSame
 
+-- the last message of pending is logged and not done, and its row says attempts that a retry line can say
+pub record LastTried (s : State) (now : List Message) : Type 0 where
+  pub entry : ℕ
+  pub last : lastIn (view (s .links) PENDING) ≡ found.Entry entry
+  pub id : LogId
+  pub own : messageAt (s .rows) entry .id ≡ logged.As id
+  pub among : 0 < count (id .0) (idsOf now)
+  pub told : 0 < messageAt (s .rows) entry .attempts
+  pub most : messageAt (s .rows) entry .attempts ≤ ATTEMPTS
+
+-- what a turn or a reply orders: it takes off exactly as many messages as it has orders, one or none, so that each such
+-- order marks one message, and without an order none is gone; or its order is a retry, of the last message of pending,
+-- and none is gone
+abbrev pub TurnFits : State → List Message → Shown → Type 0
+TurnFits s now o =
+    (length (outOfPlaces s now) ≡ ordersIn o)
+    ⊎ ((ordersIn o ≡ 1) × (length (outOfPlaces s now) ≡ 0) × LastTried s now)
+
 -- What an accepted call orders. An admission for which no caller waits has an order: it is logged. One with a caller,
--- and a close, have none. A turn or a reply takes off exactly as many messages as it has orders, one or none: each of
--- its orders marks one message, and without an order none is gone. A sync has a flush or nothing.
+-- and a close, have none. A turn or a reply has a mark, a retry or nothing. A sync has a flush or nothing.
 abbrev pub OrderFits : World → Call → State → Shown → Type 0
 OrderFits w (admit name body caller.Nobody) s o = ordersIn o ≡ 1
 OrderFits w (admit name body (caller.From who)) s o = ordersIn o ≡ 0
-OrderFits w turn s o = length (outOfPlaces s (w .journal .now)) ≡ ordersIn o
-OrderFits w (reply r name body) s o = length (outOfPlaces s (w .journal .now)) ≡ ordersIn o
+OrderFits w turn s o = TurnFits s (w .journal .now) o
+OrderFits w (reply r name body) s o = TurnFits s (w .journal .now) o
 OrderFits w sync s o = (o ≡ nothing) ⊎ (o ≡ shows Flush)
 OrderFits w close s o = ordersIn o ≡ 0
 

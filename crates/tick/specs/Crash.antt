@@ -88,6 +88,16 @@ abbrev pub crashedFound : Table → Dying → ℕ → ℕ → Found → Dying
 crashedFound groups x g from (found.Entry e) = crashedEntry groups x g from e
 crashedFound groups x g from found.Nothing = x
 
+-- the entry that was found is tried again if its message crashes: its attempts are below the group's retries
+abbrev pub againFound : Table → Table → ℕ → Found → Found
+againFound groups rows g (found.Entry e) =
+    pick (ltb (messageAt rows e .attempts) (groupAt groups g .retry)) (found.Entry e) found.Nothing
+againFound groups rows g found.Nothing = found.Nothing
+
+-- the first message of a list, if it is tried again when it crashes; where it would be dead, or there is none, nothing
+unfoldable pub againFirst : Table → Table → Table → ℕ → ℕ → Found
+againFirst groups t rows g from = againFound groups rows g (firstOf t from)
+
 -- the first message of a list crashed, where there is one
 unfoldable pub handleCrash : Table → Dying → ℕ → ℕ → Dying
 handleCrash groups x g from = crashedFound groups x g from (firstOf (x .links) from)

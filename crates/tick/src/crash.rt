@@ -3,6 +3,7 @@
 ghost use mathlib.Core.Path.{_≡_};
 ghost use Rattle.points.specs.Words.{atOf};
 ghost use Rattle.tick.specs.Crash.{
+  againFirst,
   crashedEntry,
   handleCrash,
   crashOf,
@@ -47,6 +48,30 @@ pub struct Crashed {
     pub at: Where,
     pub queued: u64,
     pub losses: Losses,
+}
+
+// The first message of a list, if it is tried again when it crashes.
+pub fn again_first(
+    groups: &[GroupRow],
+    links: &[LinkRow],
+    rows: &[MessageRow],
+    g: usize,
+    from: usize,
+) -> Found
+    ensures { λ r.
+        ⌜ r ≡ againFirst (now (groups .entry)) (now (links .entry)) (now (rows .entry)) g from ⌝ }
+{
+    match lists::first(links, from) {
+        Found::Entry(e) => {
+            let s = settings::group_at(groups, g);
+            let attempts = message::attempts_at(rows, e);
+            if attempts < s.retry {
+                return Found::Entry(e);
+            }
+            Found::Nothing
+        }
+        Found::Nothing => Found::Nothing,
+    }
 }
 
 // The first message of a list crashed: it is tried again up to the group's retries, else dead and over. The number of

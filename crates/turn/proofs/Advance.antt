@@ -13,6 +13,8 @@ use Rattle.lists.specs.declared.keys.Key.{Key}
 use Rattle.lists.specs.declared.keys.Key.the-variants as key
 use Rattle.lists.specs.Links.{pick, Table, lenOf, capped, mailboxOf, firstOf, INBOX, PENDING, BATCH}
 use Rattle.lists.specs.KeyLists.{keysAt, countOf, frontOf, popFront}
+use Rattle.actor.specs.declared.message.Logged.{Logged}
+use Rattle.actor.specs.declared.message.Logged.the-variants as logged
 use Rattle.actor.specs.declared.state.Mode.{Mode}
 use Rattle.actor.specs.declared.state.Mode.the-variants as mode
 use Rattle.actor.specs.Messages.{messageAt}
@@ -51,6 +53,7 @@ use Rattle.turn.specs.declared.state.Disk.the-variants as disk
 use Rattle.turn.specs.State.{State, isFree, runsAt, runningOf}
 use Rattle.turn.specs.Go.{goOf}
 use Rattle.turn.specs.Weight.{popsLeft, weightAt, weightIn, weightBy, weightOf}
+use Rattle.turn.specs.Retry.{againAt, retryLogged, retryEntry, ranOf}
 use Rattle.turn.specs.Step.{markAt, goFree, stepAt, turnStep, advanceOf, advanced}
 use Rattle.turn.specs.Advance.{GoesOn, here, step, Stops, Advances, AdvancesOnly}
 use Rattle.group.specs.Roster.{turnTables, keyed, mailed}
@@ -365,13 +368,29 @@ weight-free disk.Free a m = refl
 weight-free (disk.Waits o w) a m = absurd (false≢true m)
 weight-free disk.Failed a m = absurd (false≢true m)
 
+-- writing what was tried again leaves the turn where it stands
+retried-stands : (s : State) (l : Logged) (n : ℕ) → retryLogged s l n .pool .turn .at ≡ s .pool .turn .at
+unfolding retryLogged
+retried-stands s (logged.As id) n = refl
+retried-stands s logged.Never n = refl
+
+entry-stands : (s : State) (f : Found) → retryEntry s f .pool .turn .at ≡ s .pool .turn .at
+unfolding retryEntry
+entry-stands s (found.Entry e) = retried-stands s (messageAt (s .rows) e .id) (messageAt (s .rows) e .attempts)
+entry-stands s found.Nothing = refl
+
+pub ran-stands : (s : State) (p : Point) → ranOf s p .pool .turn .at ≡ goOf s p .pool .turn .at
+unfolding ranOf
+ran-stands s p = entry-stands (goOf s p) (againAt s p)
+
 free-falls : (s : State) (p : Point) → weightOf (goFree s p .pool .turn) < 1 + weightAt p
 unfolding weightOf
 free-falls s p =
     pick-rule (λ (v : State). weightOf (v .pool .turn) < 1 + weightAt p) (isFree (s .pool .turn .disk))
     (λ e. omega (
       arith,
-      weight-most (goOf s p .pool .turn .disk) (goOf s p .pool .turn .at),
+      weight-most (ranOf s p .pool .turn .disk) (ranOf s p .pool .turn .at),
+      ap weightIn (ran-stands s p),
       go-falls s p,
     ))
     (λ e. omega (arith, weight-stopped (s .pool .turn .disk) (s .pool .turn .at) e))

@@ -9,7 +9,7 @@ use Rattle.log.specs.declared.Due.{Due}
 use Rattle.log.specs.declared.AnsweredDue.{AnsweredDue}
 use Rattle.log.specs.declared.Answer.{Answer}
 use Rattle.log.specs.declared.Answered.{Answered}
-use Rattle.log.specs.Log.{state, DidAppend, DidMark, appendOf, markOf, syncLog}
+use Rattle.log.specs.Log.{state, DidAppend, DidMark, appendOf, markOf, retryOf, syncLog}
 use Rattle.turn.specs.declared.logged.LogStep.{LogStep}
 use Rattle.turn.specs.declared.logged.LogAppend.{LogAppend}
 use Rattle.turn.specs.Words.{dueOf}
@@ -34,6 +34,16 @@ pub marked-log : (bytes bytes' : List ℕ) (records records' : Table) (before : 
     → _≡_ {A = DidMark} (record { wal = state bytes' records' (r .counters); due = dueOf (r .due) })
     (markOf limit (state bytes records before) (id .0))
 marked-log bytes bytes' records records' before limit id n d r did said =
+    ap (λ (x : AnsweredDue). record { wal = state bytes' records' (x .counters); due = x .due }) said ∙ did
+
+pub retried-log : (bytes bytes' : List ℕ) (records records' : Table) (before : Counters) (id : LogId) (attempts : ℕ)
+    (n : Counters) (d : Due) (r : LogStep)
+    → _≡_ {A = DidMark} (record { wal = state bytes' records' n; due = d })
+    (retryOf (state bytes records before) (id .0) attempts)
+    → steppedOf r ≡ steppedAs n d
+    → _≡_ {A = DidMark} (record { wal = state bytes' records' (r .counters); due = dueOf (r .due) })
+    (retryOf (state bytes records before) (id .0) attempts)
+retried-log bytes bytes' records records' before id attempts n d r did said =
     ap (λ (x : AnsweredDue). record { wal = state bytes' records' (x .counters); due = x .due }) said ∙ did
 
 pub synced-log : (before n : Counters) (d : Due) (r : LogStep)

@@ -3,6 +3,7 @@ pub mod State
 pub mod Words
 pub mod Logged
 pub mod Go
+pub mod Retry
 pub mod Weight
 pub mod Step
 pub mod Advance

@@ -16,11 +16,11 @@ unfoldable pub appendAnswer : Due → Refusal → Answer
 appendAnswer (due.Ordered o) r = answer.Ordered o
 appendAnswer due.Nothing r = answer.Refused r
 
--- after a mark or a sync
+-- after a mark, a retry or a sync
 abbrev pub steppedOf : LogStep → AnsweredDue
 steppedOf w = record { counters = w .counters; due = dueOf (w .due) }
 
--- the log's counters after a mark or a sync, and the order that is due, if any
+-- the log's counters after a mark, a retry or a sync, and the order that is due, if any
 abbrev pub steppedAs : Counters → Due → AnsweredDue
 steppedAs n d = record { counters = n; due = d }
 

@@ -14,7 +14,7 @@ use Rattle.points.specs.declared.at.Point.{Point}
 use Rattle.turn.specs.declared.state.OrderFor.the-variants as orderFor
 use Rattle.turn.specs.State.{State, walOf, withPool, withLinks, withLog, withDisk, diskFor, isFree, marksAt}
 use Rattle.turn.specs.State.{runningOf}
-use Rattle.turn.specs.Go.{goOf}
+use Rattle.turn.specs.Retry.{ranOf}
 use Rattle.turn.specs.Weight.{weightOf}
 
 -- ---- marks
@@ -45,9 +45,9 @@ markFirst s = markEntry s (firstOf (s .links) OVER)
 abbrev pub markAt : State → Point → State
 markAt s p = pick (marksAt p) (markFirst s) s
 
--- the point runs, unless an order waits or failed
+-- the point runs, and what it tried again is written, unless an order waits or failed
 abbrev pub goFree : State → Point → State
-goFree s p = pick (isFree (s .pool .turn .disk)) (goOf s p) s
+goFree s p = pick (isFree (s .pool .turn .disk)) (ranOf s p) s
 
 -- at a point the first message that is over gets its mark, if the point has marks, and then the point runs, if the
 -- disk is free; at rest and at a question nothing changes

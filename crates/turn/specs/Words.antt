@@ -56,9 +56,12 @@ diskKindOf n = pick (eqb n 0) diskKind.Free (pick (eqb n 4) diskKind.Failed disk
 abbrev pub orderIn : DiskWords → Order
 orderIn w = orderOf (record { order = w .disk; from = w .from; to = w .to })
 
--- what it is for: 0 a record, 1 the mark of a message, any other number neither
+-- what it is for: 0 a record, 1 the mark of a message, 3 the retry of a message, any other number none of these
 unfoldable pub orderForOf : ℕ → ℕ → OrderFor
-orderForOf n id = pick (eqb n 0) orderFor.Record (pick (eqb n 1) (orderFor.Mark (record { 0 = id })) orderFor.Nothing)
+orderForOf n id =
+    pick (eqb n 0) orderFor.Record
+    (pick (eqb n 1) (orderFor.Mark (record { 0 = id }))
+    (pick (eqb n 3) (orderFor.Retry (record { 0 = id })) orderFor.Nothing))
 
 -- by the kind: free, failed, or the words' order waits, for what the words say it is for
 abbrev pub diskBy : DiskKind → DiskWords → Disk

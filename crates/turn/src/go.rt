@@ -4,15 +4,23 @@ ghost use mathlib.Core.List.{List};
 ghost use Prim.Native.Nat.{ℕ};
 ghost use Rattle.lists.specs.Links.{Table};
 ghost use Rattle.points.specs.Words.{pointOf};
+ghost use Rattle.points.specs.declared.at.Point.the-variants as Point;
+ghost use Rattle.turn.specs.State.{Pool};
 ghost use Rattle.turn.specs.Words.{poolOf};
 ghost use Rattle.turn.specs.Go.{goOf};
+ghost use Rattle.turn.specs.Retry.{againAt};
 use crate::state;
 use crate::state::PoolCells;
 use actor::message::MessageRow;
 use actor::state::ActorRow;
+use group::roster;
 use group::settings::GroupRow;
+use lists::Found;
 use lists::LinkRow;
+use lists::keys;
+use lists::keys::Key;
 use lists::keys::KeyRow;
+use points::at::Cursor;
 use points::words;
 use points::words::PointKind;
 use points::words::Where;
@@ -23,6 +31,95 @@ use tick::crash;
 use tick::ready;
 use tick::settle;
 use tick::waking;
+
+// The message in the hand of the next trapped actor, if it is tried again when that is retired.
+fn again_trapped(
+    groups: &[GroupRow],
+    links: &[LinkRow],
+    rows: &[MessageRow],
+    keys: &[KeyRow],
+    c: Cursor,
+    left: u64,
+) -> Found
+    ensures { λ r. ⌜
+        ((pool : Pool) (bytes : List ℕ) (records : Table) (store : List ℕ) (actors : Table) →
+        r
+        ≡ againAt
+        (record {
+          pool = pool;
+          bytes = bytes;
+          records = records;
+          store = store;
+          groups = now (groups .entry);
+          links = now (links .entry);
+          rows = now (rows .entry);
+          keys = now (keys .entry);
+          actors = actors;
+        })
+        (Point.CrashTrapped c left))
+        ⌝ }
+{
+    if left == 0 {
+        return Found::Nothing;
+    }
+    match keys::front_at(keys, roster::TRAPPED) {
+        Key::At(key) => {
+            let slot = roster::slot_at(c.group, key);
+            let hand = lists::hand(slot);
+            crash::again_first(groups, links, rows, c.group, hand)
+        }
+        Key::Nothing => Found::Nothing,
+    }
+}
+
+// The message that a point tries again, if any, whatever the pool, the log and the actors are.
+pub(crate) fn again_at(
+    groups: &[GroupRow],
+    links: &[LinkRow],
+    rows: &[MessageRow],
+    keys: &[KeyRow],
+    w: Where,
+) -> Found
+    ensures { λ r. ⌜
+        ((pool : Pool) (bytes : List ℕ) (records : Table) (store : List ℕ) (actors : Table) →
+        r
+        ≡ againAt
+        (record {
+          pool = pool;
+          bytes = bytes;
+          records = records;
+          store = store;
+          groups = now (groups .entry);
+          links = now (links .entry);
+          rows = now (rows .entry);
+          keys = now (keys .entry);
+          actors = actors;
+        })
+        (pointOf w))
+        ⌝ }
+{
+    let point = words::point_kind(w.place);
+    match point {
+        PointKind::Seed => Found::Nothing,
+        PointKind::Intake => Found::Nothing,
+        PointKind::Route => Found::Nothing,
+        PointKind::Wake => Found::Nothing,
+        PointKind::WakeNext => Found::Nothing,
+        PointKind::Ready => Found::Nothing,
+        PointKind::FixedEnd => Found::Nothing,
+        PointKind::EvalEnd => Found::Nothing,
+        PointKind::Settle => Found::Nothing,
+        PointKind::Crash => {
+            let c = words::cursor_of(w);
+            crash::again_first(groups, links, rows, c.group, lists::HAND)
+        }
+        PointKind::AskTrap => Found::Nothing,
+        PointKind::CrashTrapped => {
+            let c = words::cursor_of(w);
+            again_trapped(groups, links, rows, keys, c, w.more)
+        }
+    }
+}
 
 // A point of a turn that runs, whatever the log is.
 pub(crate) fn go(

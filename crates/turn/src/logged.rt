@@ -1,7 +1,7 @@
 // The log's calls as the pool makes them: on a copy of its counters, lent to the log by `&mut`, with what the log
 // answers handed on as words. What each does is the log's own definition.
 ghost use mathlib.Core.Path.{_≡_};
-ghost use Rattle.log.specs.Log.{state, appendOf, markOf, syncLog};
+ghost use Rattle.log.specs.Log.{state, appendOf, markOf, retryOf, syncLog};
 ghost use Rattle.turn.specs.Words.{dueOf};
 ghost use Rattle.turn.specs.Logged.{appendAnswer, steppedOf, steppedAs, appendedOf, appendedAs};
 use crate::state;
@@ -14,7 +14,7 @@ use log::RecordRow;
 use log::Refusal;
 use log::wal;
 
-// After a mark or a sync: the counters as they are now, and the order that is due.
+// After a mark, a retry or a sync: the counters as they are now, and the order that is due.
 pub struct LogStep {
     pub counters: Counters,
     pub due: OrderWords,
@@ -107,6 +107,24 @@ pub fn mark(
 {
     let mut counters = before;
     let due = wal::mark(&mut counters, log, records, limit, id);
+    stepped(counters, due)
+}
+
+// How often the message that was logged as `id` was tried is written.
+pub fn retry(
+    log: &mut [u8],
+    records: &mut [RecordRow],
+    before: Counters,
+    id: LogId,
+    attempts: u64,
+) -> LogStep
+    ensures { λ r. ⌜
+        record { wal = state (now (log .exit)) (now (records .exit)) (r .counters); due = dueOf (r .due) }
+        ≡ retryOf (state (now (log .entry)) (now (records .entry)) before) (id .0) attempts
+        ⌝ }
+{
+    let mut counters = before;
+    let due = wal::retry(&mut counters, log, records, id, attempts);
     stepped(counters, due)
 }
 

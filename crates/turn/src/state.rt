@@ -19,10 +19,11 @@ use points::words::PointKind;
 use points::words::Where;
 use tick::crash::Losses;
 
-// What an order is for: a new record, the mark of a message, or neither.
+// What an order is for: a new record, the mark of a message, the retry of a message, or none of these.
 pub enum OrderFor {
     Record,
     Mark(LogId),
+    Retry(LogId),
     Nothing,
 }
 
@@ -61,6 +62,8 @@ pub const MARK: u64 = 1;
 
 pub const NOTHING: u64 = 2;
 
+pub const RETRY: u64 = 3;
+
 // An order that may be due, as words.
 pub struct OrderWords {
     // one of the numbers above
@@ -77,7 +80,7 @@ pub struct DiskWords {
     // as in `OrderWords`
     pub from: usize,
     pub to: usize,
-    // what the order is for, and the message that a mark is for
+    // what the order is for, and the message that a mark or a retry is for
     pub what: u64,
     pub id: u64,
 }

@@ -1,8 +1,10 @@
 //! Checks that the comparison catches slips: in what the port wrote, in what the plain program does and how it reads
-//! ids, and in what the Rust is expected to do. Each slip is tried on many cases.
+//! ids and attempts, and in what the Rust is expected to do. Each slip is tried on many cases.
+mod attempts;
 mod bytes;
 mod ids;
 mod program;
+mod retries;
 #[cfg(oracle)]
 mod rust;
 
@@ -10,13 +12,16 @@ use super::seen::Seen;
 use super::{Given, lockstep};
 use crate::generate::case::{self, Case};
 use crate::lent::Lent;
+use crate::model::log::Reading;
+use crate::model::pool::Pool;
 use crate::rng::Rng;
+use std::cell::Cell;
 use std::path::Path;
 
 /// Calls of a list in which slips are made, at most: what the port wrote is copied for each.
 const MOST_CALLS: usize = 400;
-/// Openings with slips in how an id is read, for each case.
-const OPENINGS: u64 = 10;
+/// Openings with slips in how ids and attempts are read, for each case.
+const OPENINGS: u64 = 20;
 
 /// What became of one slip: how often it could be made, and how often it was caught.
 pub struct Tried {
@@ -52,65 +57,125 @@ impl Tried {
     }
 }
 
-/// Makes every slip in each of `cases` cases.
+/// Makes every slip in each of `cases` cases, and in as many in which logged messages crash.
 pub fn run(cases: u64, seed: u64, path: &Path) -> Vec<Tried> {
-    let mut lent = Lent::default();
-    let mut bytes: Vec<Tried> = bytes::SLIPS.iter().map(|(name, _)| Tried::new(name, false)).collect();
-    let mut program: Vec<Tried> = program::SLIPS.iter().map(|(name, _)| Tried::new(name, true)).collect();
-    #[cfg(oracle)]
-    let mut rust = rust::Slips::new();
+    let mut slips = Slips::new();
     for number in 0..cases {
         let number = seed.wrapping_mul(1 << 32).wrapping_add(number);
-        let case = Case::new(number);
-        let given = Given::new(number, &case);
-        // A run that fails is none of the comparison's slips; the cases show it.
-        let Ok(run) = given.run(&mut lent) else { continue };
-        if case.calls.len() > MOST_CALLS {
-            continue;
+        slips.case(number, &Case::new(number), path);
+        slips.case(number, &crashing(number), path);
+    }
+    let misread = misread(cases * OPENINGS, seed, &mut slips.lent);
+    crate::met::take();
+    slips.tried().into_iter().chain(misread).collect()
+}
+
+/// A case in which logged messages crash: on a file of records, or on one that has attempts too.
+fn crashing(number: u64) -> Case {
+    let rng = &mut Rng::new(!number);
+    if number.is_multiple_of(2) { Case::retrying(rng) } else { Case::retried(rng) }
+}
+
+/// The slips that are made in whole cases.
+struct Slips {
+    lent: Lent,
+    bytes: Vec<Tried>,
+    program: Vec<Tried>,
+    retries: Vec<Tried>,
+    #[cfg(oracle)]
+    rust: rust::Slips,
+}
+
+impl Slips {
+    fn new() -> Slips {
+        Slips {
+            lent: Lent::default(),
+            bytes: bytes::SLIPS.iter().map(|(name, _)| Tried::new(name, false)).collect(),
+            program: program::SLIPS.iter().map(|(name, _)| Tried::new(name, true)).collect(),
+            retries: retries::SLIPS.iter().map(|(name, _)| Tried::new(name, false)).collect(),
+            #[cfg(oracle)]
+            rust: rust::Slips::new(),
         }
+    }
+
+    /// Makes every slip in a case. Where the port's run fails, none is made; the cases show it.
+    fn case(&mut self, number: u64, case: &Case, path: &Path) {
+        if case.calls.len() > MOST_CALLS {
+            return;
+        }
+        let given = Given::new(number, case);
+        let Ok(run) = given.run(&mut self.lent) else { return };
         let rng = &mut Rng::new(!number);
-        for (tried, (_, slip)) in bytes.iter_mut().zip(bytes::SLIPS) {
+        for (tried, (_, slip)) in self.bytes.iter_mut().zip(bytes::SLIPS) {
             let mut slipped = bytes::Slipped::new(&run);
             if slip(&mut slipped, rng).is_some() {
                 let slipped = slipped.run(given.script.show());
-                let result = slipped.and_then(|run| lockstep::check(&case, given.calls, &run, &mut Seen::default()));
+                let result = slipped.and_then(|run| lockstep::check(case, given.calls, &run, &mut Seen::default()));
                 tried.count(number, result.is_err());
             }
         }
-        for (tried, (_, slip)) in program.iter_mut().zip(program::SLIPS) {
-            let result = lockstep::check_slipped(&case, given.calls, &run, slip, &mut Seen::default());
+        for (tried, (_, slip)) in self.program.iter_mut().zip(program::SLIPS) {
+            let result = lockstep::check_slipped(case, given.calls, &run, slip, &mut Seen::default());
             tried.count(number, result.is_err());
         }
+        for (tried, (_, slip)) in self.retries.iter_mut().zip(retries::SLIPS) {
+            let made = Cell::new(false);
+            let slips = |pool: &mut Pool| made.set(slip(pool) || made.get());
+            let result = lockstep::check_slipped(case, given.calls, &run, &slips, &mut Seen::default());
+            if made.get() {
+                tried.count(number, result.is_err());
+            }
+        }
         #[cfg(oracle)]
-        rust.case(number, &case, path, rng);
+        self.rust.case(number, case, path, rng);
+        #[cfg(not(oracle))]
+        let _ = path;
     }
-    #[cfg(not(oracle))]
-    let _ = path;
-    bytes.extend(program);
-    bytes.extend(misread(cases * OPENINGS, seed, &mut lent));
-    #[cfg(oracle)]
-    bytes.extend(rust.tried());
-    crate::met::take();
-    bytes
+
+    fn tried(self) -> Vec<Tried> {
+        let mut tried = self.bytes;
+        tried.extend(self.program);
+        tried.extend(self.retries);
+        #[cfg(oracle)]
+        tried.extend(self.rust.tried());
+        tried
+    }
 }
 
-/// Makes every slip in how an id is read, in those of so many openings where it makes a difference. They are outside
-/// the domain of equality, since ids have any spelling.
+/// Every slip in how a file is read, by its name.
+fn readers() -> Vec<(&'static str, Box<Slipping>)> {
+    let mut readers: Vec<(&'static str, Box<Slipping>)> = Vec::new();
+    for &(name, slip) in ids::SLIPS {
+        readers.push((name, Box::new(move |file| ids::read(file, slip))));
+    }
+    for &(name, slip) in attempts::SLIPS {
+        readers.push((name, Box::new(move |file| attempts::read(file, slip))));
+    }
+    readers.push(("attempts may be torn", Box::new(attempts::read_torn)));
+    readers
+}
+
+/// A reader of a file that slips.
+type Slipping = dyn Fn(&[u8]) -> Result<Reading, u8>;
+
+/// Makes every slip in how a file is read, in those of so many openings where it makes a difference. They are outside
+/// the domain of equality, since ids have any spelling, and messages have attempts.
 fn misread(openings: u64, seed: u64, lent: &mut Lent) -> Vec<Tried> {
-    let mut ids: Vec<Tried> = ids::SLIPS.iter().map(|(name, _)| Tried::new(name, false)).collect();
+    let readers = readers();
+    let mut tried: Vec<Tried> = readers.iter().map(|(name, _)| Tried::new(name, false)).collect();
     for number in 0..openings {
         let number = seed.wrapping_mul(1 << 32).wrapping_add(number);
-        let mut case = Case::outside(&mut Rng::new(number));
+        let rng = &mut Rng::new(number);
+        let mut case = if number.is_multiple_of(2) { Case::outside(rng) } else { Case::retried(rng) };
         case.calls.clear();
         let given = Given::new(number, &case);
         let Ok(run) = given.run(lent) else { continue };
-        for (tried, (_, slip)) in ids.iter_mut().zip(ids::SLIPS) {
-            let reads = |file: &[u8]| ids::read(file, *slip);
-            if case::open_by(&reads, &case) != case::open(&case) {
-                let result = lockstep::check_misread(&case, given.calls, &run, &reads, &mut Seen::default());
+        for (tried, (_, reads)) in tried.iter_mut().zip(&readers) {
+            if case::open_by(reads, &case) != case::open(&case) {
+                let result = lockstep::check_misread(&case, given.calls, &run, reads, &mut Seen::default());
                 tried.count(number, result.is_err());
             }
         }
     }
-    ids
+    tried
 }

@@ -5,6 +5,7 @@ use crate::model::pool::Settings;
 use crate::oracle::run::run;
 use crate::rng::Rng;
 use crate::trace::{Asked, Event, Trace};
+use crate::view::{FileView, LeftView, LogView};
 use std::path::Path;
 
 /// A slip in the expected events: None where there is nothing that it could be made in.
@@ -13,6 +14,21 @@ type TraceSlip = fn(&mut Vec<Event>, &mut Rng) -> Option<()>;
 const TRACE_SLIPS: &[(&str, TraceSlip)] = &[
     ("Rust: another interpreter is asked", |events, rng| other_question(events, rng)),
     ("Rust: the log at a question has another byte", |events, rng| other_log(events, rng)),
+    ("Rust: after a retry the log lacks a message", |events, rng| {
+        other_left(events, rng, |left, at| drop(left.remove(at)))
+    }),
+    ("Rust: after a retry the log has a message under another id", |events, rng| {
+        other_left(events, rng, |left, at| left[at].id += 1)
+    }),
+    ("Rust: after a retry the log has another body", |events, rng| {
+        other_left(events, rng, |left, at| left[at].body.push(b'x'))
+    }),
+    ("Rust: after a retry a flush is due, or is not", |events, rng| {
+        let at = any(events, rng, |event| left(event).is_some())?;
+        let log = events[at].log_mut().expect("a log");
+        log.dirty = !log.dirty;
+        Some(())
+    }),
     ("Rust: a delivery is left out", |events, rng| {
         leave_out(events, rng, |event| matches!(event, Event::Deliver { .. }))
     }),
@@ -131,11 +147,34 @@ fn other_question(events: &mut [Event], rng: &mut Rng) -> Option<()> {
 }
 
 fn other_log(events: &mut [Event], rng: &mut Rng) -> Option<()> {
-    let at = any(events, rng, |event| matches!(event, Event::Ask(_, log) if !log.bytes.is_empty()))?;
-    let Event::Ask(_, log) = &mut events[at] else { unreachable!() };
-    let byte = rng.below(log.bytes.len() as u64) as usize;
-    log.bytes[byte] ^= 1;
+    let at = any(events, rng, |event| bytes(event).is_some_and(|bytes| !bytes.is_empty()))?;
+    let Some(LogView { file: FileView::Bytes { bytes, .. }, .. }) = events[at].log_mut() else { unreachable!() };
+    let byte = rng.below(bytes.len() as u64) as usize;
+    bytes[byte] ^= 1;
     Some(())
+}
+
+/// The log's bytes at a question, where it is seen by them.
+fn bytes(event: &Event) -> Option<&[u8]> {
+    match event {
+        Event::Ask(_, LogView { file: FileView::Bytes { bytes, .. }, .. }) => Some(bytes),
+        _ => None,
+    }
+}
+
+/// A change of one of the messages that a log would hand back, at a place where it is seen by them.
+fn other_left(events: &mut [Event], rng: &mut Rng, change: impl Fn(&mut Vec<LeftView>, usize)) -> Option<()> {
+    let at = any(events, rng, |event| left(event).is_some_and(|left| !left.is_empty()))?;
+    let Some(LogView { file: FileView::Left(left), .. }) = events[at].log_mut() else { unreachable!() };
+    change(left, rng.below(left.len() as u64) as usize);
+    Some(())
+}
+
+fn left(event: &Event) -> Option<&[LeftView]> {
+    match event.log()?.file {
+        FileView::Left(ref left) => Some(left),
+        FileView::Bytes { .. } => None,
+    }
 }
 
 fn other_key(events: &mut [Event], rng: &mut Rng) -> Option<()> {

@@ -24,7 +24,7 @@ pub struct Cursor {
 }
 
 /// Where in the turn. The first half run on by themselves (between calls the pool stands there only while
-/// the order of a mark waits or has failed); at the second half a question is open.
+/// the order of a mark or of a retry waits or has failed); at the second half a question is open.
 #[derive(Clone, PartialEq, Eq, Debug)]
 pub enum At {
     Rest,
@@ -64,6 +64,15 @@ pub enum At {
 #[derive(Clone, PartialEq, Eq, Debug)]
 pub enum Event {
     Logged(LogId),
-    Delivered { g: usize, key: Key, message: Entry },
+    Delivered {
+        g: usize,
+        key: Key,
+        message: Entry,
+    },
     Marked(LogId),
+    /// The order of a retry's line.
+    Retried {
+        id: LogId,
+        attempts: u64,
+    },
 }

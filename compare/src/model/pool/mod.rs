@@ -58,9 +58,11 @@ pub struct Pool {
     pub stepped: bool,
     pub order: Option<Order>,
     pub at: At,
-    /// For the comparison: Boots answered yes, whether a rewrite was made for lack of space, what the last call did.
+    /// For the comparison: Boots answered yes, whether a record or a mark was a rewrite for lack of space, whether a
+    /// retry was ever ordered, what the last call did.
     pub boots: u64,
     pub lacked_space: bool,
+    pub retried: bool,
     pub events: Vec<Event>,
 }
 
@@ -103,11 +105,16 @@ pub fn open_by(reads: Reader, settings: &Settings, log: &[u8], n: usize, store: 
         at: At::Rest,
         boots: 0,
         lacked_space: false,
+        retried: false,
         events: Vec::new(),
     };
     for message in &reading.left {
-        met!("opening: a message left");
+        match message.attempts {
+            0 => met!("opening: a message left"),
+            _ => met!("opening: a message left, with its attempts"),
+        }
         let e = pool.keep(&message.name, &message.body, Source::HandedBack, None, Some(message.id));
+        pool.table[e].as_mut().unwrap().attempts = message.attempts;
         pool.pending.push_back(e);
     }
     Ok(pool)
@@ -135,7 +142,7 @@ impl Pool {
         self.lacked_space || self.groups.iter().any(Group::squeezed)
     }
 
-    /// Takes a free entry (which one is free; here the first).
+    /// Takes a free entry (which one is free; here the first). Its attempts are 0.
     fn keep(
         &mut self,
         name: &[u8],

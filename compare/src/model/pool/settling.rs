@@ -1,6 +1,7 @@
 //! What follows a step: where its actor goes, crashes, and the actors that were trapped with it.
-use super::{Actor, At, Cursor, Entry, Key, Pool, Step};
+use super::{Actor, At, Cursor, Entry, Event, Key, Pool, Step};
 use crate::met;
+use crate::model::log::{self, LogId, Order};
 use std::collections::VecDeque;
 
 impl Pool {
@@ -71,17 +72,21 @@ impl Pool {
         }
     }
 
-    /// After the marks of the dropped mail: the crash counts, and its message goes round again or is dead.
+    /// After the marks of the dropped mail: the crash counts, and its message goes round again or is dead. Before Trap
+    /// is asked, the order of the retry or of the mark goes out.
     pub(super) fn crash(&mut self, c: Cursor) -> At {
         self.crashes = self.crashes.saturating_add(1);
         match self.hand.take() {
             Some(e) => self.crashed(c.g, e),
             None => met!("crash: no message"),
         }
+        if self.order.is_some() {
+            met!("retry at AskTrap");
+        }
         At::AskTrap { c }
     }
 
-    /// A message whose actor crashed: again, or dead.
+    /// A message whose actor crashed: again, or dead. That it is tried again is written down.
     fn crashed(&mut self, g: usize, e: Entry) {
         let retry = self.settings.groups[g].retry;
         let message = self.table[e].as_mut().unwrap();
@@ -91,7 +96,12 @@ impl Pool {
                 _ => met!("crash: and once more"),
             }
             message.attempts += 1;
+            let (id, attempts) = (message.id, message.attempts);
             self.pending.push_back(e);
+            match id {
+                Some(id) => self.write_retry(id, attempts),
+                None => met!("retry: not logged"),
+            }
         } else {
             match retry {
                 0 => met!("crash: dead, no retry"),
@@ -102,7 +112,32 @@ impl Pool {
         }
     }
 
-    /// The next actor that was trapped with the failed one.
+    /// Orders the line of a retry, if it has room. If not, the log is as it was, and the message goes round all the
+    /// same.
+    fn write_retry(&mut self, id: LogId, attempts: u64) {
+        let before = self.attempts_in_log(id);
+        self.order = log::retry(&mut self.counters, &mut self.log, id, attempts);
+        match (self.order, before) {
+            (Some(Order::Append(..)), _) => met!("retry: a line behind the others"),
+            (Some(_), _) => met!("retry: a rewrite"),
+            (None, None) => met!("retry: an unknown id"),
+            (None, Some(0)) => met!("retry: no room"),
+            (None, Some(_)) => met!("retry: no room, and the log keeps the number before"),
+        }
+        if self.order.is_some() {
+            self.retried = true;
+            self.events.push(Event::Retried { id, attempts });
+        }
+    }
+
+    /// How often a message was tried as the log has it; None where its record is not open.
+    fn attempts_in_log(&self, id: LogId) -> Option<u64> {
+        let open = log::open_records(&self.log[..self.counters.size]);
+        open.into_iter().find(|record| record.id == id).map(|record| record.attempts)
+    }
+
+    /// The next actor that was trapped with the failed one. The order of its retry or of its mark goes out before the
+    /// next is retired.
     pub(super) fn crash_trapped(&mut self, c: Cursor, mut trapped: VecDeque<Key>) -> At {
         let Some(key) = trapped.pop_front() else {
             return At::Ready { g: c.g, now: c.now, pops: c.pops };
@@ -123,6 +158,11 @@ impl Pool {
                 self.crashed(c.g, e);
             }
             None => met!("crash_trapped: with none"),
+        }
+        match (self.order, trapped.is_empty()) {
+            (None, _) => {}
+            (Some(_), false) => met!("retry at CrashTrapped, more to retire"),
+            (Some(_), true) => met!("retry at CrashTrapped, the last"),
         }
         At::CrashTrapped { c, trapped }
     }

@@ -67,7 +67,7 @@ returns-3 c =
     let row-is = c .before .row-is in
     let if3 = c .if3 in
     let here = held (args .rows .now) (args .p .count) (row-place .result) (args .id) (pre .0) (sym (row-is .ensures) ∙ if3 .taken) in
-    (simp length-set (pre .0), (set-in (if1 .left) (if2 .left) refl (placed-same (args .rows .now) (args .p .count) (row-place .result) (row (args .id) (args .at) 0) (pre .0) (row-place .ensures) here), refl))
+    (simp length-set (pre .0), (set-in (if1 .left) (if2 .left) refl (placed-same (args .rows .now) (args .p .count) (row-place .result) (row (args .id) (args .at) 0 0) (pre .0) (row-place .ensures) here), refl))
 
 open-row-requires : tie.Need-open-row-requires
 open-row-requires c κs =
@@ -96,7 +96,7 @@ returns-4 c =
     let open-row = c .before .open-row in
     let rows = args .rows .now in
     let count = args .p .count in
-    let e = row (args .id) (args .at) 0 in
+    let e = row (args .id) (args .at) 0 0 in
     let i = row-place .result in
     let within : i ≤ count = omega (arith, row-place .ensures .within, length-take-le count rows (pre .0)) in
     (omega (arith, if4 .taken, open-row .kept .0), (set-in (if1 .left) (if2 .left) refl (ap (take (count + 1)) (open-row .ensures) ∙ (put-in rows i count e within (if4 .taken) ∙ sym (placed-in rows count i e (pre .0) (row-place .ensures) (sym (row-is .ensures) ∙ if3 .left)))), refl))
@@ -117,7 +117,7 @@ returns-5 c =
     let if5 = c .if5 in
     let rows = args .rows .now in
     let count = args .p .count in
-    let e = row (args .id) (args .at) 0 in
+    let e = row (args .id) (args .at) 0 0 in
     (pre .0, (evicted (if1 .left) (if2 .left) e (placed-last rows count (row-place .result) e (pre .0) (row-place .ensures) (sym (row-is .ensures) ∙ if3 .left) (if5 .taken)) refl (omega (arith, length-take-le count rows (pre .0), pre .1, if4 .left)), refl))
 
 sub-last : tie.Need-sub-last
@@ -154,7 +154,7 @@ returns-6 c =
     let open-row2 = c .before .open-row2 in
     let rows = args .rows .now in
     let count = args .p .count in
-    let e = row (args .id) (args .at) 0 in
+    let e = row (args .id) (args .at) 0 0 in
     let i = row-place .result in
     let full = in-full rows count (count - 1) i e (pre .0) (row-place .ensures) (sym (row-is .ensures) ∙ if3 .left) (omega (arith, if5 .left)) (omega (arith, if5 .left)) _ (open-row2 .ensures) in
     (omega (arith, pre .0, open-row2 .kept .0), (evicted (if1 .left) (if2 .left) (getD rows (count - 1) []) (full .0) refl (full .1), refl))

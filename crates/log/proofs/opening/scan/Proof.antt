@@ -114,10 +114,10 @@ abbrev ty : ℕ → Ty
 ty n = nth-ty n (code.function .locals)
 
 abbrev R : RattleType
-R = Array u64 3
+R = Array u64 4
 
 abbrev stayed : Stays (self.ended .signature .params) (self.ended .kept)
-stayed = (stay-slice (0 ∷ []) tt (ArrayOf (plain (λ _. u64)) (λ κs. tt) 3), (stay-none-slice (1 ∷ []) tt (plain (λ _. u8)) yes, (stay-none (λ _. u64) yes, tt)))
+stayed = (stay-slice (0 ∷ []) tt (ArrayOf (plain (λ _. u64)) (λ κs. tt) 4), (stay-none-slice (1 ∷ []) tt (plain (λ _. u8)) yes, (stay-none (λ _. u64) yes, tt)))
 
 -- the contracts that the proof cites
 module _ {M : Type 1} (𝓤 : URA M) (H : Heap 𝓤) (A : Atoms 𝓤) (mem : Memory → SProp 𝓤) (run : Routine → Fun 𝓤) where
@@ -400,7 +400,7 @@ module _ {M : Type 1} (𝓤 : URA M) (H : Heap 𝓤) (A : Atoms 𝓤) (W : Given
 
 meets : {M : Type 1} (𝓤 : URA M) (H : Heap 𝓤) (A : Atoms 𝓤) → Given 𝓤 H A → (mem : Memory → SProp 𝓤) (run : Routine → Fun 𝓤) (𝓣 : Tables 𝓤 H) → Triple 𝓤 (𝓣 .C #reader) (The-reader 𝓤 H A mem run) → Triple 𝓤 (𝓣 .C #next) (The-next 𝓤 H A mem run) → Triple 𝓤 (𝓣 .C #begin) (The-begin 𝓤 H A mem run) → Triple 𝓤 (𝓣 .C #take) (The-take 𝓤 H A mem run)
     → Meets 𝓤 H A self.signature (WpFn 𝓤 H (𝓣 .C) (𝓣 .Λ) code.function) (self.spec 𝓤 H A mem run)
-meets 𝓤 H A W mem run 𝓣 known-reader known-next known-begin known-take = walk-meets 𝓤 H A self.ended stayed W (goes-slice 𝓤 H A W 2 0 tt (ArrayOf (plain (λ _. u64)) (λ κs. tt) 3), (goes-none-slice 𝓤 H A W 2 (1 ∷ []) tt (plain (λ _. u8)) yes, (goes-none 𝓤 H A W 2 (λ _. u64) yes (λ κs x f. refl), tt))) (self.clauses 𝓤 H A mem run) (WpFn 𝓤 H (𝓣 .C) (𝓣 .Λ) code.function) (WpFn-mono 𝓤 H (W .laws) 𝓣 code.function)
+meets 𝓤 H A W mem run 𝓣 known-reader known-next known-begin known-take = walk-meets 𝓤 H A self.ended stayed W (goes-slice 𝓤 H A W 2 0 tt (ArrayOf (plain (λ _. u64)) (λ κs. tt) 4), (goes-none-slice 𝓤 H A W 2 (1 ∷ []) tt (plain (λ _. u8)) yes, (goes-none 𝓤 H A W 2 (λ _. u64) yes (λ κs x f. refl), tt))) (self.clauses 𝓤 H A mem run) (WpFn 𝓤 H (𝓣 .C) (𝓣 .Λ) code.function) (WpFn-mono 𝓤 H (W .laws) 𝓣 code.function)
     (walks 𝓤 H A W mem run 𝓣 known-reader known-next known-begin known-take)
 
 pub scan-spec : {M : Type 1} → stated.statement M

@@ -5,7 +5,7 @@ use Prim.Native.Nat.{_-_}
 use native.Mathlib.Omega.{arith}
 use borrow.Author.Needs.{needs}
 use lib.ListN.{getD, set}
-use Rattle.log.specs.Log.{row, rowId}
+use Rattle.log.specs.Log.{row, rowId, rowTried}
 use Rattle.log.specs.Opened.{storedAt}
 use Rattle.log.proofs.StoreLaws.{Storing, storing-ends, storing-line, storing-more}
 use Rattle.log.proofs.TableLaws.{next-row, last-row}
@@ -56,6 +56,9 @@ copy-row-requires c κs =
 array-read-set-row : tie.Need-array-read-set-row Inv-loop μ-loop
 array-read-set-row c = search needs
 
+array-read-set-row-2 : tie.Need-array-read-set-row-2 Inv-loop μ-loop
+array-read-set-row-2 c = search needs
+
 set-row-requires : tie.Need-set-row-requires Inv-loop μ-loop
 set-row-requires c κs = search needs
 
@@ -81,7 +84,7 @@ loop-again c =
     let here = next-row [] (args .rows .now) (args .count) (loop .i) (loop-test .taken) (omega (arith, loop-test .taken, pre .1)) in
     let r = getD (args .rows .now) (loop .i) [] in
     storing-more (loop .inv) r (loop-test .taken) (omega (arith, loop-test .taken, pre .0, pre .3, loop .inv .many)) here _ (omega (arith, loop-test .taken, pre .0, pre .2, loop .inv .long)) (copy-row .ensures .1)
-    _ (set-row .ensures ∙ ap (λ l. set (loop .left) (loop .i) (row (rowId r) (l .name) (l .body))) (copy-row .ensures .0))
+    _ (set-row .ensures ∙ ap (λ l. set (loop .left) (loop .i) (row (rowId r) (l .name) (l .body) (rowTried r))) (copy-row .ensures .0))
 
 same-length : tie.Need-same-length Inv-loop μ-loop
 same-length c =
@@ -113,6 +116,7 @@ store-rows-spec =
     mul-copy-row
     copy-row-requires
     array-read-set-row
+    array-read-set-row-2
     set-row-requires
     add-i
     loop-less

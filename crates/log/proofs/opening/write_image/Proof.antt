@@ -1,11 +1,11 @@
--- The loop keeps that the records left, written from here on, give the whole (`Imaging`).
+-- The loop keeps that the messages left, written from here on, give the whole (`Imaging`).
 use mathlib.Core.List.{[]}
 use mathlib.Core.Path.{refl}
 use Prim.Native.Nat.{_-_}
 use native.Mathlib.Omega.{arith}
 use borrow.Author.Needs.{needs}
 use lib.ListN.{getD}
-use Rattle.log.proofs.StoreLaws.{Imaging, imaging-ends, imaging-fits, size-fits, imaging-more}
+use Rattle.log.proofs.StoreLaws.{Imaging, imaging-ends, imaging-fits, size-fits, tries-fit, imaging-more}
 use Rattle.log.proofs.TableLaws.{next-row, last-row}
 use Rattle.log.proofs.opening.write_image.Statement.{statement}
 use Rattle.log.proofs.opening.write_image.Tie as tie
@@ -138,41 +138,35 @@ len-of-requires c κs = search needs
 array-read-set-row : tie.Need-array-read-set-row Inv-loop μ-loop
 array-read-set-row c = search needs
 
+array-read-set-row-2 : tie.Need-array-read-set-row-2 Inv-loop μ-loop
+array-read-set-row-2 c = search needs
+
 set-row-requires : tie.Need-set-row-requires Inv-loop μ-loop
 set-row-requires c κs = search needs
 
-add-p : tie.Need-add-p Inv-loop μ-loop
-add-p c =
-    let args = c .before .before .before .before .before .before .before .before .before .before .before .before .before .before .before .args in
-    let pre = c .before .before .before .before .before .before .before .before .before .before .before .before .before .before .before .pre in
-    let loop = c .before .before .before .before .before .before .before .before .before .before .before .before .loop in
-    let loop-test = c .before .before .before .before .before .before .before .before .before .before .before .loop-test in
-    let encode-record = c .before .before .before .before .before .before .encode-record in
-    let len-of = c .before .before .before .len-of in
-    let here = next-row [] (args .left .now) (args .count) (loop .i) (loop-test .taken) (omega (arith, loop-test .taken, pre .0)) in
-    omega (arith, size-fits (loop .inv) (getD (args .left .now) (loop .i) []) (loop-test .taken) (omega (arith, loop-test .taken, pre .1, pre .3, loop .inv .many)) here _ _ (encode-record .ensures) (len-of .result) (len-of .ensures))
+add-put-tries : tie.Need-add-put-tries Inv-loop μ-loop
+add-put-tries c = let here = next-row [] (c .before .before .before .before .before .before .before .before .before .before .before .before .before .before .before .before .args .left .now) (c .before .before .before .before .before .before .before .before .before .before .before .before .before .before .before .before .args .count) (c .before .before .before .before .before .before .before .before .before .before .before .before .before .loop .i) (c .before .before .before .before .before .before .before .before .before .before .before .before .loop-test .taken) (omega (arith, c .before .before .before .before .before .before .before .before .before .before .before .before .loop-test .taken, c .before .before .before .before .before .before .before .before .before .before .before .before .before .before .before .before .pre .0)) in
+    omega (arith, size-fits (c .before .before .before .before .before .before .before .before .before .before .before .before .before .loop .inv) (getD (c .before .before .before .before .before .before .before .before .before .before .before .before .before .before .before .before .args .left .now) (c .before .before .before .before .before .before .before .before .before .before .before .before .before .loop .i) []) (c .before .before .before .before .before .before .before .before .before .before .before .before .loop-test .taken) (omega (arith, c .before .before .before .before .before .before .before .before .before .before .before .before .loop-test .taken, c .before .before .before .before .before .before .before .before .before .before .before .before .before .before .before .before .pre .1, c .before .before .before .before .before .before .before .before .before .before .before .before .before .before .before .before .pre .3, c .before .before .before .before .before .before .before .before .before .before .before .before .before .loop .inv .many)) here _ _ (c .before .before .before .before .before .before .before .encode-record .ensures) (c .before .before .before .before .len-of .result) (c .before .before .before .before .len-of .ensures))
+
+array-read-put-tries : tie.Need-array-read-put-tries Inv-loop μ-loop
+array-read-put-tries c = search needs
+
+array-read-put-tries-2 : tie.Need-array-read-put-tries-2 Inv-loop μ-loop
+array-read-put-tries-2 c = search needs
+
+put-tries-requires : tie.Need-put-tries-requires Inv-loop μ-loop
+put-tries-requires c κs = let here = next-row [] (c .before .before .before .before .before .before .before .before .before .before .before .before .before .before .before .before .args .left .now) (c .before .before .before .before .before .before .before .before .before .before .before .before .before .before .before .before .args .count) (c .before .before .before .before .before .before .before .before .before .before .before .before .before .loop .i) (c .before .before .before .before .before .before .before .before .before .before .before .before .loop-test .taken) (omega (arith, c .before .before .before .before .before .before .before .before .before .before .before .before .loop-test .taken, c .before .before .before .before .before .before .before .before .before .before .before .before .before .before .before .before .pre .0)) in
+    tries-fit (c .before .before .before .before .before .before .before .before .before .before .before .before .before .loop .inv) (getD (c .before .before .before .before .before .before .before .before .before .before .before .before .before .before .before .before .args .left .now) (c .before .before .before .before .before .before .before .before .before .before .before .before .before .loop .i) []) (c .before .before .before .before .before .before .before .before .before .before .before .before .loop-test .taken) (omega (arith, c .before .before .before .before .before .before .before .before .before .before .before .before .loop-test .taken, c .before .before .before .before .before .before .before .before .before .before .before .before .before .before .before .before .pre .1, c .before .before .before .before .before .before .before .before .before .before .before .before .before .before .before .before .pre .3, c .before .before .before .before .before .before .before .before .before .before .before .before .before .loop .inv .many)) here _ _ (c .before .before .before .before .before .before .before .encode-record .ensures) (c .before .before .before .before .len-of .result) (c .before .before .before .before .len-of .ensures)
 
 add-i : tie.Need-add-i Inv-loop μ-loop
-add-i c =
-    let loop-test = c .before .before .before .before .before .before .before .before .before .before .before .loop-test in
-    omega (arith, loop-test .taken)
+add-i c = omega (arith, c .before .before .before .before .before .before .before .before .before .before .before .before .before .before .before .loop-test .taken)
 
 loop-less : tie.Need-loop-less Inv-loop μ-loop
-loop-less c =
-    let loop-test = c .before .before .before .before .before .before .before .before .before .before .before .loop-test in
-    omega (arith, loop-test .taken)
+loop-less c = omega (arith, c .before .before .before .before .before .before .before .before .before .before .before .before .before .before .before .loop-test .taken)
 
 loop-again : tie.Need-loop-again Inv-loop μ-loop
-loop-again c =
-    let args = c .before .before .before .before .before .before .before .before .before .before .before .before .before .before .before .args in
-    let pre = c .before .before .before .before .before .before .before .before .before .before .before .before .before .before .before .pre in
-    let loop = c .before .before .before .before .before .before .before .before .before .before .before .before .loop in
-    let loop-test = c .before .before .before .before .before .before .before .before .before .before .before .loop-test in
-    let encode-record = c .before .before .before .before .before .before .encode-record in
-    let len-of = c .before .before .before .len-of in
-    let set-row = c .before .set-row in
-    let here = next-row [] (args .left .now) (args .count) (loop .i) (loop-test .taken) (omega (arith, loop-test .taken, pre .0)) in
-    imaging-more (loop .inv) (getD (args .left .now) (loop .i) []) (loop-test .taken) (omega (arith, loop-test .taken, pre .1, pre .3, loop .inv .many)) here _ _ (encode-record .ensures) (len-of .result) (len-of .ensures) _ (set-row .ensures)
+loop-again c = let here = next-row [] (c .before .before .before .before .before .before .before .before .before .before .before .before .before .before .before .before .before .before .before .args .left .now) (c .before .before .before .before .before .before .before .before .before .before .before .before .before .before .before .before .before .before .before .args .count) (c .before .before .before .before .before .before .before .before .before .before .before .before .before .before .before .before .loop .i) (c .before .before .before .before .before .before .before .before .before .before .before .before .before .before .before .loop-test .taken) (omega (arith, c .before .before .before .before .before .before .before .before .before .before .before .before .before .before .before .loop-test .taken, c .before .before .before .before .before .before .before .before .before .before .before .before .before .before .before .before .before .before .before .pre .0)) in
+    imaging-more (c .before .before .before .before .before .before .before .before .before .before .before .before .before .before .before .before .loop .inv) (getD (c .before .before .before .before .before .before .before .before .before .before .before .before .before .before .before .before .before .before .before .args .left .now) (c .before .before .before .before .before .before .before .before .before .before .before .before .before .before .before .before .loop .i) []) (c .before .before .before .before .before .before .before .before .before .before .before .before .before .before .before .loop-test .taken) (omega (arith, c .before .before .before .before .before .before .before .before .before .before .before .before .before .before .before .loop-test .taken, c .before .before .before .before .before .before .before .before .before .before .before .before .before .before .before .before .before .before .before .pre .1, c .before .before .before .before .before .before .before .before .before .before .before .before .before .before .before .before .before .before .before .pre .3, c .before .before .before .before .before .before .before .before .before .before .before .before .before .before .before .before .loop .inv .many)) here _ _ (c .before .before .before .before .before .before .before .before .before .before .encode-record .ensures) (c .before .before .before .before .before .before .before .len-of .result) (c .before .before .before .before .before .before .before .len-of .ensures) _ _ (c .before .before .put-tries .ensures) _ (c .before .before .before .before .before .set-row .ensures)
 
 same-length : tie.Need-same-length Inv-loop μ-loop
 same-length c =
@@ -219,8 +213,12 @@ write-image-spec =
     encode-record-requires
     len-of-requires
     array-read-set-row
+    array-read-set-row-2
     set-row-requires
-    add-p
+    add-put-tries
+    array-read-put-tries
+    array-read-put-tries-2
+    put-tries-requires
     add-i
     loop-less
     loop-again

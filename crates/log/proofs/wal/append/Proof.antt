@@ -72,7 +72,7 @@ abbrev back : Answered → Val
 back r = only (LL.vals S.the-type S′.the-laws r)
 
 abbrev stayed : Stays (self.ended .signature .params) (self.ended .kept)
-stayed = (stay-ref (0 ∷ []) tt (plain (λ _. R)), (gave-slice (1 ∷ []) tt (plain (λ _. u8)), (gave-slice (2 ∷ []) tt (ArrayOf (plain (λ _. u64)) (λ κs. tt) 3), (stay-none-slice (3 ∷ []) tt (plain (λ _. u8)) yes, (stay-none-slice (4 ∷ []) tt (plain (λ _. u8)) yes, tt)))))
+stayed = (stay-ref (0 ∷ []) tt (plain (λ _. R)), (gave-slice (1 ∷ []) tt (plain (λ _. u8)), (gave-slice (2 ∷ []) tt (ArrayOf (plain (λ _. u64)) (λ κs. tt) 4), (stay-none-slice (3 ∷ []) tt (plain (λ _. u8)) yes, (stay-none-slice (4 ∷ []) tt (plain (λ _. u8)) yes, tt)))))
 
 -- the contract that the proof cites
 abbrev Callee : {M : Type 1} (𝓤 : URA M) (H : Heap 𝓤) (A : Atoms 𝓤) (mem : Memory → SProp 𝓤) (run : Routine → Fun 𝓤) → Contract 𝓤
@@ -118,18 +118,18 @@ module _ {M : Type 1} (𝓤 : URA M) (H : Heap 𝓤) (A : Atoms 𝓤) (W : Given
   to = (((κ1, (κ2, (κ3, (κ4, tt)))), (q1, (q2, (q3, (q4, tt)))), tt, (h, rest), (mach h ∷ [], rest-vals)), tt)
 
   asked : ent 𝓤 (onEntry 𝓤 H A callee.signature (κ1, (κ2, (κ3, (κ4, tt)))) (q1, (q2, (q3, (q4, tt)))) (h, rest) (mach h ∷ [], rest-vals)) (Callee 𝓤 H A at-mem run .pre to)
-  asked = qed W ((‵ (flft κ1 q1) ⊛ ‵ (flft κ2 q2) ⊛ ‵ (flft κ3 q3) ⊛ ‵ (flft κ4 q4) ⊛ ‵ ftrue) ∷ ‵ (owns (R ∷ MutSlice (named 1) κ1 u8 ∷ MutSlice (named 2) κ2 (Array u64 3) ∷ ShrSlice (named 3) κ3 u8 ∷ ShrSlice (named 4) κ4 u8 ∷ []) (h, rest) (mach h ∷ [], rest-vals)) ∷ []) ∵ join ! $ frame ! $ done !
+  asked = qed W ((‵ (flft κ1 q1) ⊛ ‵ (flft κ2 q2) ⊛ ‵ (flft κ3 q3) ⊛ ‵ (flft κ4 q4) ⊛ ‵ ftrue) ∷ ‵ (owns (R ∷ MutSlice (named 1) κ1 u8 ∷ MutSlice (named 2) κ2 (Array u64 4) ∷ ShrSlice (named 3) κ3 u8 ∷ ShrSlice (named 4) κ4 u8 ∷ []) (h, rest) (mach h ∷ [], rest-vals)) ∷ []) ∵ join ! $ frame ! $ done !
 
   -- what is left of the tokens and of the arguments gives what the callee asks, and of each `&` slice a copy is kept
-  goes : Is R h (mach h ∷ []) → ent 𝓤 (⋆ 𝓤 H A (‵ (owns (MutSlice (named 1) κ1 u8 ∷ MutSlice (named 2) κ2 (Array u64 3) ∷ ShrSlice (named 3) κ3 u8 ∷ ShrSlice (named 4) κ4 u8 ∷ []) rest rest-vals) ∷ (‵ (flft κ1 q1) ⊛ ‵ (flft κ2 q2) ⊛ ‵ (flft κ3 q3) ⊛ ‵ (flft κ4 q4) ⊛ ‵ ftrue) ∷ [])) (sep 𝓤 (Callee 𝓤 H A at-mem run .pre to) (sep 𝓤 (sem 𝓤 H A Own3) (sem 𝓤 H A Own4)))
+  goes : Is R h (mach h ∷ []) → ent 𝓤 (⋆ 𝓤 H A (‵ (owns (MutSlice (named 1) κ1 u8 ∷ MutSlice (named 2) κ2 (Array u64 4) ∷ ShrSlice (named 3) κ3 u8 ∷ ShrSlice (named 4) κ4 u8 ∷ []) rest rest-vals) ∷ (‵ (flft κ1 q1) ⊛ ‵ (flft κ2 q2) ⊛ ‵ (flft κ3 q3) ⊛ ‵ (flft κ4 q4) ⊛ ‵ ftrue) ∷ [])) (sep 𝓤 (Callee 𝓤 H A at-mem run .pre to) (sep 𝓤 (sem 𝓤 H A Own3) (sem 𝓤 H A Own4)))
   goes is =
-      qed W (‵ (owns (MutSlice (named 1) κ1 u8 ∷ MutSlice (named 2) κ2 (Array u64 3) ∷ ShrSlice (named 3) κ3 u8 ∷ ShrSlice (named 4) κ4 u8 ∷ []) rest rest-vals) ∷ (‵ (flft κ1 q1) ⊛ ‵ (flft κ2 q2) ⊛ ‵ (flft κ3 q3) ⊛ ‵ (flft κ4 q4) ⊛ ‵ ftrue) ∷ []) ∵
+      qed W (‵ (owns (MutSlice (named 1) κ1 u8 ∷ MutSlice (named 2) κ2 (Array u64 4) ∷ ShrSlice (named 3) κ3 u8 ∷ ShrSlice (named 4) κ4 u8 ∷ []) rest rest-vals) ∷ (‵ (flft κ1 q1) ⊛ ‵ (flft κ2 q2) ⊛ ‵ (flft κ3 q3) ⊛ ‵ (flft κ4 q4) ⊛ ‵ ftrue) ∷ []) ∵
       fsplit ! $ move ! (1 ∷ []) $ fsplit ! $ move ! (1 ∷ []) $ fsplit ! $ use1 W (‵ Own3 ⊛ ‵ Own3) (shr-slice-copy 𝓤 H A W (named 3) κ3 u8 .twice x3 (s3 ∷ [])) $ split ! $ move ! (2 ∷ []) $ fsplit ! $ use1 W (‵ Own4 ⊛ ‵ Own4) (shr-slice-copy 𝓤 H A W (named 4) κ4 u8 .twice x4 (s4 ∷ [])) $ split ! $ move ! (0 ∷ 2 ∷ []) $ fjoin ! $ move ! (2 ∷ 0 ∷ []) $ fjoin ! $ move ! (3 ∷ 0 ∷ []) $ fjoin ! $ move ! (3 ∷ 0 ∷ []) $ fjoin ! $ owned ! R (Is R) (LL.makes T.the-type T′.the-plain 𝓤 H A) h _ is $ fjoin ! $ move ! (3 ∷ 0 ∷ []) $ use2 W (raw (Callee 𝓤 H A at-mem run .pre to)) asked $ move ! (0 ∷ 2 ∷ 1 ∷ []) $ frame ! $ frame ! $ done !
 
   exits : (r : Answered) (u : Val) (z1 : List ℕ) (z2 : List (List ℕ)) → Is E.the-row (r .answer) (u ∷ []) → length z1 ≡ length (x1 .now) → length z2 ≡ length (x2 .now) → _≡_ {A = DidAppend} (record { wal = state z1 z2 (r .counters); answer = r .answer }) (appendOf (state (x1 .now) (x2 .now) h) (x3 .now) (x4 .now))
-      → ent 𝓤 (⋆ 𝓤 H A (‵ (fobs γ (R .coded .code (r .counters))) ∷ ‵ (fbor κ0 (Body (mem R) b o γ)) ∷ ‵ (flft κ0 q0) ∷ (‵ (flft κ1 q1) ⊛ ‵ (flft κ2 q2) ⊛ ‵ (flft κ3 q3) ⊛ ‵ (flft κ4 q4) ⊛ ‵ ftrue) ∷ ‵ (finally u8 (x1 .name) z1) ∷ ‵ (finally (Array u64 3) (x2 .name) z2) ∷ ‵ Own3 ∷ ‵ Own4 ∷ [])) (Post u)
+      → ent 𝓤 (⋆ 𝓤 H A (‵ (fobs γ (R .coded .code (r .counters))) ∷ ‵ (fbor κ0 (Body (mem R) b o γ)) ∷ ‵ (flft κ0 q0) ∷ (‵ (flft κ1 q1) ⊛ ‵ (flft κ2 q2) ⊛ ‵ (flft κ3 q3) ⊛ ‵ (flft κ4 q4) ⊛ ‵ ftrue) ∷ ‵ (finally u8 (x1 .name) z1) ∷ ‵ (finally (Array u64 4) (x2 .name) z2) ∷ ‵ Own3 ∷ ‵ Own4 ∷ [])) (Post u)
   exits r u z1 z2 is l1 l2 e =
-      qed W (‵ (fobs γ (R .coded .code (r .counters))) ∷ ‵ (fbor κ0 (Body (mem R) b o γ)) ∷ ‵ (flft κ0 q0) ∷ (‵ (flft κ1 q1) ⊛ ‵ (flft κ2 q2) ⊛ ‵ (flft κ3 q3) ⊛ ‵ (flft κ4 q4) ⊛ ‵ ftrue) ∷ ‵ (finally u8 (x1 .name) z1) ∷ ‵ (finally (Array u64 3) (x2 .name) z2) ∷ ‵ Own3 ∷ ‵ Own4 ∷ []) ∵
+      qed W (‵ (fobs γ (R .coded .code (r .counters))) ∷ ‵ (fbor κ0 (Body (mem R) b o γ)) ∷ ‵ (flft κ0 q0) ∷ (‵ (flft κ1 q1) ⊛ ‵ (flft κ2 q2) ⊛ ‵ (flft κ3 q3) ⊛ ‵ (flft κ4 q4) ⊛ ‵ ftrue) ∷ ‵ (finally u8 (x1 .name) z1) ∷ ‵ (finally (Array u64 4) (x2 .name) z2) ∷ ‵ Own3 ∷ ‵ Own4 ∷ []) ∵
       suffices ! _ (ends-at 𝓤 H A self.ended stayed (self.clauses 𝓤 H A at-mem run) W (((κ0, (κ1, (κ2, (κ3, (κ4, tt))))), (q0, (q1, (q2, (q3, (q4, tt))))), tt, x, at), tt) u (r .answer) (r .counters, (z1, (z2, (tt, (tt, tt))))) (tt, (l1, (l2, (tt, (tt, tt)))))) $ says ! e $
       move ! (2 ∷ 3 ∷ []) $ join ! $ frame ! $ feqI ! (List Val) (vptr b o ∷ []) (vptr b o ∷ []) refl $ fjoin3 ! $ nothing ! $ move ! (5 ∷ 0 ∷ []) $ fjoin ! $ move ! (4 ∷ 0 ∷ []) $ fjoin ! $ move ! (3 ∷ 0 ∷ []) $ fjoin ! $ move ! (2 ∷ 0 ∷ []) $ fjoin ! $ move ! (1 ∷ 0 ∷ []) $ fjoin ! $ owned ! E.the-row (Is E.the-row) (EL.makes E.the-type E′.the-plain 𝓤 H A) (r .answer) _ is $ move ! (1 ∷ 0 ∷ []) $ done !
 
@@ -138,9 +138,9 @@ module _ {M : Type 1} (𝓤 : URA M) (H : Heap 𝓤) (A : Atoms 𝓤) (W : Given
   back-is r u is = subst (λ (vs : List Val). Is S.the-row r vs) (LL.tells S.the-type S′.the-laws r (u ∷ []) is) is
 
   module _ (C : Calls 𝓤 H) (Λ : Loops 𝓤 H) (fm : FmC 𝓤 H (W .laws) C) (known : Triple 𝓤 (C #callee) (Callee 𝓤 H A at-mem run)) where
-    walk : Room u8 (length (x1 .now)) → Room (Array u64 3) (length (x2 .now)) → Is (ShrSlice (named 3) κ3 u8) x3 (s3 ∷ []) → Is (ShrSlice (named 4) κ4 u8) x4 (s4 ∷ []) → ent 𝓤 (onEntry 𝓤 H A self.signature (κ0, (κ1, (κ2, (κ3, (κ4, tt))))) (q0, (q1, (q2, (q3, (q4, tt))))) x at) (WpFn 𝓤 H C Λ code.function (vptr b o ∷ s1 ∷ s2 ∷ s3 ∷ s4 ∷ []) Post)
+    walk : Room u8 (length (x1 .now)) → Room (Array u64 4) (length (x2 .now)) → Is (ShrSlice (named 3) κ3 u8) x3 (s3 ∷ []) → Is (ShrSlice (named 4) κ4 u8) x4 (s4 ∷ []) → ent 𝓤 (onEntry 𝓤 H A self.signature (κ0, (κ1, (κ2, (κ3, (κ4, tt))))) (q0, (q1, (q2, (q3, (q4, tt))))) x at) (WpFn 𝓤 H C Λ code.function (vptr b o ∷ s1 ∷ s2 ∷ s3 ∷ s4 ∷ []) Post)
     walk x1-is x2-is x3-is x4-is =
-        qed W ((‵ (flft κ0 q0) ⊛ ‵ (flft κ1 q1) ⊛ ‵ (flft κ2 q2) ⊛ ‵ (flft κ3 q3) ⊛ ‵ (flft κ4 q4) ⊛ ‵ ftrue) ∷ ‵ (owns (MutRef (named 0) κ0 R ∷ MutSlice (named 1) κ1 u8 ∷ MutSlice (named 2) κ2 (Array u64 3) ∷ ShrSlice (named 3) κ3 u8 ∷ ShrSlice (named 4) κ4 u8 ∷ []) x at) ∷ []) ∵ enter ! C Λ code.function (vptr b o ∷ s1 ∷ s2 ∷ s3 ∷ s4 ∷ []) _ $
+        qed W ((‵ (flft κ0 q0) ⊛ ‵ (flft κ1 q1) ⊛ ‵ (flft κ2 q2) ⊛ ‵ (flft κ3 q3) ⊛ ‵ (flft κ4 q4) ⊛ ‵ ftrue) ∷ ‵ (owns (MutRef (named 0) κ0 R ∷ MutSlice (named 1) κ1 u8 ∷ MutSlice (named 2) κ2 (Array u64 4) ∷ ShrSlice (named 3) κ3 u8 ∷ ShrSlice (named 4) κ4 u8 ∷ []) x at) ∷ []) ∵ enter ! C Λ code.function (vptr b o ∷ s1 ∷ s2 ∷ s3 ∷ s4 ∷ []) _ $
         alloc1 ! (λ l0. alloc1 ! (λ l1. alloc1 ! (λ l2. alloc1 ! (λ l3. alloc1 ! (λ l4. alloc1 ! (λ l5. alloc1 ! (λ l6. alloc1 ! (λ l7. alloc1 ! (λ l8. alloc1 ! (λ l9. alloc1 ! (λ l10. alloc1 ! (λ l11. alloc0 ! $ params1 ! $
         pass1 ! (init ! 20 refl (tt, tt)) $ pass1 ! (init ! 18 refl (tt, (tt, (record { fits = x1-is .0 }, tt)))) $ pass1 ! (init ! 16 refl (tt, (tt, (record { fits = x2-is .0 }, tt)))) $ pass1 ! (init ! 14 refl (shr-slice-lawful 𝓤 H A W (named 3) κ3 u8 .typed x3 (s3 ∷ []) x3-is .0)) $ pass1 ! (init ! 12 refl (shr-slice-lawful 𝓤 H A W (named 4) κ4 u8 .typed x4 (s4 ∷ []) x4-is .0)) $ pass0 ! $
         -- the borrow is opened, and the struct copied out
@@ -179,12 +179,12 @@ module _ {M : Type 1} (𝓤 : URA M) (H : Heap 𝓤) (A : Atoms 𝓤) (W : Given
 
 module _ {M : Type 1} (𝓤 : URA M) (H : Heap 𝓤) (A : Atoms 𝓤) (W : Given 𝓤 H A) (mem : Memory → SProp 𝓤) (run : Routine → Fun 𝓤) where
   walks : (C : Calls 𝓤 H) (Λ : Loops 𝓤 H) → FmC 𝓤 H (W .laws) C → Triple 𝓤 (C #callee) (Callee 𝓤 H A mem run) → Walks 𝓤 H A self.ended stayed (WpFn 𝓤 H C Λ code.function) (self.clauses 𝓤 H A mem run)
-  walks C Λ fm known = walked 𝓤 H A self.ended stayed (self.clauses 𝓤 H A mem run) (WpFn 𝓤 H C Λ code.function) (λ κs. (ptr-vals, (slice-vals, (slice-vals, (slice-vals, (slice-vals, tt)))))) (λ κs. (mut-tells (named 0) (κs .0) R, (mut-slice-tells (named 1) (κs .1 .0) u8, (mut-slice-tells (named 2) (κs .1 .1 .0) (Array u64 3), (shr-slice-tells (named 3) (κs .1 .1 .1 .0) u8, (shr-slice-tells (named 4) (κs .1 .1 .1 .1 .0) u8, tt))))))
+  walks C Λ fm known = walked 𝓤 H A self.ended stayed (self.clauses 𝓤 H A mem run) (WpFn 𝓤 H C Λ code.function) (λ κs. (ptr-vals, (slice-vals, (slice-vals, (slice-vals, (slice-vals, tt)))))) (λ κs. (mut-tells (named 0) (κs .0) R, (mut-slice-tells (named 1) (κs .1 .0) u8, (mut-slice-tells (named 2) (κs .1 .1 .0) (Array u64 4), (shr-slice-tells (named 3) (κs .1 .1 .1 .0) u8, (shr-slice-tells (named 4) (κs .1 .1 .1 .1 .0) u8, tt))))))
       (λ κs qs bounds a g are. via 𝓤 _ (fst∗ 𝓤 _ (emp 𝓤)) (walk 𝓤 H A W mem run (κs .0) (κs .1 .0) (κs .1 .1 .0) (κs .1 .1 .1 .0) (κs .1 .1 .1 .1 .0) (qs .0) (qs .1 .0) (qs .1 .1 .0) (qs .1 .1 .1 .0) (qs .1 .1 .1 .1 .0) (a .0 .ptr .0) (a .0 .ptr .1) (a .0 .name) (a .0 .now) (a .1 .0) (a .1 .1 .0) (a .1 .1 .1 .0) (a .1 .1 .1 .1 .0) C Λ fm known (are .1 .0 .0 .1) (are .1 .1 .0 .0 .1) (are .1 .1 .1 .0) (are .1 .1 .1 .1 .0)))
 
 meets : {M : Type 1} (𝓤 : URA M) (H : Heap 𝓤) (A : Atoms 𝓤) → Given 𝓤 H A → (mem : Memory → SProp 𝓤) (run : Routine → Fun 𝓤) (𝓣 : Tables 𝓤 H) → Triple 𝓤 (𝓣 .C #callee) (Callee 𝓤 H A mem run)
     → Meets 𝓤 H A self.signature (WpFn 𝓤 H (𝓣 .C) (𝓣 .Λ) code.function) (self.spec 𝓤 H A mem run)
-meets 𝓤 H A W mem run 𝓣 known = walk-meets 𝓤 H A self.ended stayed W (goes-ref 𝓤 H A W 5 0 tt (plain (λ _. R)), (goes-gave-slice 𝓤 H A W 5 1 tt (plain (λ _. u8)), (goes-gave-slice 𝓤 H A W 5 2 tt (ArrayOf (plain (λ _. u64)) (λ κs. tt) 3), (goes-none-slice 𝓤 H A W 5 (3 ∷ []) tt (plain (λ _. u8)) yes, (goes-none-slice 𝓤 H A W 5 (4 ∷ []) tt (plain (λ _. u8)) yes, tt))))) (self.clauses 𝓤 H A mem run) (WpFn 𝓤 H (𝓣 .C) (𝓣 .Λ) code.function) (WpFn-mono 𝓤 H (W .laws) 𝓣 code.function)
+meets 𝓤 H A W mem run 𝓣 known = walk-meets 𝓤 H A self.ended stayed W (goes-ref 𝓤 H A W 5 0 tt (plain (λ _. R)), (goes-gave-slice 𝓤 H A W 5 1 tt (plain (λ _. u8)), (goes-gave-slice 𝓤 H A W 5 2 tt (ArrayOf (plain (λ _. u64)) (λ κs. tt) 4), (goes-none-slice 𝓤 H A W 5 (3 ∷ []) tt (plain (λ _. u8)) yes, (goes-none-slice 𝓤 H A W 5 (4 ∷ []) tt (plain (λ _. u8)) yes, tt))))) (self.clauses 𝓤 H A mem run) (WpFn 𝓤 H (𝓣 .C) (𝓣 .Λ) code.function) (WpFn-mono 𝓤 H (W .laws) 𝓣 code.function)
     (walks 𝓤 H A W mem run (𝓣 .C) (𝓣 .Λ) (fmOf 𝓤 H (W .laws) 𝓣) known)
 
 pub append-spec : {M : Type 1} → stated.statement M

@@ -5,7 +5,7 @@ use native.Mathlib.Omega.{arith}
 use borrow.Author.Tests.{leb-true}
 use borrow.Author.Needs.{needs}
 use lib.ListN.{length}
-use Rattle.text.specs.Format.{Message}
+use Rattle.text.specs.Format.{untried, Message}
 use Rattle.log.specs.Log.{state, logged}
 use Rattle.log.proofs.WalLaws.{compacted-is, appended-behind, appended-anew}
 use Rattle.log.proofs.wal.append_record.Statement.{statement}
@@ -42,7 +42,7 @@ returns c =
     let fits-behind = c .before .before .before .before .before .before .before .fits-behind in
     let if1 = c .before .before .before .before .before .before .if1 in
     let put-record = c .before .before .before .put-record in
-    let m : Message = record { id = args .counters .next; name = args .name .now; body = args .body .now } in
+    let m : Message = untried (args .counters .next) (args .name .now) (args .body .now) in
     appended-behind (state (args .log .now) (args .records .now) (args .counters)) _ m (args .len) (pre .len-is) (sym (fits-behind .ensures) ∙ if1 .taken) (put-record .ensures)
 
 compact-requires : tie.Need-compact-requires
@@ -78,9 +78,9 @@ returns-2 c =
     let if1 = c .before .before .before .before .before .before .before .before .before .before .before .before .if1 in
     let compact = c .before .before .before .before .before .before .before .before .before .compact in
     let put-record2 = c .before .before .before .put-record2 in
-    let m : Message = record { id = args .counters .next; name = args .name .now; body = args .body .now } in
+    let m : Message = untried (args .counters .next) (args .name .now) (args .body .now) in
     let w = state (args .log .now) (args .records .now) (args .counters) in
-    let dense = compacted-is (args .log .now) _ (args .records .now) _ (args .counters) (compact .ensures .0) (compact .ensures .1) in
+    let dense = compacted-is (args .log .now) _ (args .records .now) _ (args .counters) (compact .ensures) in
     appended-anew w _ m (args .len) (pre .len-is) (sym (fits-behind .ensures) ∙ if1 .left) (put-record2 .ensures ∙ ap (λ v. logged v m) dense)
 
 pub append-record-spec : {M : Type 1} → statement M

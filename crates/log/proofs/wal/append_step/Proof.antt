@@ -4,7 +4,7 @@ use Prim.Native.Nat.{_-_, _^_, _<_}
 use native.Mathlib.Omega.{arith}
 use borrow.Author.Needs.{needs}
 use lib.ListN.{length}
-use Rattle.text.specs.Format.{Message, recordLine}
+use Rattle.text.specs.Format.{untried, Message, recordLine}
 use Rattle.text.proofs.AnswerLaws.{told, told-over}
 use Rattle.log.specs.Log.{state}
 use Rattle.log.proofs.WalLaws.{append-long-name, append-long-body, append-full, append-no-id, append-no-room, append-goes}
@@ -107,7 +107,7 @@ returns-6 c =
     let record-len = c .before .before .before .record-len in
     let enum-told = c .before .enum-told in
     let turned-away6 = c .turned-away6 in
-    let m : Message = record { id = args .counters .next; name = args .name .now; body = args .body .now } in
+    let m : Message = untried (args .counters .next) (args .name .now) (args .body .now) in
     let over = told-over (length (recordLine m)) (length (args .log .now) - args .counters .live) (sym (enum-told .given .1) ∙ record-len .ensures) in
     let id : args .counters .next < 2 ^ 64 - 1 = omega (arith, if4 .left, good) in
     let w = state (args .log .now) (args .records .now) (args .counters) in
@@ -124,7 +124,7 @@ append-record-requires c κs =
     let if5 = c .before .before .before .before .before .before .if5 in
     let record-len = c .before .before .before .before .before .record-len in
     let len = c .before .before .before .len in
-    let m : Message = record { id = args .counters .next; name = args .name .now; body = args .body .now } in
+    let m : Message = untried (args .counters .next) (args .name .now) (args .body .now) in
     let fits = told (length (recordLine m)) (length (args .log .now) - args .counters .live) (len .given .0 .0) (sym (len .given .1) ∙ record-len .ensures) in
     record { len-is = fits .is; id = omega (arith, if4 .left); few = if3 .left; live = omega (arith, fits .is, fits .small, if5 .left) }
 
@@ -146,7 +146,7 @@ returns-7 c =
     let record-len = c .before .before .before .before .before .before .before .before .before .record-len in
     let len = c .before .before .before .before .before .before .before .len in
     let append-record = c .before .before .before .append-record in
-    let m : Message = record { id = args .counters .next; name = args .name .now; body = args .body .now } in
+    let m : Message = untried (args .counters .next) (args .name .now) (args .body .now) in
     let fits = told (length (recordLine m)) (length (args .log .now) - args .counters .live) (len .given .0 .0) (sym (len .given .1) ∙ record-len .ensures) in
     let id : args .counters .next < 2 ^ 64 - 1 = omega (arith, if4 .left, good) in
     let w = state (args .log .now) (args .records .now) (args .counters) in

@@ -76,7 +76,7 @@ abbrev back : AnsweredDue → Val
 back r = only (LL.vals S.the-type S′.the-laws r)
 
 abbrev stayed : Stays (self.ended .signature .params) (self.ended .kept)
-stayed = (stay-ref (0 ∷ []) tt (plain (λ _. R)), (gave-slice (1 ∷ []) tt (plain (λ _. u8)), (gave-slice (2 ∷ []) tt (ArrayOf (plain (λ _. u64)) (λ κs. tt) 3), (stay-none (λ _. usize) yes, (stay-none (λ _. X4.the-row) yes, tt)))))
+stayed = (stay-ref (0 ∷ []) tt (plain (λ _. R)), (gave-slice (1 ∷ []) tt (plain (λ _. u8)), (gave-slice (2 ∷ []) tt (ArrayOf (plain (λ _. u64)) (λ κs. tt) 4), (stay-none (λ _. usize) yes, (stay-none (λ _. X4.the-row) yes, tt)))))
 
 -- the contract that the proof cites
 abbrev Callee : {M : Type 1} (𝓤 : URA M) (H : Heap 𝓤) (A : Atoms 𝓤) (mem : Memory → SProp 𝓤) (run : Routine → Fun 𝓤) → Contract 𝓤
@@ -110,18 +110,18 @@ module _ {M : Type 1} (𝓤 : URA M) (H : Heap 𝓤) (A : Atoms 𝓤) (W : Given
   to = (((κ1, (κ2, tt)), (q1, (q2, tt)), tt, (h, rest), (mach h ∷ [], rest-vals)), tt)
 
   asked : ent 𝓤 (onEntry 𝓤 H A callee.signature (κ1, (κ2, tt)) (q1, (q2, tt)) (h, rest) (mach h ∷ [], rest-vals)) (Callee 𝓤 H A at-mem run .pre to)
-  asked = qed W ((‵ (flft κ1 q1) ⊛ ‵ (flft κ2 q2) ⊛ ‵ ftrue) ∷ ‵ (owns (R ∷ MutSlice (named 1) κ1 u8 ∷ MutSlice (named 2) κ2 (Array u64 3) ∷ usize ∷ X4.the-row ∷ []) (h, rest) (mach h ∷ [], rest-vals)) ∷ []) ∵ join ! $ frame ! $ done !
+  asked = qed W ((‵ (flft κ1 q1) ⊛ ‵ (flft κ2 q2) ⊛ ‵ ftrue) ∷ ‵ (owns (R ∷ MutSlice (named 1) κ1 u8 ∷ MutSlice (named 2) κ2 (Array u64 4) ∷ usize ∷ X4.the-row ∷ []) (h, rest) (mach h ∷ [], rest-vals)) ∷ []) ∵ join ! $ frame ! $ done !
 
   -- what is left of the tokens and of the arguments gives what the callee asks, and of each `&` slice a copy is kept
-  goes : Is R h (mach h ∷ []) → ent 𝓤 (⋆ 𝓤 H A (‵ (owns (MutSlice (named 1) κ1 u8 ∷ MutSlice (named 2) κ2 (Array u64 3) ∷ usize ∷ X4.the-row ∷ []) rest rest-vals) ∷ (‵ (flft κ1 q1) ⊛ ‵ (flft κ2 q2) ⊛ ‵ ftrue) ∷ [])) (Callee 𝓤 H A at-mem run .pre to)
+  goes : Is R h (mach h ∷ []) → ent 𝓤 (⋆ 𝓤 H A (‵ (owns (MutSlice (named 1) κ1 u8 ∷ MutSlice (named 2) κ2 (Array u64 4) ∷ usize ∷ X4.the-row ∷ []) rest rest-vals) ∷ (‵ (flft κ1 q1) ⊛ ‵ (flft κ2 q2) ⊛ ‵ ftrue) ∷ [])) (Callee 𝓤 H A at-mem run .pre to)
   goes is =
-      qed W (‵ (owns (MutSlice (named 1) κ1 u8 ∷ MutSlice (named 2) κ2 (Array u64 3) ∷ usize ∷ X4.the-row ∷ []) rest rest-vals) ∷ (‵ (flft κ1 q1) ⊛ ‵ (flft κ2 q2) ⊛ ‵ ftrue) ∷ []) ∵
+      qed W (‵ (owns (MutSlice (named 1) κ1 u8 ∷ MutSlice (named 2) κ2 (Array u64 4) ∷ usize ∷ X4.the-row ∷ []) rest rest-vals) ∷ (‵ (flft κ1 q1) ⊛ ‵ (flft κ2 q2) ⊛ ‵ ftrue) ∷ []) ∵
       fsplit ! $ move ! (1 ∷ []) $ fsplit ! $ move ! (1 ∷ []) $ fsplit ! $ move ! (1 ∷ []) $ fsplit ! $ move ! (0 ∷ 1 ∷ []) $ fjoin ! $ move ! (1 ∷ 0 ∷ []) $ fjoin ! $ move ! (1 ∷ 0 ∷ []) $ fjoin ! $ move ! (1 ∷ 0 ∷ []) $ fjoin ! $ owned ! R (Is R) (LL.makes T.the-type T′.the-plain 𝓤 H A) h _ is $ fjoin ! $ move ! (1 ∷ 0 ∷ []) $ use2 W (raw (Callee 𝓤 H A at-mem run .pre to)) asked $ done !
 
   exits : (r : AnsweredDue) (u : Val) (z1 : List ℕ) (z2 : List (List ℕ)) → Is E.the-row (r .due) (u ∷ []) → length z1 ≡ length (x1 .now) → length z2 ≡ length (x2 .now) → _≡_ {A = DidMark} (record { wal = state z1 z2 (r .counters); due = r .due }) (markOf x3 (state (x1 .now) (x2 .now) h) (x4 .0))
-      → ent 𝓤 (⋆ 𝓤 H A (‵ (fobs γ (R .coded .code (r .counters))) ∷ ‵ (fbor κ0 (Body (mem R) b o γ)) ∷ ‵ (flft κ0 q0) ∷ (‵ (flft κ1 q1) ⊛ ‵ (flft κ2 q2) ⊛ ‵ ftrue) ∷ ‵ (finally u8 (x1 .name) z1) ∷ ‵ (finally (Array u64 3) (x2 .name) z2) ∷ [])) (Post u)
+      → ent 𝓤 (⋆ 𝓤 H A (‵ (fobs γ (R .coded .code (r .counters))) ∷ ‵ (fbor κ0 (Body (mem R) b o γ)) ∷ ‵ (flft κ0 q0) ∷ (‵ (flft κ1 q1) ⊛ ‵ (flft κ2 q2) ⊛ ‵ ftrue) ∷ ‵ (finally u8 (x1 .name) z1) ∷ ‵ (finally (Array u64 4) (x2 .name) z2) ∷ [])) (Post u)
   exits r u z1 z2 is l1 l2 e =
-      qed W (‵ (fobs γ (R .coded .code (r .counters))) ∷ ‵ (fbor κ0 (Body (mem R) b o γ)) ∷ ‵ (flft κ0 q0) ∷ (‵ (flft κ1 q1) ⊛ ‵ (flft κ2 q2) ⊛ ‵ ftrue) ∷ ‵ (finally u8 (x1 .name) z1) ∷ ‵ (finally (Array u64 3) (x2 .name) z2) ∷ []) ∵
+      qed W (‵ (fobs γ (R .coded .code (r .counters))) ∷ ‵ (fbor κ0 (Body (mem R) b o γ)) ∷ ‵ (flft κ0 q0) ∷ (‵ (flft κ1 q1) ⊛ ‵ (flft κ2 q2) ⊛ ‵ ftrue) ∷ ‵ (finally u8 (x1 .name) z1) ∷ ‵ (finally (Array u64 4) (x2 .name) z2) ∷ []) ∵
       suffices ! _ (ends-at 𝓤 H A self.ended stayed (self.clauses 𝓤 H A at-mem run) W (((κ0, (κ1, (κ2, tt))), (q0, (q1, (q2, tt))), tt, x, at), tt) u (r .due) (r .counters, (z1, (z2, (tt, (tt, tt))))) (tt, (l1, (l2, (tt, (tt, tt)))))) $ says ! e $
       move ! (2 ∷ 3 ∷ []) $ join ! $ frame ! $ feqI ! (List Val) (vptr b o ∷ []) (vptr b o ∷ []) refl $ fjoin3 ! $ nothing ! $ owned ! X4.the-row (Is X4.the-row) (LL.makes X4.the-type X4′.the-plain 𝓤 H A) x4 _ x4-is $ fjoin ! $ owned ! usize (Is usize) (uint-makes 𝓤 H A W w64) x3 _ (refl, x3-is) $ fjoin ! $ move ! (3 ∷ 0 ∷ []) $ fjoin ! $ move ! (2 ∷ 0 ∷ []) $ fjoin ! $ move ! (1 ∷ 0 ∷ []) $ fjoin ! $ owned ! E.the-row (Is E.the-row) (EL.makes E.the-type E′.the-plain 𝓤 H A) (r .due) _ is $ move ! (1 ∷ 0 ∷ []) $ done !
 
@@ -130,9 +130,9 @@ module _ {M : Type 1} (𝓤 : URA M) (H : Heap 𝓤) (A : Atoms 𝓤) (W : Given
   back-is r u is = subst (λ (vs : List Val). Is S.the-row r vs) (LL.tells S.the-type S′.the-laws r (u ∷ []) is) is
 
   module _ (C : Calls 𝓤 H) (Λ : Loops 𝓤 H) (fm : FmC 𝓤 H (W .laws) C) (known : Triple 𝓤 (C #callee) (Callee 𝓤 H A at-mem run)) where
-    walk : Room u8 (length (x1 .now)) → Room (Array u64 3) (length (x2 .now)) → ent 𝓤 (onEntry 𝓤 H A self.signature (κ0, (κ1, (κ2, tt))) (q0, (q1, (q2, tt))) x at) (WpFn 𝓤 H C Λ code.function (vptr b o ∷ s1 ∷ s2 ∷ vint w64 x3 ∷ only (LL.vals X4.the-type X4′.the-laws x4) ∷ []) Post)
+    walk : Room u8 (length (x1 .now)) → Room (Array u64 4) (length (x2 .now)) → ent 𝓤 (onEntry 𝓤 H A self.signature (κ0, (κ1, (κ2, tt))) (q0, (q1, (q2, tt))) x at) (WpFn 𝓤 H C Λ code.function (vptr b o ∷ s1 ∷ s2 ∷ vint w64 x3 ∷ only (LL.vals X4.the-type X4′.the-laws x4) ∷ []) Post)
     walk x1-is x2-is =
-        qed W ((‵ (flft κ0 q0) ⊛ ‵ (flft κ1 q1) ⊛ ‵ (flft κ2 q2) ⊛ ‵ ftrue) ∷ ‵ (owns (MutRef (named 0) κ0 R ∷ MutSlice (named 1) κ1 u8 ∷ MutSlice (named 2) κ2 (Array u64 3) ∷ usize ∷ X4.the-row ∷ []) x at) ∷ []) ∵ enter ! C Λ code.function (vptr b o ∷ s1 ∷ s2 ∷ vint w64 x3 ∷ only (LL.vals X4.the-type X4′.the-laws x4) ∷ []) _ $
+        qed W ((‵ (flft κ0 q0) ⊛ ‵ (flft κ1 q1) ⊛ ‵ (flft κ2 q2) ⊛ ‵ ftrue) ∷ ‵ (owns (MutRef (named 0) κ0 R ∷ MutSlice (named 1) κ1 u8 ∷ MutSlice (named 2) κ2 (Array u64 4) ∷ usize ∷ X4.the-row ∷ []) x at) ∷ []) ∵ enter ! C Λ code.function (vptr b o ∷ s1 ∷ s2 ∷ vint w64 x3 ∷ only (LL.vals X4.the-type X4′.the-laws x4) ∷ []) _ $
         alloc1 ! (λ l0. alloc1 ! (λ l1. alloc1 ! (λ l2. alloc1 ! (λ l3. alloc1 ! (λ l4. alloc1 ! (λ l5. alloc1 ! (λ l6. alloc1 ! (λ l7. alloc1 ! (λ l8. alloc1 ! (λ l9. alloc1 ! (λ l10. alloc1 ! (λ l11. alloc0 ! $ params1 ! $
         pass1 ! (init ! 20 refl (tt, tt)) $ pass1 ! (init ! 18 refl (tt, (tt, (record { fits = x1-is .0 }, tt)))) $ pass1 ! (init ! 16 refl (tt, (tt, (record { fits = x2-is .0 }, tt)))) $ pass1 ! (init ! 14 refl (tt, record { fits = x3-is })) $ pass1 ! (init ! 12 refl (LL.lawful X4.the-type X4′.the-laws 𝓤 H A W .typed x4 _ x4-is .0)) $ pass0 ! $
         -- the borrow is opened, and the struct copied out
@@ -170,12 +170,12 @@ module _ {M : Type 1} (𝓤 : URA M) (H : Heap 𝓤) (A : Atoms 𝓤) (W : Given
 
 module _ {M : Type 1} (𝓤 : URA M) (H : Heap 𝓤) (A : Atoms 𝓤) (W : Given 𝓤 H A) (mem : Memory → SProp 𝓤) (run : Routine → Fun 𝓤) where
   walks : (C : Calls 𝓤 H) (Λ : Loops 𝓤 H) → FmC 𝓤 H (W .laws) C → Triple 𝓤 (C #callee) (Callee 𝓤 H A mem run) → Walks 𝓤 H A self.ended stayed (WpFn 𝓤 H C Λ code.function) (self.clauses 𝓤 H A mem run)
-  walks C Λ fm known = walked 𝓤 H A self.ended stayed (self.clauses 𝓤 H A mem run) (WpFn 𝓤 H C Λ code.function) (λ κs. (ptr-vals, (slice-vals, (slice-vals, (uint-vals w64, (LL.vals X4.the-type X4′.the-laws, tt)))))) (λ κs. (mut-tells (named 0) (κs .0) R, (mut-slice-tells (named 1) (κs .1 .0) u8, (mut-slice-tells (named 2) (κs .1 .1 .0) (Array u64 3), (uint-tells w64, (LL.tells X4.the-type X4′.the-laws, tt))))))
+  walks C Λ fm known = walked 𝓤 H A self.ended stayed (self.clauses 𝓤 H A mem run) (WpFn 𝓤 H C Λ code.function) (λ κs. (ptr-vals, (slice-vals, (slice-vals, (uint-vals w64, (LL.vals X4.the-type X4′.the-laws, tt)))))) (λ κs. (mut-tells (named 0) (κs .0) R, (mut-slice-tells (named 1) (κs .1 .0) u8, (mut-slice-tells (named 2) (κs .1 .1 .0) (Array u64 4), (uint-tells w64, (LL.tells X4.the-type X4′.the-laws, tt))))))
       (λ κs qs bounds a g are. via 𝓤 _ (fst∗ 𝓤 _ (emp 𝓤)) (walk 𝓤 H A W mem run (κs .0) (κs .1 .0) (κs .1 .1 .0) (qs .0) (qs .1 .0) (qs .1 .1 .0) (a .0 .ptr .0) (a .0 .ptr .1) (a .0 .name) (a .0 .now) (a .1 .0) (a .1 .1 .0) (a .1 .1 .1 .0) (a .1 .1 .1 .1 .0) (are .1 .1 .1 .0 .1) (are .1 .1 .1 .1 .0) C Λ fm known (are .1 .0 .0 .1) (are .1 .1 .0 .0 .1)))
 
 meets : {M : Type 1} (𝓤 : URA M) (H : Heap 𝓤) (A : Atoms 𝓤) → Given 𝓤 H A → (mem : Memory → SProp 𝓤) (run : Routine → Fun 𝓤) (𝓣 : Tables 𝓤 H) → Triple 𝓤 (𝓣 .C #callee) (Callee 𝓤 H A mem run)
     → Meets 𝓤 H A self.signature (WpFn 𝓤 H (𝓣 .C) (𝓣 .Λ) code.function) (self.spec 𝓤 H A mem run)
-meets 𝓤 H A W mem run 𝓣 known = walk-meets 𝓤 H A self.ended stayed W (goes-ref 𝓤 H A W 3 0 tt (plain (λ _. R)), (goes-gave-slice 𝓤 H A W 3 1 tt (plain (λ _. u8)), (goes-gave-slice 𝓤 H A W 3 2 tt (ArrayOf (plain (λ _. u64)) (λ κs. tt) 3), (goes-none 𝓤 H A W 3 (λ _. usize) yes (λ κs x f. refl), (goes-none 𝓤 H A W 3 (λ _. X4.the-row) yes (λ κs x f. refl), tt))))) (self.clauses 𝓤 H A mem run) (WpFn 𝓤 H (𝓣 .C) (𝓣 .Λ) code.function) (WpFn-mono 𝓤 H (W .laws) 𝓣 code.function)
+meets 𝓤 H A W mem run 𝓣 known = walk-meets 𝓤 H A self.ended stayed W (goes-ref 𝓤 H A W 3 0 tt (plain (λ _. R)), (goes-gave-slice 𝓤 H A W 3 1 tt (plain (λ _. u8)), (goes-gave-slice 𝓤 H A W 3 2 tt (ArrayOf (plain (λ _. u64)) (λ κs. tt) 4), (goes-none 𝓤 H A W 3 (λ _. usize) yes (λ κs x f. refl), (goes-none 𝓤 H A W 3 (λ _. X4.the-row) yes (λ κs x f. refl), tt))))) (self.clauses 𝓤 H A mem run) (WpFn 𝓤 H (𝓣 .C) (𝓣 .Λ) code.function) (WpFn-mono 𝓤 H (W .laws) 𝓣 code.function)
     (walks 𝓤 H A W mem run (𝓣 .C) (𝓣 .Λ) (fmOf 𝓤 H (W .laws) 𝓣) known)
 
 pub mark-spec : {M : Type 1} → stated.statement M

@@ -87,7 +87,7 @@ returns-2 c =
     let if1 = c .before .before .before .before .before .before .if1 in
     let compact = c .before .before .before .compact in
     marked-anew (args .limit) (state (args .log .now) (args .records .now) (args .counters)) (args .id) (done-len .result) (done-len .ensures) (sym (keeps-on .ensures) ∙ if1 .left) _
-    (compacted-is (args .log .now) _ (args .records .now) _ (args .counters) (compact .ensures .0) (compact .ensures .1))
+    (compacted-is (args .log .now) _ (args .records .now) _ (args .counters) (compact .ensures))
 
 pub mark-done-spec : {M : Type 1} → statement M
 mark-done-spec =

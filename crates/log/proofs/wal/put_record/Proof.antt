@@ -3,7 +3,7 @@ use Prim.Native.Nat.{_+_, _≤_}
 use native.Mathlib.Omega.{arith}
 use borrow.Author.Needs.{needs}
 use lib.ListN.{length}
-use Rattle.text.specs.Format.{Message, recordLine}
+use Rattle.text.specs.Format.{untried, Message, recordLine}
 use Rattle.text.proofs.AnswerLaws.{filled-part}
 use Rattle.log.proofs.WalLaws.{logged-is}
 use Rattle.log.proofs.wal.put_record.Statement.{statement}
@@ -48,7 +48,7 @@ returns c =
     let pre = c .before .before .before .before .before .before .before .before .before .before .before .pre in
     let encode-record = c .before .before .before .before .before .before .encode-record in
     let set-row = c .before .before .set-row in
-    let m : Message = record { id = args .counters .next; name = args .name .now; body = args .body .now } in
+    let m : Message = untried (args .counters .next) (args .name .now) (args .body .now) in
     let room : args .counters .size + length (recordLine m) ≤ length (args .log .now) = omega (arith, pre .0 .len-is, pre .1) in
     logged-is (args .log .now) _ (args .records .now) _ (args .counters) m (args .len) (pre .0 .len-is)
     (filled-part (args .log .now) (args .counters .size) (recordLine m) _ _ room (encode-record .ensures)) (set-row .ensures)

@@ -16,12 +16,12 @@ shared-slice-copy-out-result c = search needs
 returns : tie.Need-returns
 returns c =
     let a = c .before .before .args in
-    read-in (a .left .now) [] (0 ∷ 0 ∷ 0 ∷ []) (a .i) (c .before .if1 .taken)
+    read-in (a .left .now) [] (0 ∷ 0 ∷ 0 ∷ 0 ∷ []) (a .i) (c .before .if1 .taken)
 
 returns-2 : tie.Need-returns-2
 returns-2 c =
     let a = c .before .args in
-    sym (List·getD-eq-default (a .left .now) (0 ∷ 0 ∷ 0 ∷ []) {n = a .i} (c .if1 .left))
+    sym (List·getD-eq-default (a .left .now) (0 ∷ 0 ∷ 0 ∷ 0 ∷ []) {n = a .i} (c .if1 .left))
 
 pub left-row-spec : {M : Type 1} → statement M
 left-row-spec = tie.close (tie.spec mul-result shared-slice-copy-out-result returns returns-2)

@@ -12,6 +12,9 @@ array-read-put-row-2 c = search needs
 array-read-put-row-3 : tie.Need-array-read-put-row-3
 array-read-put-row-3 c = search needs
 
+array-read-put-row-4 : tie.Need-array-read-put-row-4
+array-read-put-row-4 c = search needs
+
 put-row-requires : tie.Need-put-row-requires
 put-row-requires c κs = search needs
 
@@ -30,6 +33,7 @@ put-left-row-spec =
     array-read-put-row
     array-read-put-row-2
     array-read-put-row-3
+    array-read-put-row-4
     put-row-requires
     same-length
     returns)

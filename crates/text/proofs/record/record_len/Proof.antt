@@ -5,7 +5,7 @@ use native.Mathlib.Omega.{arith}
 use borrow.Author.Needs.{needs}
 use lib.ListN.{length}
 use Rattle.text.specs.declared.escape.Measure.the-variants.{Len}
-use Rattle.text.specs.Format.{Message, recordLine, escape}
+use Rattle.text.specs.Format.{untried, Message, recordLine, escape}
 use Rattle.text.proofs.AnswerLaws.{within-len, within-over, told, told-over}
 use Rattle.text.proofs.RecordLaws.{record-length}
 use Rattle.text.proofs.IdLaws.{print-short}
@@ -26,7 +26,7 @@ returns c =
     let args = c .before .before .before .before .args in
     let id-len = c .before .id-len in
     let if1 = c .if1 in
-    let m : Message = record { id = args .id; name = args .name .now; body = args .body .now } in
+    let m : Message = untried (args .id) (args .name .now) (args .body .now) in
     let long : args .most < length (recordLine m) = omega (arith, id-len .ensures, record-length m, if1 .taken) in
     sym (within-over (length (recordLine m)) (args .most) long)
 
@@ -46,7 +46,7 @@ returns-2 c =
     let escaped-len = c .before .before .escaped-len in
     let if1 = c .before .before .before .if1 in
     let enum-told = c .enum-told in
-    let m : Message = record { id = args .id; name = args .name .now; body = args .body .now } in
+    let m : Message = untried (args .id) (args .name .now) (args .body .now) in
     let over = told-over (length (escape (m .name))) (args .most - (id-len .result + 3)) (sym (enum-told .given .1) ∙ escaped-len .ensures) in
     let long : args .most < length (recordLine m) = omega (arith, id-len .ensures, record-length m, if1 .left) in
     sym (within-over (length (recordLine m)) (args .most) long)
@@ -79,7 +79,7 @@ returns-3 c =
     let name-len = c .before .before .before .before .name-len in
     let escaped-len2 = c .before .before .escaped-len2 in
     let enum-told2 = c .enum-told2 in
-    let m : Message = record { id = args .id; name = args .name .now; body = args .body .now } in
+    let m : Message = untried (args .id) (args .name .now) (args .body .now) in
     let rest = id-len .result + 3 in
     let name = told (length (escape (m .name))) (args .most - rest) (name-len .given .0 .0) (sym (name-len .given .1) ∙ escaped-len .ensures) in
     let over = told-over (length (escape (m .body))) (args .most - rest - name-len .given .0 .0) (sym (enum-told2 .given .1) ∙ escaped-len2 .ensures) in
@@ -119,7 +119,7 @@ returns-4 c =
     let name-len = c .before .before .before .before .before .name-len in
     let escaped-len2 = c .before .before .before .escaped-len2 in
     let body-len = c .before .body-len in
-    let m : Message = record { id = args .id; name = args .name .now; body = args .body .now } in
+    let m : Message = untried (args .id) (args .name .now) (args .body .now) in
     let rest = id-len .result + 3 in
     let name = told (length (escape (m .name))) (args .most - rest) (name-len .given .0 .0) (sym (name-len .given .1) ∙ escaped-len .ensures) in
     let body = told (length (escape (m .body))) (args .most - rest - name-len .given .0 .0) (body-len .given .0 .0) (sym (body-len .given .1) ∙ escaped-len2 .ensures) in

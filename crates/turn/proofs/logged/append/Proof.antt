@@ -78,7 +78,7 @@ abbrev mach : Counters → Val
 mach n = only (LL.vals T.the-type T′.the-laws n)
 
 abbrev stayed : Stays (self.ended .signature .params) (self.ended .kept)
-stayed = (gave-slice (0 ∷ []) tt (plain (λ _. u8)), (gave-slice (1 ∷ []) tt (ArrayOf (plain (λ _. u64)) (λ κs. tt) 3), (stay-none (λ _. R) yes, (stay-none-slice (2 ∷ []) tt (plain (λ _. u8)) yes, (stay-none-slice (3 ∷ []) tt (plain (λ _. u8)) yes, tt)))))
+stayed = (gave-slice (0 ∷ []) tt (plain (λ _. u8)), (gave-slice (1 ∷ []) tt (ArrayOf (plain (λ _. u64)) (λ κs. tt) 4), (stay-none (λ _. R) yes, (stay-none-slice (2 ∷ []) tt (plain (λ _. u8)) yes, (stay-none-slice (3 ∷ []) tt (plain (λ _. u8)) yes, tt)))))
 
 -- the contracts that the proof cites
 module _ {M : Type 1} (𝓤 : URA M) (H : Heap 𝓤) (A : Atoms 𝓤) (mem : Memory → SProp 𝓤) (run : Routine → Fun 𝓤) where
@@ -123,9 +123,9 @@ module _ {M : Type 1} (𝓤 : URA M) (H : Heap 𝓤) (A : Atoms 𝓤) (W : Given
   abbrev to-into : ℕ → ℕ → GName → The-into 𝓤 H A at-mem run .Ghost
   to-into α l δ = (((α ∷ [], (κ0, (κ1, (κ2, (κ3, tt))))), (fullShare, (q0, (q1, (q2, (q3, tt))))), tt, into-args l δ, (vptr l 0 ∷ [], (s0 ∷ [], (s1 ∷ [], (s2 ∷ [], (s3 ∷ [], tt)))))), tt)
 
-  goes-into : (α l : ℕ) (δ : GName) → ent 𝓤 (⋆ 𝓤 H A (‵ (flft (α ∷ []) fullShare) ∷ ‵ (flft κ0 q0) ∷ ‵ (flft κ1 q1) ∷ ‵ (flft κ2 q2) ∷ ‵ (flft κ3 q3) ∷ ‵ (borrowed α l δ) ∷ ‵ (MutSlice (named 0) κ0 u8 .own x0 (s0 ∷ [])) ∷ ‵ (MutSlice (named 1) κ1 (Array u64 3) .own x1 (s1 ∷ [])) ∷ ‵ (ShrSlice (named 2) κ2 u8 .own x2 (s2 ∷ [])) ∷ ‵ (ShrSlice (named 3) κ3 u8 .own x3 (s3 ∷ [])) ∷ [])) (The-into 𝓤 H A at-mem run .pre (to-into α l δ))
+  goes-into : (α l : ℕ) (δ : GName) → ent 𝓤 (⋆ 𝓤 H A (‵ (flft (α ∷ []) fullShare) ∷ ‵ (flft κ0 q0) ∷ ‵ (flft κ1 q1) ∷ ‵ (flft κ2 q2) ∷ ‵ (flft κ3 q3) ∷ ‵ (borrowed α l δ) ∷ ‵ (MutSlice (named 0) κ0 u8 .own x0 (s0 ∷ [])) ∷ ‵ (MutSlice (named 1) κ1 (Array u64 4) .own x1 (s1 ∷ [])) ∷ ‵ (ShrSlice (named 2) κ2 u8 .own x2 (s2 ∷ [])) ∷ ‵ (ShrSlice (named 3) κ3 u8 .own x3 (s3 ∷ [])) ∷ [])) (The-into 𝓤 H A at-mem run .pre (to-into α l δ))
   goes-into α l δ =
-      qed W (‵ (flft (α ∷ []) fullShare) ∷ ‵ (flft κ0 q0) ∷ ‵ (flft κ1 q1) ∷ ‵ (flft κ2 q2) ∷ ‵ (flft κ3 q3) ∷ ‵ (borrowed α l δ) ∷ ‵ (MutSlice (named 0) κ0 u8 .own x0 (s0 ∷ [])) ∷ ‵ (MutSlice (named 1) κ1 (Array u64 3) .own x1 (s1 ∷ [])) ∷ ‵ (ShrSlice (named 2) κ2 u8 .own x2 (s2 ∷ [])) ∷ ‵ (ShrSlice (named 3) κ3 u8 .own x3 (s3 ∷ [])) ∷ []) ∵
+      qed W (‵ (flft (α ∷ []) fullShare) ∷ ‵ (flft κ0 q0) ∷ ‵ (flft κ1 q1) ∷ ‵ (flft κ2 q2) ∷ ‵ (flft κ3 q3) ∷ ‵ (borrowed α l δ) ∷ ‵ (MutSlice (named 0) κ0 u8 .own x0 (s0 ∷ [])) ∷ ‵ (MutSlice (named 1) κ1 (Array u64 4) .own x1 (s1 ∷ [])) ∷ ‵ (ShrSlice (named 2) κ2 u8 .own x2 (s2 ∷ [])) ∷ ‵ (ShrSlice (named 3) κ3 u8 .own x3 (s3 ∷ [])) ∷ []) ∵
       nothing ! $ move ! (10 ∷ 0 ∷ []) $ fjoin ! $ move ! (9 ∷ 0 ∷ []) $ fjoin ! $ move ! (8 ∷ 0 ∷ []) $ fjoin ! $ move ! (7 ∷ 0 ∷ []) $ fjoin ! $ move ! (6 ∷ 0 ∷ []) $ fjoin ! $ nothing ! $ move ! (6 ∷ 0 ∷ []) $ join ! $ move ! (5 ∷ 0 ∷ []) $ join ! $ move ! (4 ∷ 0 ∷ []) $ join ! $ move ! (3 ∷ 0 ∷ []) $ join ! $ move ! (2 ∷ 0 ∷ []) $ join ! $ move ! (0 ∷ 1 ∷ []) $ join ! $ frame ! $ done !
 
   -- the call of `appended`
@@ -142,16 +142,16 @@ module _ {M : Type 1} (𝓤 : URA M) (H : Heap 𝓤) (A : Atoms 𝓤) (W : Given
 
   exits : (z0 : List ℕ) (z1 : List (List ℕ)) (r : LogAppend) (u : Val) → Is R n (mach n ∷ []) → Is S.the-row r (u ∷ []) → length z0 ≡ length (x0 .now) → length z1 ≡ length (x1 .now)
       → _≡_ {A = DidAppend} (record { wal = state (z0) (z1) (r .counters); answer = appendAnswer (dueOf (r .due)) (r .refusal) }) (appendOf (state (x0 .now) (x1 .now) n) (x2 .now) (x3 .now))
-      → ent 𝓤 (⋆ 𝓤 H A (‵ (flft κ0 q0) ∷ ‵ (flft κ1 q1) ∷ ‵ (flft κ2 q2) ∷ ‵ (flft κ3 q3) ∷ ‵ (finally u8 (x0 .name) z0) ∷ ‵ (finally (Array u64 3) (x1 .name) z1) ∷ ‵ (ShrSlice (named 2) κ2 u8 .own x2 (s2 ∷ [])) ∷ ‵ (ShrSlice (named 3) κ3 u8 .own x3 (s3 ∷ [])) ∷ [])) (Post u)
+      → ent 𝓤 (⋆ 𝓤 H A (‵ (flft κ0 q0) ∷ ‵ (flft κ1 q1) ∷ ‵ (flft κ2 q2) ∷ ‵ (flft κ3 q3) ∷ ‵ (finally u8 (x0 .name) z0) ∷ ‵ (finally (Array u64 4) (x1 .name) z1) ∷ ‵ (ShrSlice (named 2) κ2 u8 .own x2 (s2 ∷ [])) ∷ ‵ (ShrSlice (named 3) κ3 u8 .own x3 (s3 ∷ [])) ∷ [])) (Post u)
   exits z0 z1 r u wasn is len0 len1 e =
-      qed W (‵ (flft κ0 q0) ∷ ‵ (flft κ1 q1) ∷ ‵ (flft κ2 q2) ∷ ‵ (flft κ3 q3) ∷ ‵ (finally u8 (x0 .name) z0) ∷ ‵ (finally (Array u64 3) (x1 .name) z1) ∷ ‵ (ShrSlice (named 2) κ2 u8 .own x2 (s2 ∷ [])) ∷ ‵ (ShrSlice (named 3) κ3 u8 .own x3 (s3 ∷ [])) ∷ []) ∵
+      qed W (‵ (flft κ0 q0) ∷ ‵ (flft κ1 q1) ∷ ‵ (flft κ2 q2) ∷ ‵ (flft κ3 q3) ∷ ‵ (finally u8 (x0 .name) z0) ∷ ‵ (finally (Array u64 4) (x1 .name) z1) ∷ ‵ (ShrSlice (named 2) κ2 u8 .own x2 (s2 ∷ [])) ∷ ‵ (ShrSlice (named 3) κ3 u8 .own x3 (s3 ∷ [])) ∷ []) ∵
       suffices ! _ (ends-at 𝓤 H A self.ended stayed (self.clauses 𝓤 H A at-mem run) W (((κ0, (κ1, (κ2, (κ3, tt)))), (q0, (q1, (q2, (q3, tt)))), tt, x, at), tt) u r (z0, (z1, (tt, (tt, (tt, tt))))) (len0, (len1, (tt, (tt, (tt, tt)))))) $ says ! e $
       nothing ! $ move ! (4 ∷ 0 ∷ []) $ join ! $ move ! (3 ∷ 0 ∷ []) $ join ! $ move ! (2 ∷ 0 ∷ []) $ join ! $ move ! (1 ∷ 0 ∷ []) $ join ! $ frame ! $ nothing ! $ move ! (4 ∷ 0 ∷ []) $ fjoin ! $ move ! (3 ∷ 0 ∷ []) $ fjoin ! $ owned ! R (Is R) (LL.makes T.the-type T′.the-plain 𝓤 H A) n _ wasn $ fjoin ! $ move ! (2 ∷ 0 ∷ []) $ fjoin ! $ move ! (1 ∷ 0 ∷ []) $ fjoin ! $ owned ! S.the-row (Is S.the-row) (LL.makes S.the-type S′.the-plain 𝓤 H A) r _ is $ move ! (1 ∷ 0 ∷ []) $ done !
 
   module _ (C : Calls 𝓤 H) (Λ : Loops 𝓤 H) (fm : FmC 𝓤 H (W .laws) C) (known-into : Triple 𝓤 (C #into) (The-into 𝓤 H A at-mem run)) (known-after : Triple 𝓤 (C #after) (The-after 𝓤 H A at-mem run)) where
-    walk : Is R n (mach n ∷ []) → Room u8 (length (x0 .now)) → Room (Array u64 3) (length (x1 .now)) → Is (ShrSlice (named 2) κ2 u8) x2 (s2 ∷ []) → Is (ShrSlice (named 3) κ3 u8) x3 (s3 ∷ []) → ent 𝓤 (onEntry 𝓤 H A self.signature (κ0, (κ1, (κ2, (κ3, tt)))) (q0, (q1, (q2, (q3, tt)))) x at) (WpFn 𝓤 H C Λ code.function (s0 ∷ s1 ∷ mach n ∷ s2 ∷ s3 ∷ []) Post)
+    walk : Is R n (mach n ∷ []) → Room u8 (length (x0 .now)) → Room (Array u64 4) (length (x1 .now)) → Is (ShrSlice (named 2) κ2 u8) x2 (s2 ∷ []) → Is (ShrSlice (named 3) κ3 u8) x3 (s3 ∷ []) → ent 𝓤 (onEntry 𝓤 H A self.signature (κ0, (κ1, (κ2, (κ3, tt)))) (q0, (q1, (q2, (q3, tt)))) x at) (WpFn 𝓤 H C Λ code.function (s0 ∷ s1 ∷ mach n ∷ s2 ∷ s3 ∷ []) Post)
     walk wasn x0-is x1-is x2-is x3-is =
-        qed W ((‵ (flft κ0 q0) ⊛ ‵ (flft κ1 q1) ⊛ ‵ (flft κ2 q2) ⊛ ‵ (flft κ3 q3) ⊛ ‵ ftrue) ∷ ‵ (owns (MutSlice (named 0) κ0 u8 ∷ MutSlice (named 1) κ1 (Array u64 3) ∷ R ∷ ShrSlice (named 2) κ2 u8 ∷ ShrSlice (named 3) κ3 u8 ∷ []) x at) ∷ []) ∵ enter ! C Λ code.function (s0 ∷ s1 ∷ mach n ∷ s2 ∷ s3 ∷ []) _ $
+        qed W ((‵ (flft κ0 q0) ⊛ ‵ (flft κ1 q1) ⊛ ‵ (flft κ2 q2) ⊛ ‵ (flft κ3 q3) ⊛ ‵ ftrue) ∷ ‵ (owns (MutSlice (named 0) κ0 u8 ∷ MutSlice (named 1) κ1 (Array u64 4) ∷ R ∷ ShrSlice (named 2) κ2 u8 ∷ ShrSlice (named 3) κ3 u8 ∷ []) x at) ∷ []) ∵ enter ! C Λ code.function (s0 ∷ s1 ∷ mach n ∷ s2 ∷ s3 ∷ []) _ $
         alloc1 ! (λ l0. alloc1 ! (λ l1. alloc1 ! (λ l2. alloc1 ! (λ l3. alloc1 ! (λ l4. alloc1 ! (λ l5. alloc1 ! (λ l6. alloc1 ! (λ l7. alloc1 ! (λ l8. alloc1 ! (λ l9. alloc1 ! (λ l10. alloc1 ! (λ l11. alloc1 ! (λ l12. alloc1 ! (λ l13. alloc0 ! $ params1 ! $
         pass1 ! (init ! 24 refl (tt, (tt, (record { fits = x0-is .0 }, tt)))) $
         pass1 ! (init ! 22 refl (tt, (tt, (record { fits = x1-is .0 }, tt)))) $
@@ -229,12 +229,12 @@ module _ {M : Type 1} (𝓤 : URA M) (H : Heap 𝓤) (A : Atoms 𝓤) (W : Given
 
 module _ {M : Type 1} (𝓤 : URA M) (H : Heap 𝓤) (A : Atoms 𝓤) (W : Given 𝓤 H A) (mem : Memory → SProp 𝓤) (run : Routine → Fun 𝓤) where
   walks : (C : Calls 𝓤 H) (Λ : Loops 𝓤 H) → FmC 𝓤 H (W .laws) C → Triple 𝓤 (C #into) (The-into 𝓤 H A mem run) → Triple 𝓤 (C #after) (The-after 𝓤 H A mem run) → Walks 𝓤 H A self.ended stayed (WpFn 𝓤 H C Λ code.function) (self.clauses 𝓤 H A mem run)
-  walks C Λ fm known-into known-after = walked 𝓤 H A self.ended stayed (self.clauses 𝓤 H A mem run) (WpFn 𝓤 H C Λ code.function) (λ κs. (slice-vals, (slice-vals, (LL.vals T.the-type T′.the-laws, (slice-vals, (slice-vals, tt)))))) (λ κs. (mut-slice-tells (named 0) (κs .0) u8, (mut-slice-tells (named 1) (κs .1 .0) (Array u64 3), (LL.tells T.the-type T′.the-laws, (shr-slice-tells (named 2) (κs .1 .1 .0) u8, (shr-slice-tells (named 3) (κs .1 .1 .1 .0) u8, tt))))))
+  walks C Λ fm known-into known-after = walked 𝓤 H A self.ended stayed (self.clauses 𝓤 H A mem run) (WpFn 𝓤 H C Λ code.function) (λ κs. (slice-vals, (slice-vals, (LL.vals T.the-type T′.the-laws, (slice-vals, (slice-vals, tt)))))) (λ κs. (mut-slice-tells (named 0) (κs .0) u8, (mut-slice-tells (named 1) (κs .1 .0) (Array u64 4), (LL.tells T.the-type T′.the-laws, (shr-slice-tells (named 2) (κs .1 .1 .0) u8, (shr-slice-tells (named 3) (κs .1 .1 .1 .0) u8, tt))))))
       (λ κs qs bounds a g are. via 𝓤 _ (fst∗ 𝓤 _ (emp 𝓤)) (walk 𝓤 H A W mem run (κs .0) (κs .1 .0) (κs .1 .1 .0) (κs .1 .1 .1 .0) (qs .0) (qs .1 .0) (qs .1 .1 .0) (qs .1 .1 .1 .0) (a .0) (a .1 .0) (a .1 .1 .0) (a .1 .1 .1 .0) (a .1 .1 .1 .1 .0) C Λ fm known-into known-after (are .1 .1 .0) (are .0 .0 .1) (are .1 .0 .0 .1) (are .1 .1 .1 .0) (are .1 .1 .1 .1 .0)))
 
 meets : {M : Type 1} (𝓤 : URA M) (H : Heap 𝓤) (A : Atoms 𝓤) → Given 𝓤 H A → (mem : Memory → SProp 𝓤) (run : Routine → Fun 𝓤) (𝓣 : Tables 𝓤 H) → Triple 𝓤 (𝓣 .C #into) (The-into 𝓤 H A mem run) → Triple 𝓤 (𝓣 .C #after) (The-after 𝓤 H A mem run)
     → Meets 𝓤 H A self.signature (WpFn 𝓤 H (𝓣 .C) (𝓣 .Λ) code.function) (self.spec 𝓤 H A mem run)
-meets 𝓤 H A W mem run 𝓣 known-into known-after = walk-meets 𝓤 H A self.ended stayed W (goes-gave-slice 𝓤 H A W 4 0 tt (plain (λ _. u8)), (goes-gave-slice 𝓤 H A W 4 1 tt (ArrayOf (plain (λ _. u64)) (λ κs. tt) 3), (goes-none 𝓤 H A W 4 (λ _. R) yes (λ κs x f. refl), (goes-none-slice 𝓤 H A W 4 (2 ∷ []) tt (plain (λ _. u8)) yes, (goes-none-slice 𝓤 H A W 4 (3 ∷ []) tt (plain (λ _. u8)) yes, tt))))) (self.clauses 𝓤 H A mem run) (WpFn 𝓤 H (𝓣 .C) (𝓣 .Λ) code.function) (WpFn-mono 𝓤 H (W .laws) 𝓣 code.function)
+meets 𝓤 H A W mem run 𝓣 known-into known-after = walk-meets 𝓤 H A self.ended stayed W (goes-gave-slice 𝓤 H A W 4 0 tt (plain (λ _. u8)), (goes-gave-slice 𝓤 H A W 4 1 tt (ArrayOf (plain (λ _. u64)) (λ κs. tt) 4), (goes-none 𝓤 H A W 4 (λ _. R) yes (λ κs x f. refl), (goes-none-slice 𝓤 H A W 4 (2 ∷ []) tt (plain (λ _. u8)) yes, (goes-none-slice 𝓤 H A W 4 (3 ∷ []) tt (plain (λ _. u8)) yes, tt))))) (self.clauses 𝓤 H A mem run) (WpFn 𝓤 H (𝓣 .C) (𝓣 .Λ) code.function) (WpFn-mono 𝓤 H (W .laws) 𝓣 code.function)
     (walks 𝓤 H A W mem run (𝓣 .C) (𝓣 .Λ) (fmOf 𝓤 H (W .laws) 𝓣) known-into known-after)
 
 pub append-spec : {M : Type 1} → stated.statement M

@@ -1,7 +1,7 @@
 -- `step::step` meets its contract: by where the turn stands, and by whether the marks put out an order. Assumes nothing.
-use mathlib.Core.Path.{_∙_}
-use Rattle.points.proofs.WordLaws.{at-rest, at-asks, at-runs}
 use Rattle.turn.proofs.StepLaws.{step-rests, step-asks, step-goes, step-stops}
+use Rattle.points.proofs.WordLaws.{at-rest, at-asks, at-runs}
+use mathlib.Core.Path.{_∙_}
 use borrow.Author.Needs.{needs}
 use Rattle.turn.proofs.step.step.Statement.{statement}
 use Rattle.turn.proofs.step.step.Tie as tie
@@ -27,8 +27,8 @@ mark-at-requires c κs = search needs
 disk-free-requires : tie.Need-disk-free-requires
 disk-free-requires c κs = search needs
 
-go-requires : tie.Need-go-requires
-go-requires c κs = search needs
+run-point-requires : tie.Need-run-point-requires
+run-point-requires c κs = search needs
 
 returns : tie.Need-returns
 returns c = step-rests _ (c .before .before .before .where-in .ensures ∙ at-rest _ (simp (c .before .before .at-kind .ensures) at (c .enum-told .given .1)))
@@ -55,10 +55,9 @@ same-length-6 : tie.Need-same-length-6
 same-length-6 c = search needs
 
 returns-3 : tie.Need-returns-3
-returns-3 c =
-    let stands = c .before .before .before .before .before .before .before .before .before .before .before .before .before .before .before .before .before .before .before .before .before .before .before .before .before .before .where-in .ensures ∙ at-runs _ (simp (c .before .before .before .before .before .before .before .before .before .before .before .before .before .before .before .before .before .before .before .before .before .before .before .before .before .at-kind .ensures) at (c .before .before .before .before .before .before .before .before .before .before .before .before .before .before .before .before .before .before .before .before .before .before .before .enum-told3 .given .1)) in
-    let free = simp (c .before .before .before .before .before .before .before .before .before .before .before .disk-free .ensures) at (c .before .before .before .before .before .before .before .before .before .before .if1 .taken) in
-    step-goes _ _ stands _ (c .before .before .before .before .before .before .before .before .before .before .before .before .before .before .before .before .before .mark-at .ensures _ _ _ _) _ free (c .before .before .before .before .go .ensures _ _)
+returns-3 c = let stands = c .before .before .before .before .before .before .before .before .before .before .before .before .before .before .before .before .before .before .before .before .before .before .before .before .before .before .before .before .before .before .before .where-in .ensures ∙ at-runs _ (simp (c .before .before .before .before .before .before .before .before .before .before .before .before .before .before .before .before .before .before .before .before .before .before .before .before .before .before .before .before .before .before .at-kind .ensures) at (c .before .before .before .before .before .before .before .before .before .before .before .before .before .before .before .before .before .before .before .before .before .before .before .before .before .before .before .before .enum-told3 .given .1)) in
+    let free = simp (c .before .before .before .before .before .before .before .before .before .before .before .before .before .before .before .before .disk-free .ensures) at (c .before .before .before .before .before .before .before .before .before .before .before .before .before .before .before .if1 .taken) in
+    step-goes _ _ stands _ (c .before .before .before .before .before .before .before .before .before .before .before .before .before .before .before .before .before .before .before .before .before .before .mark-at .ensures _ _ _ _) _ free (c .before .before .before .before .before .before .before .run-point .ensures)
 
 same-length-7 : tie.Need-same-length-7
 same-length-7 c = search needs
@@ -73,8 +72,7 @@ same-length-10 : tie.Need-same-length-10
 same-length-10 c = search needs
 
 returns-4 : tie.Need-returns-4
-returns-4 c =
-    let stands = c .before .before .before .before .before .before .before .before .before .before .before .before .before .before .before .before .where-in .ensures ∙ at-runs _ (simp (c .before .before .before .before .before .before .before .before .before .before .before .before .before .before .before .at-kind .ensures) at (c .before .before .before .before .before .before .before .before .before .before .before .before .before .enum-told3 .given .1)) in
+returns-4 c = let stands = c .before .before .before .before .before .before .before .before .before .before .before .before .before .before .before .before .where-in .ensures ∙ at-runs _ (simp (c .before .before .before .before .before .before .before .before .before .before .before .before .before .before .before .at-kind .ensures) at (c .before .before .before .before .before .before .before .before .before .before .before .before .before .enum-told3 .given .1)) in
     let waits = simp (c .before .disk-free .ensures) at (c .if1 .left) in
     step-stops _ _ stands _ (c .before .before .before .before .before .before .before .mark-at .ensures _ _ _ _) waits
 
@@ -89,7 +87,7 @@ step-spec =
     enum-told-3
     mark-at-requires
     disk-free-requires
-    go-requires
+    run-point-requires
     returns
     returns-2
     same-length

@@ -4,8 +4,8 @@ use Prim.Native.Nat.{_+_}
 use native.Mathlib.Omega.{arith}
 use borrow.Author.Tests.{lt-leb}
 use Rattle.log.proofs.TableLaws.{room-behind}
-use Rattle.log.proofs.wal.fits_behind.Statement.{statement}
-use Rattle.log.proofs.wal.fits_behind.Tie as tie
+use Rattle.log.proofs.rewrite.fits_behind.Statement.{statement}
+use Rattle.log.proofs.rewrite.fits_behind.Tie as tie
 
 returns : tie.Need-returns
 returns c =

@@ -6,8 +6,8 @@ use borrow.Author.Needs.{needs}
 use lib.ListN.{length, length-set}
 use Rattle.text.specs.Bytes.{write, part}
 use Rattle.text.proofs.WriteLaws.{move-step, move-end, move-same}
-use Rattle.log.proofs.wal.move_down.Statement.{statement}
-use Rattle.log.proofs.wal.move_down.Tie as tie
+use Rattle.log.proofs.rewrite.move_down.Statement.{statement}
+use Rattle.log.proofs.rewrite.move_down.Tie as tie
 
 abbrev Inv-loop : tie.InvT-loop
 Inv-loop log₀ a n to end k₀ p₀ log k p = (p ≤ k) × (k ≤ end) × (end ≤ length log) × (length log ≡ length log₀) × (write log p (part log k end) ≡ write log₀ to (part log₀ a end))

@@ -1,0 +1,46 @@
+-- A difference, or no row.
+use Rattle.text.specs.Format.{attemptsLine}
+use native.Mathlib.Omega.{arith}
+use mathlib.Core.List.{[]}
+use lib.ListN.{List·getD-eq-default}
+use borrow.Author.Needs.{needs}
+use Rattle.log.proofs.wal.less_tries.Statement.{statement}
+use Rattle.log.proofs.wal.less_tries.Tie as tie
+
+mul-r : tie.Need-mul-r
+mul-r c = search needs
+
+shared-slice-copy-out-r : tie.Need-shared-slice-copy-out-r
+shared-slice-copy-out-r c = search needs
+
+array-read-tries-len : tie.Need-array-read-tries-len
+array-read-tries-len c = search needs
+
+array-read-tries-len-2 : tie.Need-array-read-tries-len-2
+array-read-tries-len-2 c = search needs
+
+tries-len-requires : tie.Need-tries-len-requires
+tries-len-requires c κs = search needs
+
+saturating-sub-requires : tie.Need-saturating-sub-requires
+saturating-sub-requires c κs = search needs
+
+returns : tie.Need-returns
+returns c = omega (arith, c .saturating-sub .ensures, c .before .tries-len .ensures)
+
+returns-2 : tie.Need-returns-2
+unfolding attemptsLine
+returns-2 c = rw (List·getD-eq-default (c .before .args .records .now) [] {n = c .before .args .i} (c .if1 .left)) (omega arith)
+
+pub less-tries-spec : {M : Type 1} → statement M
+less-tries-spec =
+    tie.close
+    (tie.spec
+    mul-r
+    shared-slice-copy-out-r
+    array-read-tries-len
+    array-read-tries-len-2
+    tries-len-requires
+    saturating-sub-requires
+    returns
+    returns-2)

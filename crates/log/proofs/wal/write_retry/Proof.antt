@@ -1,0 +1,78 @@
+-- The line fills the part of the log that starts at size; else the rewrite.
+use Rattle.log.proofs.WalLaws.{compacted-is, retry-behind, retry-anew}
+use Rattle.log.specs.Log.{state}
+use Rattle.text.proofs.AnswerLaws.{filled-part}
+use Rattle.text.specs.Format.{retryLine}
+use lib.ListN.{length}
+use borrow.Author.Tests.{leb-true}
+use native.Mathlib.Omega.{arith}
+use Prim.Native.Nat.{_+_}
+use mathlib.Core.Path.{sym, _∙_}
+use borrow.Author.Needs.{needs}
+use Rattle.log.proofs.wal.write_retry.Statement.{statement}
+use Rattle.log.proofs.wal.write_retry.Tie as tie
+
+retry-len-requires : tie.Need-retry-len-requires
+retry-len-requires c κs = search needs
+
+fits-behind-requires : tie.Need-fits-behind-requires
+fits-behind-requires c κs = search needs
+
+sub-encode-retry : tie.Need-sub-encode-retry
+sub-encode-retry c = omega (arith, leb-true (c .before .before .before .before .args .counters .size + c .before .before .retry-len .result) (length (c .before .before .before .before .args .log .now)) (sym (c .before .fits-behind .ensures) ∙ c .if1 .taken))
+
+part-encode-retry-start : tie.Need-part-encode-retry-start
+part-encode-retry-start c = omega (arith, leb-true (c .before .before .before .before .args .counters .size + c .before .before .retry-len .result) (length (c .before .before .before .before .args .log .now)) (sym (c .before .fits-behind .ensures) ∙ c .if1 .taken))
+
+part-encode-retry-end : tie.Need-part-encode-retry-end
+part-encode-retry-end c = search needs
+
+encode-retry-requires : tie.Need-encode-retry-requires
+encode-retry-requires c κs = search needs
+
+add-t16 : tie.Need-add-t16
+add-t16 c = omega (arith, leb-true (c .before .before .before .before .before .before .before .before .args .counters .size + c .before .before .before .before .before .before .retry-len .result) (length (c .before .before .before .before .before .before .before .before .args .log .now)) (sym (c .before .before .before .before .before .fits-behind .ensures) ∙ c .before .before .before .before .if1 .taken))
+
+add-t16-2 : tie.Need-add-t16-2
+add-t16-2 c = omega (arith, leb-true (c .before .before .before .before .before .before .before .before .args .counters .size + c .before .before .before .before .before .before .retry-len .result) (length (c .before .before .before .before .before .before .before .before .args .log .now)) (sym (c .before .before .before .before .before .fits-behind .ensures) ∙ c .before .before .before .before .if1 .taken))
+
+same-length : tie.Need-same-length
+same-length c = search needs
+
+returns : tie.Need-returns
+returns c = let fit = sym (c .before .before .before .before .before .fits-behind .ensures) ∙ c .before .before .before .before .if1 .taken in
+    let room = leb-true (c .before .before .before .before .before .before .before .before .args .counters .size + c .before .before .before .before .before .before .retry-len .result) (length (c .before .before .before .before .before .before .before .before .args .log .now)) fit in
+    retry-behind (state (c .before .before .before .before .before .before .before .before .args .log .now) (c .before .before .before .before .before .before .before .before .args .records .now) (c .before .before .before .before .before .before .before .before .args .counters)) (c .before .before .before .before .before .before .before .before .args .id) (c .before .before .before .before .before .before .before .before .args .attempts) (c .before .before .before .before .before .before .retry-len .result) (c .before .before .before .before .before .before .retry-len .ensures) fit _
+    (filled-part (c .before .before .before .before .before .before .before .before .args .log .now) (c .before .before .before .before .before .before .before .before .args .counters .size) (retryLine (c .before .before .before .before .before .before .before .before .args .id) (c .before .before .before .before .before .before .before .before .args .attempts)) _ _ (omega (arith, c .before .before .before .before .before .before .retry-len .ensures)) (c .before .before .encode-retry .ensures))
+
+compact-requires : tie.Need-compact-requires
+compact-requires c κs = search needs
+
+same-length-2 : tie.Need-same-length-2
+same-length-2 c = search needs
+
+same-length-3 : tie.Need-same-length-3
+same-length-3 c = search needs
+
+returns-2 : tie.Need-returns-2
+returns-2 c = retry-anew (state (c .before .before .before .before .before .before .before .before .before .before .args .log .now) (c .before .before .before .before .before .before .before .before .before .before .args .records .now) (c .before .before .before .before .before .before .before .before .before .before .args .counters)) (c .before .before .before .before .before .before .before .before .before .before .args .id) (c .before .before .before .before .before .before .before .before .before .before .args .attempts) (c .before .before .before .before .before .before .before .before .retry-len .result) (c .before .before .before .before .before .before .before .before .retry-len .ensures) (sym (c .before .before .before .before .before .before .before .fits-behind .ensures) ∙ c .before .before .before .before .before .before .if1 .left) _
+    (compacted-is (c .before .before .before .before .before .before .before .before .before .before .args .log .now) _ (c .before .before .before .before .before .before .before .before .before .before .args .records .now) _ (c .before .before .before .before .before .before .before .before .before .before .args .counters) (c .before .before .before .compact .ensures))
+
+pub write-retry-spec : {M : Type 1} → statement M
+write-retry-spec =
+    tie.close
+    (tie.spec
+    retry-len-requires
+    fits-behind-requires
+    sub-encode-retry
+    part-encode-retry-start
+    part-encode-retry-end
+    encode-retry-requires
+    add-t16
+    add-t16-2
+    same-length
+    returns
+    compact-requires
+    same-length-2
+    same-length-3
+    returns-2)
