@@ -245,7 +245,8 @@ module _ (w : Wal) (ms : List Message) (s : Stands w ms) where
         (without .counters .size + length (doneLine id)))
     unfolding callEffect extended withoutRow doneLine
     mark-grown h = record {
-      stands = extended-stands without rest (doneLine id) (laid without rest standing) h (omega (arith, standing .fits));
+      stands =
+          extended-stands without rest (doneLine id) (laid without rest standing) h (omega (arith, standing .fits));
       long = extended-long without (doneLine id) h;
       tail = extended-tail without (doneLine id) h;
       kind = appends (printId id) (extended-sent without (doneLine id) h) (printId-free id)

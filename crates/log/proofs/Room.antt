@@ -254,8 +254,8 @@ takeIn-short r text f o = at (readLine text) refl
         omega (arith, image-retried id n (r .left) 0 (r .next) o, retry-short text id n e)
     at other e = omega arith
 
-readLines-short : (ts : List (List ℕ)) (r : Read) → FreePieces LF ts → InOrder r → length (image ((readLines r ts) .left)) ≤ length
-    (image (r .left)) + weight ts
+readLines-short : (ts : List (List ℕ)) (r : Read) → FreePieces LF ts → InOrder r
+    → length (image ((readLines r ts) .left)) ≤ length (image (r .left)) + weight ts
 unfolding readLines weight
 readLines-short [] r f o = omega arith
 readLines-short (t ∷ ts) r f o = omega (

@@ -20,8 +20,8 @@ unfolding RowEnds.allTrue RowEnds.rowEnds RowEnds.sameBytes RowEnds.ids RowEnds.
     Opening.insert Opening.remove Opening.takeIn Opening.readLines Opening.readFile Opening.fits Opening.allFit
     Opening.judge Opening.opening Opening.image
     Log.extended Log.rewritable Log.rowsImage Log.rowsPlaced Log.rewrite Log.compacted Log.withRecord
-    Log.appendRefusal Log.appended Log.appendOf Log.halved Log.searchRow Log.withoutRow Log.keeps Log.markedDone Log.markOf Log.syncLog
-    Recovery.didCall
+    Log.appendRefusal Log.appended Log.appendOf Log.halved Log.searchRow Log.withoutRow Log.keeps Log.markedDone
+    Log.markOf Log.syncLog Recovery.didCall
 row-ends = refl
 
 pub refusals-hold : allTrue refusals ≡ true
@@ -34,8 +34,8 @@ unfolding RowEnds.allTrue RowEnds.refusals RowEnds.refusedBy RowEnds.turnedAwayB
     Opening.insert Opening.remove Opening.takeIn Opening.readLines Opening.readFile Opening.fits Opening.allFit
     Opening.judge Opening.opening Opening.image
     Log.extended Log.rewritable Log.rowsImage Log.rowsPlaced Log.rewrite Log.compacted Log.withRecord
-    Log.appendRefusal Log.appended Log.appendOf Log.halved Log.searchRow Log.withoutRow Log.keeps Log.markedDone Log.markOf Log.syncLog
-    Recovery.didCall
+    Log.appendRefusal Log.appended Log.appendOf Log.halved Log.searchRow Log.withoutRow Log.keeps Log.markedDone
+    Log.markOf Log.syncLog Recovery.didCall
 refusals-hold = refl
 
 pub spellings-hold : allTrue spellings ≡ true

@@ -149,8 +149,8 @@ tabled-image bytes to (m ∷ ms) h =
       omega arith,
       mine,
       tabled-start _ _ _ ms _ _ next
-          (subst (λ j. Tabled (write bytes to ((recordLine m ++ tries) ++ image ms)) (to + length (recordLine m ++ tries))
-          ms (rowsFrom (to + length (recordLine m ++ tries)) ms) j) size
+          (subst (λ j. Tabled (write bytes to ((recordLine m ++ tries) ++ image ms))
+          (to + length (recordLine m ++ tries)) ms (rowsFrom (to + length (recordLine m ++ tries)) ms) j) size
           (subst (λ d. Tabled d (to + length (recordLine m ++ tries)) ms
           (rowsFrom (to + length (recordLine m ++ tries)) ms) (to + length (recordLine m ++ tries) + length (image ms)))
           both others)),

@@ -1,5 +1,5 @@
--- The two halves of a rewrite in place: the records are packed one behind the other, then spread so that each retry line
--- has its place behind its record.
+-- The two halves of a rewrite in place: the records are packed one behind the other, then spread so that each retry
+-- line has its place behind its record.
 use mathlib.Core.Bool.{true, false}
 use mathlib.Core.List.{List, [], _∷_, _++_}
 use Prim.Native.Nat.{ℕ, _+_, _≤_}

@@ -1,6 +1,5 @@
--- Reading a file with a table of rows (id, where its line begins, attempts): what the parts of the reader answer. Rows beyond
--- the table's room are let go from the largest id on,
--- and read in a later pass.
+-- Reading a file with a table of rows (id, where its line begins, attempts): what the parts of the reader answer. Rows
+-- beyond the table's room are let go from the largest id on, and read in a later pass.
 use mathlib.Core.Path.{_≡_}
 use mathlib.Core.Bool.{Bool, true, false, _&&_}
 use mathlib.Core.List.{List, [], _∷_, _++_, map}

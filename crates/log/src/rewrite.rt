@@ -1,6 +1,6 @@
 // The rewrite: the log's first bytes become its open records in their order, each with its retry line directly behind
-// it. It goes by the table, in place and with no bytes to spare: first the records move down, one behind the other; then,
-// from the last one on, each moves up to its place, and its retry line is printed behind it.
+// it. It goes by the table, in place and with no bytes to spare: first the records move down, one behind the other;
+// then, from the last one on, each moves up to its place, and its retry line is printed behind it.
 ghost use mathlib.Core.Path.{_≡_};
 ghost use Prim.Native.Nat.{_+_, _≤_};
 ghost use lib.Dec.{leb};

@@ -1,6 +1,6 @@
 // The log's steps: append, mark, retry and sync.
-// The counters are lent by `&mut` to `append`, `mark`, `retry` and `sync`, which are proved by walks (tools/stepped.py).
-// The work is in `append_step`, `mark_step`, `retry_step` and `sync_step`, by value.
+// The counters are lent by `&mut` to `append`, `mark`, `retry` and `sync`, which are proved by walks
+// (tools/stepped.py). The work is in `append_step`, `mark_step`, `retry_step` and `sync_step`, by value.
 ghost use mathlib.Core.Path.{_≡_};
 ghost use mathlib.Core.List.{[]};
 ghost use Prim.Native.Nat.{_+_, _-_, _≤_};

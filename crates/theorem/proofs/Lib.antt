@@ -34,6 +34,8 @@ pub mod Replies
 pub mod OrderShown
 pub mod Refused
 pub mod Calls
+pub mod RetriesRun
+pub mod RetriesWritten
 pub mod Loaded
 pub mod Refusals
 pub mod Opened

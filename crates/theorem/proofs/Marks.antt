@@ -36,7 +36,7 @@ pub record GoesOut (next : ℕ) (did : DidMark) : Type 0 where
   pub next-is : did .wal .counters .next ≡ next
 
 -- the row of an id that is open is found
-row-found : (x size : ℕ) (bytes : List ℕ) (ms : List Message) (rs : List (List ℕ)) (start j : ℕ)
+pub row-found : (x size : ℕ) (bytes : List ℕ) (ms : List Message) (rs : List (List ℕ)) (start j : ℕ)
     → Tabled bytes start ms rs size → 0 < count x (idsOf ms) → (k : ℕ) × (findRow j x rs ≡ some k)
 unfolding findRow count
 row-found x size bytes [] [] start j t there = absurd (omega arith)

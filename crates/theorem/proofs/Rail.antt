@@ -23,9 +23,11 @@ use Rattle.pool.specs.Open.{openOf}
 use Rattle.theorem.specs.Rail.{Call, World, Accepts, begin, after, mailboxAt, handAt, Living}
 use Rattle.theorem.specs.Rail.{Reopens, Holds, WholeRail, MailboxesChained, TailsKept, RefusedSame, OrdersFit}
 use Rattle.theorem.specs.Rail.{AdmitsLoaded}
+use Rattle.theorem.specs.Retries.{RetriesWritten}
 use Rattle.theorem.proofs.Invariant.{Steady}
 use Rattle.theorem.proofs.Calls.{run-steady, size-is, tail-kept, order-fits}
 use Rattle.theorem.proofs.Refused.{refused-stays}
+use Rattle.theorem.proofs.RetriesWritten.{call-retries}
 use Rattle.theorem.proofs.Opened.{accepted-taken, refused-untouched}
 use Rattle.theorem.proofs.Opening.{limitsOf, opens-long, opens-replacing, opens-tail, open-steady, reopens}
 use Rattle.theorem.proofs.Loaded.{run-long, admit-comes, admit-away}
@@ -122,6 +124,10 @@ orders-fit = record {
   calls = λ l ok before c.
       order-fits (length (l .bytes)) (limitsOf l) (after l before) c (after-steady l ok before);
 }
+
+pub retries-written : RetriesWritten
+retries-written l ok before c =
+    call-retries (length (l .bytes)) (limitsOf l) (after l before) c (after-steady l ok before)
 
 -- the body store has its length
 stored-long : (l : Lent) → Accepts l → (calls : List Call) → length (after l calls .state .store) ≡ 40960

@@ -208,7 +208,7 @@ module _ (long : ℕ) (limits : Limits) (w : World) (steady : Steady long limits
 
   -- ---- turn
 
-  begun-works : inTurn (p .turn .at) ≡ false → Working long j (withPool s (begunTurn p))
+  pub begun-works : inTurn (p .turn .at) ≡ false → Working long j (withPool s (begunTurn p))
   begun-works rests = record {
     sound = works .sound;
     ids = works .ids;
@@ -284,7 +284,7 @@ module _ (long : ℕ) (limits : Limits) (w : World) (steady : Steady long limits
     abbrev c : Call
     c = reply r name body
 
-    replying : Marking w c
+    pub replying : Marking w c
     replying = (refl, λ s o h. h)
 
     -- to an order
@@ -295,10 +295,10 @@ module _ (long : ℕ) (limits : Limits) (w : World) (steady : Steady long limits
       waiting : j .disk .status ≡ disk.waits out
       waiting = subst (λ q. Agrees q (j .disk .status) (s .bytes)) (waits .is) (works .agrees)
 
-      from : (x : StoredIn) → storedIn r ≡ x → answered j c ≡ orderAnswered j out x
+      pub from : (x : StoredIn) → storedIn r ≡ x → answered j c ≡ orderAnswered j out x
       from x is = ap (answeredBy j (j .disk .status)) is ∙ answered-waits long j out waiting x
 
-      freed-works : Working long (disk.storedOrder j out) (freed s)
+      pub freed-works : Working long (disk.storedOrder j out) (freed s)
       unfolding disk.storedOrder
       freed-works =
           disk-works (disk.storedOrder j out) (p .turn .counters) order.Free refl (works .wal)
@@ -342,7 +342,7 @@ module _ (long : ℕ) (limits : Limits) (w : World) (steady : Steady long limits
 
     -- to the turn's question
     module _ (free : p .turn .disk ≡ order.Free) where
-      still-from : answered j c ≡ j
+      pub still-from : answered j c ≡ j
       still-from = answered-settled j (storedIn r) (settled free)
 
       -- a message that was sent
@@ -362,7 +362,7 @@ module _ (long : ℕ) (limits : Limits) (w : World) (steady : Steady long limits
           (sent-works room) (steady .ledger) (steady .limits-are)
 
       -- any other: the turn goes on
-      resumed-works : Working long j (resumeAt s r)
+      pub resumed-works : Working long j (resumeAt s r)
       unfolding resumeAt
       resumed-works = go (p .turn .at) refl
         where

@@ -54,7 +54,7 @@ record Tries (groups t rows : Table) (g from e : ℕ) : Type 0 where
   first : firstOf t from ≡ found.Entry e
   below : ltb (messageAt rows e .attempts) (groupAt groups g .retry) ≡ true
 
-found-again : (groups rows : Table) (g e : ℕ) (f : Found) → againFound groups rows g f ≡ found.Entry e
+pub found-again : (groups rows : Table) (g e : ℕ) (f : Found) → againFound groups rows g f ≡ found.Entry e
     → (f ≡ found.Entry e) × (ltb (messageAt rows e .attempts) (groupAt groups g .retry) ≡ true)
 found-again groups rows g e found.Nothing is = let z : _≡_ {A = ℕ} 0 1 = cc in absurd (omega arith)
 found-again groups rows g e (found.Entry x) is =
@@ -63,7 +63,9 @@ found-again groups rows g e (found.Entry x) is =
     at : (b : Bool) → ltb (messageAt rows x .attempts) (groupAt groups g .retry) ≡ b
         → (found.Entry x ≡ found.Entry e)
         × (ltb (messageAt rows e .attempts) (groupAt groups g .retry) ≡ true)
-    at true b = let same : x ≡ e = cc in (cc, ap (λ k. ltb (messageAt rows k .attempts) (groupAt groups g .retry)) (sym same) ∙ b)
+    at true b =
+        let same : x ≡ e = cc in
+        (cc, ap (λ k. ltb (messageAt rows k .attempts) (groupAt groups g .retry)) (sym same) ∙ b)
     at false b = let z : _≡_ {A = ℕ} 0 1 = cc in absurd (omega arith)
 
 module _ (groups t rows : Table) (g from e dead : ℕ) (good : Good t) (apart : from ≢ PENDING)
@@ -126,6 +128,19 @@ unfolding againFirst
 same-first groups rows g t r from same =
     ap (againFound groups rows g) (first-is r from ∙ (ap firstIn same ∙ sym (first-is t from)))
 
+-- what is tried again of a slot's hand is the same when its mailbox went back to pending
+pub hand-again : (groups t rows : Table) (g slot : ℕ) → Good t
+    → againFirst groups (mailBack t slot) rows g (handOf slot) ≡ againFirst groups t rows g (handOf slot)
+hand-again groups t rows g slot good = at (decLt slot 128)
+  where
+    at : Dec (slot < 128)
+        → againFirst groups (mailBack t slot) rows g (handOf slot) ≡ againFirst groups t rows g (handOf slot)
+    at (yes p) = same-first groups rows g t (mailBack t slot) (handOf slot) (hand-stays t good slot p)
+    at (no p) =
+        past-none groups (mailBack t slot) rows g slot
+        (all-rule t good (mailboxOf slot) PENDING Good good (λ pair. move-all pair .good)) p
+        ∙ sym (past-none groups t rows g slot good p)
+
 module _ (s : State) (good : Good (s .links)) (c : Cursor) where
   trapped-last : (k left e : ℕ) → againTrapped s c (key.At k) ≡ found.Entry e
       → lastIn (view (handleCrash (s .groups) (dying (mailBack (s .links) (slotAt (c .group) k)) (s .rows)
@@ -143,8 +158,7 @@ module _ (s : State) (good : Good (s .links)) (c : Cursor) where
           (handOf (slotAt (c .group) k)) e (s .pool .turn .counts .losses .dead)
           (back-good (s .links) good (slotAt (c .group) k) p)
           (λ z. omega (arith, hand-is (slotAt (c .group) k) p))
-          (same-first (s .groups) (s .rows) (c .group) (s .links) (mailBack (s .links) (slotAt (c .group) k))
-          (handOf (slotAt (c .group) k)) (hand-stays (s .links) good (slotAt (c .group) k) p) ∙ is)
+          (hand-again (s .groups) (s .links) (s .rows) (c .group) (slotAt (c .group) k) good ∙ is)
       at (no p) =
           let nobody = past-none (s .groups) (s .links) (s .rows) (c .group) (slotAt (c .group) k) good p in
           let z : _≡_ {A = ℕ} 0 1 = cc nobody in

@@ -185,7 +185,7 @@ moved-works long j s s′ works aside went holds = record {
   journal = works .journal;
 }
 
-point-works : (long : ℕ) (j : disk.LogWorld) (s : State) (p : Point) → s .pool .turn .at ≡ at.Runs p → Working long j s
+pub point-works : (long : ℕ) (j : disk.LogWorld) (s : State) (p : Point) → s .pool .turn .at ≡ at.Runs p → Working long j s
     → Working long j (goOf s p)
 point-works long j s p at-is works =
     moved-works long j s (goOf s p) works (go-aside s p) (go-keeps s p (works .sound))
@@ -308,7 +308,7 @@ module _ (long : ℕ) (j : disk.LogWorld) (s : State) (free : s .pool .turn .dis
       (λ e. by-id (omega (arith, eqb-false (lenOf (s .links) OVER) 0 e))
       (messageAt (s .rows) (headOf (s .links) OVER) .id) refl)
 
-  marks-run : Runs long j (markAt s p)
+  pub marks-run : Runs long j (markAt s p)
   marks-run = pick-rule (Runs long j) (marksAt p) (λ e. first-runs) (λ e. still free works)
 
 -- ---- what a point tried again is written
@@ -382,9 +382,9 @@ module _ (long : ℕ) (j : disk.LogWorld) (s : State) (free : s .pool .turn .dis
     abbrev written : DidMark
     written = retryOf (walOf s) (id .0) n
 
-    among : 0 < count (id .0) (idsOf (j .now))
+    pub last-among : 0 < count (id .0) (idsOf (j .now))
     unfolding stands
-    among =
+    last-among =
         omega (
           arith,
           works .ids (id .0),
@@ -416,12 +416,13 @@ module _ (long : ℕ) (j : disk.LogWorld) (s : State) (free : s .pool .turn .dis
         last = last;
         id = id;
         own = own;
-        among = among;
+        among = last-among;
         told = ltb-true 0 n (and-left (ltb 0 n) (leb n ATTEMPTS) counts);
         most = leb-true n ATTEMPTS (and-right (ltb 0 n) (leb n ATTEMPTS) counts);
       }
 
-      journal-is : log.Sound long (disk.issue j (written .wal) (retried (id .0) n (j .now)) (disk.sent (written .wal .bytes) o))
+      journal-is : log.Sound long
+          (disk.issue j (written .wal) (retried (id .0) n (j .now)) (disk.sent (written .wal .bytes) o))
       journal-is =
           subst (λ v. retryOf v (id .0) n .due ≡ due.Ordered o
           → log.Sound long (disk.issue j (retryOf v (id .0) n .wal) (retried (id .0) n (j .now))
@@ -507,7 +508,7 @@ free-runs long j s p at-is (marks o id waits there next tail works) =
 free-runs long j s p at-is (tries o for l waits next tail works) =
     subst (λ d. Runs long j (pick (isFree d) (ranOf s p) s)) (sym waits) (tries o for l waits next tail works)
 
-step-runs : (long : ℕ) (j : disk.LogWorld) (s : State) → runningOf (s .pool) ≡ true → Runs long j s
+pub step-runs : (long : ℕ) (j : disk.LogWorld) (s : State) → runningOf (s .pool) ≡ true → Runs long j s
     → Runs long j (turnStep s)
 step-runs long j s run (still free works) =
     step-rule (Runs long j) s run

@@ -97,7 +97,7 @@ unfolding putMessage
 rows-length rows e m = simp length-set
 
 -- past the table's end nothing is written
-row-past : (rows : Table) (e : ℕ) (m : Message) → length rows ≤ e → putMessage rows e m ≡ rows
+pub row-past : (rows : Table) (e : ℕ) (m : Message) → length rows ≤ e → putMessage rows e m ≡ rows
 unfolding putMessage
 row-past rows e m out = set-out rows e (messageCells m) out
 

@@ -57,7 +57,8 @@ module _ {t rows t′ : Table} {q : ℕ} where
       → (_≡_ {A = Logged} (logged.As (record { 0 = m .id })) id → ⊥) → TriedAs t rows m → TriedAs t′ rows m
   other-tried gone m other here = record {
     entry = here .entry;
-    busy = gone .busy (here .entry) (record { 0 = m .id }) (here .own) (λ is. other (sym (here .own) ∙ is)) (here .busy);
+    busy =
+        gone .busy (here .entry) (record { 0 = m .id }) (here .own) (λ is. other (sym (here .own) ∙ is)) (here .busy);
     own = here .own;
     most = here .most;
   }
@@ -99,8 +100,10 @@ again-tried t rows id e n busy own most (m ∷ ms) (here, later) =
         → AllTried t rows (retried (id .0) n (m ∷ ms))
     at true c rest =
         let is : m .id ≡ id .0 = eqb-true (m .id) (id .0) c in
-        rw (c, retried)
-        (record { entry = e; busy = busy; own = own ∙ ap (λ k. logged.As (record { 0 = k })) (sym is); most = most }, rest)
+        rw (c, retried) (
+          record { entry = e; busy = busy; own = own ∙ ap (λ k. logged.As (record { 0 = k })) (sym is); most = most },
+          rest,
+        )
     at false c rest = rw (c, retried) (here, rest)
 
 -- at an opening the messages left stand in the first entries, which are not free

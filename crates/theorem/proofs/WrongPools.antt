@@ -1,21 +1,22 @@
--- Wrong pools, and the clause of `Holds` that refuses each. Whatever a pool makes of a call is an outcome (`Did`), and
--- the world goes by outcomes; so these are laws of any outcome of any pool. Assumes nothing.
+-- Wrong pools, and the clause that refuses each, of `Holds` or of a law beside it. Whatever a pool makes of a call is
+-- an outcome (`Did`), and the world goes by outcomes; so these are laws of any outcome of any pool. Assumes nothing.
 use mathlib.Core.Path.{_≡_, refl, sym, ap, _∙_, subst}
 use mathlib.Core.Bool.{false, false≢true}
-use mathlib.Core.Logic.{inl, inr}
+use mathlib.Core.Logic.{_⊎_, inl, inr, _≢_}
 use mathlib.Core.List.{List, [], _∷_, _++_, List·Memᴰ, List·Memᴰ·head, List·Memᴰ·tail}
 use Prim.Native.Nat.{ℕ, _+_, _≤_, _<_}
 use native.Mathlib.Omega.{arith}
 use lib.ListN.{length, drop, replicate, length-append, length-drop, length-replicate}
 use lib.Seq.{take-append-seam}
 use Rattle.text.specs.Format
-use Rattle.text.specs.Format.{Message, untried}
+use Rattle.text.specs.Format.{ATTEMPTS, Message, untried}
 use Rattle.text.specs.Line
 use Rattle.text.specs.Bytes
-use Rattle.lists.specs.Links.{Table}
-use Rattle.lists.specs.Family.{count, upFrom}
+use Rattle.lists.specs.Links.{Table, FREE}
+use Rattle.lists.specs.Family.{count, view, upFrom}
 use Rattle.log.specs.Opening
-use Rattle.log.specs.Opening.{Read, opening, opened, nothingRead}
+use Rattle.log.specs.Opening.{Read, opening, opened, nothingRead, retried, image}
+use Rattle.log.specs.declared.LogId.{LogId}
 use Rattle.log.specs.declared.Order.the-variants.{Append}
 use Rattle.log.specs.Recovery as disk
 use Rattle.log.proofs.OpenLaws.{sized-true}
@@ -27,6 +28,11 @@ use Rattle.actor.specs.declared.message.CallerId.{CallerId}
 use Rattle.actor.specs.declared.question.Question.the-variants as ask
 use Rattle.actor.specs.declared.question.Asked.the-variants as asked
 use Rattle.actor.specs.declared.question.Reply.the-variants as say
+use Rattle.actor.specs.declared.message.Logged.the-variants as logged
+use Rattle.actor.specs.Messages.{messageAt}
+use Rattle.pool.specs.declared.calls.StoredIn.{StoredIn}
+use Rattle.pool.specs.declared.calls.StoredIn.the-variants as stored
+use Rattle.pool.specs.Calls.{storedIn}
 use Rattle.pool.specs.Open.{openOf}
 use Rattle.settings.specs.Tables as tables
 use Rattle.theorem.specs.Handing.{putMessages, Hands}
@@ -36,8 +42,10 @@ use Rattle.answers.specs.declared.answer.Answer.{Answer}
 use Rattle.answers.specs.declared.answer.Answer.the-variants as answer
 use Rattle.answers.specs.Answers.{Did}
 use Rattle.answers.specs.Refusals.{Lent, fileIn}
-use Rattle.theorem.specs.Rail.{Call, admit, turn, reply, World, nothing, stepDid, unordered, ordered, answered}
-use Rattle.theorem.specs.Rail.{begin, turnEffect, lastIn, LastTried, orderShown, mailboxAt, handAt, Placed, NextOpening, Holds}
+use Rattle.theorem.specs.Rail.{Call, admit, turn, reply, sync, close, World, nothing, stepDid, unordered, ordered}
+use Rattle.theorem.specs.Rail.{answered, answeredBy, begin, turnEffect, lastIn, LastTried, orderShown, mailboxAt}
+use Rattle.theorem.specs.Rail.{handAt, Placed, NextOpening, Holds}
+use Rattle.theorem.specs.Retries.{attemptsIn, Says, NoRoom, DidRetries}
 use Rattle.theorem.proofs.Refusals.{Taken}
 use Rattle.theorem.proofs.Opened.{tables-true, opensAs, opens-as}
 use Rattle.theorem.proofs.Opening.{lent, hands-back}
@@ -73,6 +81,45 @@ module _ (l : Lent) (w : World) (c : Call) (s : State) (x : ℕ) (there : 0 < co
 pub dead-refused : (l : Lent) (w : World) (g k : ℕ) → g < 8 → k < 16 → given (w .state .keys) g k ≡ false
     → 0 < length (mailboxAt (w .state .links) g k) + length (handAt (w .state .links) g k) → Holds l w → ⊥
 dead-refused l w g k g-is k-is dead some h = false≢true (sym dead ∙ h .living g k g-is k-is .0 some)
+
+-- ---- `DidRetries`: a message is tried again, and no order is shown
+
+-- the answer to an order leaves the messages that are logged and not done
+answered-now : (j : disk.LogWorld) (c : Call) → answered j c .now ≡ j .now
+unfolding disk.storedOrder disk.failedOrder
+answered-now j (admit name body who) = refl
+answered-now j turn = refl
+answered-now j (reply r name body) = by (j .disk .status) (storedIn r)
+  where
+    by : (q : disk.Status) (x : StoredIn) → answeredBy j q x .now ≡ j .now
+    by disk.settled x = refl
+    by (disk.waits o) stored.Stored = refl
+    by (disk.waits o) stored.Failed = refl
+    by (disk.waits o) stored.Other = refl
+    by (disk.lost o) x = refl
+answered-now j sync = refl
+answered-now j close = refl
+
+-- the log has other attempts of it, and room for these; so no pool tries a message again without writing that
+module _ (w : World) (c : Call) (s : State) (e : ℕ) (id : LogId) (busy : count e (view (w .state .links) FREE) ≡ 0)
+    (owns : messageAt (w .state .rows) e .id ≡ logged.As id) (changed : attemptsIn s e ≢ attemptsIn (w .state) e)
+    (few : attemptsIn s e ≤ ATTEMPTS) (silent : Says (w .journal .now) (id .0) (attemptsIn s e) → ⊥)
+    (room : length (image (retried (id .0) (attemptsIn s e) (w .journal .now))) ≤ length (w .state .bytes)) where
+  pub unwritten-refused : (a : Answer) → orderShown a ≡ nothing
+      → DidRetries w c (record { state = s; answer = a }) → ⊥
+  unwritten-refused a hidden h = by (h e id busy owns changed few)
+    where
+      stays : (x : Answer) → orderShown x ≡ nothing
+          → stepDid w c (record { state = s; answer = x }) .journal .now ≡ w .journal .now
+      stays (answer.Refused r) is = refl
+      stays (answer.Open q) is =
+          ap (λ o. ordered c w s (answered (w .journal) c) o .journal .now) is ∙ answered-now (w .journal) c
+      stays (answer.Ended more waiters) is = answered-now (w .journal) c
+
+      by : Says (stepDid w c (record { state = s; answer = a }) .journal .now) (id .0) (attemptsIn s e)
+          ⊎ NoRoom w (id .0) (attemptsIn s e) → ⊥
+      by (inl says) = silent (subst (λ ms. Says ms (id .0) (attemptsIn s e)) (stays a hidden) says)
+      by (inr more) = omega arith
 
 -- ---- `safe`: a file that a cut may leave, and that reads as no moment
 
@@ -298,10 +345,10 @@ one-left s =
 pub other-refused : Holds two (turned (openOf two)) → ⊥
 unfolding two-taken taken-with disk.issue disk.storedOrder disk.confirm disk.firmMoment disk.sent Format.escapeByte
     Format.escape Format.escaped Format.digits Format.printId Format.recordText Format.line Format.recordLine
-    Format.attemptsLine Format.messageLines Format.unescape Format.decimal Format.below64 Format.readDigits Format.readId Format.joinHead Format.split
-    Format.allButLast Format.lines Format.fields Line.putOf Line.doneOf Line.readFields Line.readLine Opening.insert
-    Opening.remove Opening.takeIn Opening.readLines Opening.readFile Opening.fits Opening.allFit Opening.judge
-    Opening.opening Opening.image Bytes.write
+    Format.attemptsLine Format.messageLines Format.unescape Format.decimal Format.below64 Format.readDigits
+    Format.readId Format.joinHead Format.split Format.allButLast Format.lines Format.fields Line.putOf Line.doneOf
+    Line.readFields Line.readLine Opening.insert Opening.remove Opening.takeIn Opening.readLines Opening.readFile
+    Opening.fits Opening.allFit Opening.judge Opening.opening Opening.image Bytes.write
 other-refused =
     subst (λ d. Holds two (turned d) → ⊥) (sym (opens-as two two-taken))
     (unsafe-refused two two-taken (twoLines ++ (49 ∷ 10 ∷ [])) (record { left = bare 0 ∷ []; next = 2 }) (omega arith)

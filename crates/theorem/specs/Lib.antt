@@ -9,5 +9,6 @@ pub mod Keeping
 pub mod Living
 pub mod MailSteps
 pub mod Rail
+pub mod Retries
 pub mod Refusals
 pub mod Stopping

@@ -180,10 +180,10 @@ turnEffect s now = pick (eqb (length (outOfPlaces s now)) 0) (retriedLast s now)
 
 -- What an order does to the messages logged and not done. A record adds its message, with the name and body given, the
 -- next id and no attempts. A mark takes off the message that left the place "over" with it. That message may have come
--- to "over" in this very call, so the list "over" from before does not tell; but it stood in some place before, as every
--- message that is not done, and stands in none after. So a mark takes off what stands in none of the six places after
--- the call: exactly one message (`OrdersFit`, below). A retry takes off none, and sets the attempts of the message that
--- it brought to the end of pending. Any other order changes nothing.
+-- to "over" in this very call, so the list "over" from before does not tell; but it stood in some place before, as
+-- every message that is not done, and stands in none after. So a mark takes off what stands in none of the six places
+-- after the call: exactly one message (`OrdersFit`, below). A retry takes off none, and sets the attempts of the
+-- message that it brought to the end of pending. Any other order changes nothing.
 abbrev pub effect : ℕ → State → Purpose → List Message → List Message
 effect next s (ofRecord name body) now = now ++ (untried next name body ∷ [])
 effect next s ofTurn now = turnEffect s now

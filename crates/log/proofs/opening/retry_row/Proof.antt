@@ -24,24 +24,41 @@ same-length : tie.Need-same-length
 same-length c = search needs
 
 returns : tie.Need-returns
-returns c = let these = take (c .before .before .before .before .args .count) (c .before .before .before .before .args .rows .now) in
-    let same = search-finds (c .before .before .before .before .args .id) 0 (2 ^ 64) these (c .before .before .before .before .pre .1) in
-    let missing = found-missing (searchRow (c .before .before .before .before .args .id) these) (sym (c .enum-told .given .1) ∙ c .before .before .search-row .ensures) in
-    sym (retry-missing (c .before .before .before .before .args .id) (c .before .before .before .before .args .attempts) 0 these (sym same ∙ missing))
+returns c =
+    let args = c .before .before .before .before .args in
+    let pre = c .before .before .before .before .pre in
+    let search-row = c .before .before .search-row in
+    let enum-told = c .enum-told in
+    let these = take (args .count) (args .rows .now) in
+    let same = search-finds (args .id) 0 (2 ^ 64) these (pre .1) in
+    let missing = found-missing (searchRow (args .id) these) (sym (enum-told .given .1) ∙ search-row .ensures) in
+    sym (retry-missing (args .id) (args .attempts) 0 these (sym same ∙ missing))
 
 mul-r : tie.Need-mul-r
-mul-r c = let these = take (c .before .before .before .before .before .args .count) (c .before .before .before .before .before .args .rows .now) in
-    let same = search-finds (c .before .before .before .before .before .args .id) 0 (2 ^ 64) these (c .before .before .before .before .before .pre .1) in
-    let found = found-at (c .before .i .given .0 .0) (searchRow (c .before .before .before .before .before .args .id) these) (sym (c .before .i .given .1) ∙ c .before .before .before .search-row .ensures) in
-    let there = row-tried (c .before .before .before .before .before .args .rows .now) (c .before .before .before .before .before .args .count) (c .before .before .before .before .before .args .id) (c .before .before .before .before .before .args .attempts) (c .before .i .given .0 .0) (c .before .before .before .before .before .pre .0) (c .before .before .before .before .before .pre .1) (sym same ∙ found) in
-    omega (arith, there .short, c .before .before .before .before .before .pre .0)
+mul-r c =
+    let args = c .before .before .before .before .before .args in
+    let pre = c .before .before .before .before .before .pre in
+    let search-row = c .before .before .before .search-row in
+    let i = c .before .i in
+    let these = take (args .count) (args .rows .now) in
+    let same = search-finds (args .id) 0 (2 ^ 64) these (pre .1) in
+    let found = found-at (i .given .0 .0) (searchRow (args .id) these) (sym (i .given .1) ∙ search-row .ensures) in
+    let there = row-tried (args .rows .now) (args .count) (args .id) (args .attempts) (i .given .0 .0) (pre .0)
+    (pre .1) (sym same ∙ found) in
+    omega (arith, there .short, pre .0)
 
 slice-copy-out-r : tie.Need-slice-copy-out-r
-slice-copy-out-r c = let these = take (c .before .before .before .before .before .args .count) (c .before .before .before .before .before .args .rows .now) in
-    let same = search-finds (c .before .before .before .before .before .args .id) 0 (2 ^ 64) these (c .before .before .before .before .before .pre .1) in
-    let found = found-at (c .before .i .given .0 .0) (searchRow (c .before .before .before .before .before .args .id) these) (sym (c .before .i .given .1) ∙ c .before .before .before .search-row .ensures) in
-    let there = row-tried (c .before .before .before .before .before .args .rows .now) (c .before .before .before .before .before .args .count) (c .before .before .before .before .before .args .id) (c .before .before .before .before .before .args .attempts) (c .before .i .given .0 .0) (c .before .before .before .before .before .pre .0) (c .before .before .before .before .before .pre .1) (sym same ∙ found) in
-    omega (arith, there .short, c .before .before .before .before .before .pre .0)
+slice-copy-out-r c =
+    let args = c .before .before .before .before .before .args in
+    let pre = c .before .before .before .before .before .pre in
+    let search-row = c .before .before .before .search-row in
+    let i = c .before .i in
+    let these = take (args .count) (args .rows .now) in
+    let same = search-finds (args .id) 0 (2 ^ 64) these (pre .1) in
+    let found = found-at (i .given .0 .0) (searchRow (args .id) these) (sym (i .given .1) ∙ search-row .ensures) in
+    let there = row-tried (args .rows .now) (args .count) (args .id) (args .attempts) (i .given .0 .0) (pre .0)
+    (pre .1) (sym same ∙ found) in
+    omega (arith, there .short, pre .0)
 
 array-read-t15 : tie.Need-array-read-t15
 array-read-t15 c = search needs
@@ -53,27 +70,45 @@ array-read-t21 : tie.Need-array-read-t21
 array-read-t21 c = search needs
 
 mul-t10 : tie.Need-mul-t10
-mul-t10 c = let these = take (c .before .before .before .before .before .before .args .count) (c .before .before .before .before .before .before .args .rows .now) in
-    let same = search-finds (c .before .before .before .before .before .before .args .id) 0 (2 ^ 64) these (c .before .before .before .before .before .before .pre .1) in
-    let found = found-at (c .before .before .i .given .0 .0) (searchRow (c .before .before .before .before .before .before .args .id) these) (sym (c .before .before .i .given .1) ∙ c .before .before .before .before .search-row .ensures) in
-    let there = row-tried (c .before .before .before .before .before .before .args .rows .now) (c .before .before .before .before .before .before .args .count) (c .before .before .before .before .before .before .args .id) (c .before .before .before .before .before .before .args .attempts) (c .before .before .i .given .0 .0) (c .before .before .before .before .before .before .pre .0) (c .before .before .before .before .before .before .pre .1) (sym same ∙ found) in
-    omega (arith, there .short, c .before .before .before .before .before .before .pre .0)
+mul-t10 c =
+    let args = c .before .before .before .before .before .before .args in
+    let pre = c .before .before .before .before .before .before .pre in
+    let search-row = c .before .before .before .before .search-row in
+    let i = c .before .before .i in
+    let these = take (args .count) (args .rows .now) in
+    let same = search-finds (args .id) 0 (2 ^ 64) these (pre .1) in
+    let found = found-at (i .given .0 .0) (searchRow (args .id) these) (sym (i .given .1) ∙ search-row .ensures) in
+    let there = row-tried (args .rows .now) (args .count) (args .id) (args .attempts) (i .given .0 .0) (pre .0)
+    (pre .1) (sym same ∙ found) in
+    omega (arith, there .short, pre .0)
 
 slice-set-from-rows : tie.Need-slice-set-from-rows
-slice-set-from-rows c = let these = take (c .before .before .before .before .before .before .args .count) (c .before .before .before .before .before .before .args .rows .now) in
-    let same = search-finds (c .before .before .before .before .before .before .args .id) 0 (2 ^ 64) these (c .before .before .before .before .before .before .pre .1) in
-    let found = found-at (c .before .before .i .given .0 .0) (searchRow (c .before .before .before .before .before .before .args .id) these) (sym (c .before .before .i .given .1) ∙ c .before .before .before .before .search-row .ensures) in
-    let there = row-tried (c .before .before .before .before .before .before .args .rows .now) (c .before .before .before .before .before .before .args .count) (c .before .before .before .before .before .before .args .id) (c .before .before .before .before .before .before .args .attempts) (c .before .before .i .given .0 .0) (c .before .before .before .before .before .before .pre .0) (c .before .before .before .before .before .before .pre .1) (sym same ∙ found) in
-    omega (arith, there .short, c .before .before .before .before .before .before .pre .0)
+slice-set-from-rows c =
+    let args = c .before .before .before .before .before .before .args in
+    let pre = c .before .before .before .before .before .before .pre in
+    let search-row = c .before .before .before .before .search-row in
+    let i = c .before .before .i in
+    let these = take (args .count) (args .rows .now) in
+    let same = search-finds (args .id) 0 (2 ^ 64) these (pre .1) in
+    let found = found-at (i .given .0 .0) (searchRow (args .id) these) (sym (i .given .1) ∙ search-row .ensures) in
+    let there = row-tried (args .rows .now) (args .count) (args .id) (args .attempts) (i .given .0 .0) (pre .0)
+    (pre .1) (sym same ∙ found) in
+    omega (arith, there .short, pre .0)
 
 same-length-2 : tie.Need-same-length-2
 same-length-2 c = search needs
 
 returns-2 : tie.Need-returns-2
-returns-2 c = let these = take (c .before .before .before .before .before .before .args .count) (c .before .before .before .before .before .before .args .rows .now) in
-    let same = search-finds (c .before .before .before .before .before .before .args .id) 0 (2 ^ 64) these (c .before .before .before .before .before .before .pre .1) in
-    let found = found-at (c .before .before .i .given .0 .0) (searchRow (c .before .before .before .before .before .before .args .id) these) (sym (c .before .before .i .given .1) ∙ c .before .before .before .before .search-row .ensures) in
-    row-tried (c .before .before .before .before .before .before .args .rows .now) (c .before .before .before .before .before .before .args .count) (c .before .before .before .before .before .before .args .id) (c .before .before .before .before .before .before .args .attempts) (c .before .before .i .given .0 .0) (c .before .before .before .before .before .before .pre .0) (c .before .before .before .before .before .before .pre .1) (sym same ∙ found) .now
+returns-2 c =
+    let args = c .before .before .before .before .before .before .args in
+    let pre = c .before .before .before .before .before .before .pre in
+    let search-row = c .before .before .before .before .search-row in
+    let i = c .before .before .i in
+    let these = take (args .count) (args .rows .now) in
+    let same = search-finds (args .id) 0 (2 ^ 64) these (pre .1) in
+    let found = found-at (i .given .0 .0) (searchRow (args .id) these) (sym (i .given .1) ∙ search-row .ensures) in
+    row-tried (args .rows .now) (args .count) (args .id) (args .attempts) (i .given .0 .0) (pre .0) (pre .1)
+    (sym same ∙ found) .now
 
 pub retry-row-spec : {M : Type 1} → statement M
 retry-row-spec =

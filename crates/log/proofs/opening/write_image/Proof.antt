@@ -19,7 +19,17 @@ abbrev μ-loop : tie.MeasureT-loop
 loop-holds : tie.Need-loop-holds Inv-loop μ-loop
 loop-holds c =
     let pre = c .before .before .pre in
-    record { long = refl; many = refl; within = omega arith; room = omega (arith, pre .5); ends = omega arith; bytes = refl; rows = refl; fit = pre .4 }
+    record {
+      long = refl;
+      many = refl;
+      within = omega arith;
+      room = omega (arith, pre .5);
+      ends = omega arith;
+      bytes =
+          refl;
+      rows = refl;
+      fit = pre .4;
+    }
 
 mul-x : tie.Need-mul-x Inv-loop μ-loop
 mul-x c =
@@ -54,7 +64,10 @@ add-c c =
     let pre = c .before .before .before .before .before .pre in
     let loop = c .before .before .loop in
     let loop-test = c .before .loop-test in
-    let f = imaging-fits (loop .inv) (getD (args .left .now) (loop .i) []) (loop-test .taken) (omega (arith, loop-test .taken, pre .1, pre .3, loop .inv .many)) (next-row [] (args .left .now) (args .count) (loop .i) (loop-test .taken) (omega (arith, loop-test .taken, pre .0))) in
+    let f = imaging-fits (loop .inv) (getD (args .left .now) (loop .i) []) (loop-test .taken)
+    (omega (arith, loop-test .taken, pre .1, pre .3, loop .inv .many))
+    (next-row [] (args .left .now) (args .count) (loop .i) (loop-test .taken)
+    (omega (arith, loop-test .taken, pre .0))) in
     omega (arith, f .name, loop-test .taken, pre .1)
 
 array-read-d : tie.Need-array-read-d Inv-loop μ-loop
@@ -66,7 +79,10 @@ add-d c =
     let pre = c .before .before .before .before .before .pre in
     let loop = c .before .before .loop in
     let loop-test = c .before .loop-test in
-    let f = imaging-fits (loop .inv) (getD (args .left .now) (loop .i) []) (loop-test .taken) (omega (arith, loop-test .taken, pre .1, pre .3, loop .inv .many)) (next-row [] (args .left .now) (args .count) (loop .i) (loop-test .taken) (omega (arith, loop-test .taken, pre .0))) in
+    let f = imaging-fits (loop .inv) (getD (args .left .now) (loop .i) []) (loop-test .taken)
+    (omega (arith, loop-test .taken, pre .1, pre .3, loop .inv .many))
+    (next-row [] (args .left .now) (args .count) (loop .i) (loop-test .taken)
+    (omega (arith, loop-test .taken, pre .0))) in
     omega (arith, f .body, loop-test .taken, pre .1)
 
 sub-encode-record : tie.Need-sub-encode-record Inv-loop μ-loop
@@ -96,7 +112,10 @@ part-encode-record-start-2 c =
     let pre = c .before .before .before .before .before .before .pre in
     let loop = c .before .before .before .loop in
     let loop-test = c .before .before .loop-test in
-    let f = imaging-fits (loop .inv) (getD (args .left .now) (loop .i) []) (loop-test .taken) (omega (arith, loop-test .taken, pre .1, pre .3, loop .inv .many)) (next-row [] (args .left .now) (args .count) (loop .i) (loop-test .taken) (omega (arith, loop-test .taken, pre .0))) in
+    let f = imaging-fits (loop .inv) (getD (args .left .now) (loop .i) []) (loop-test .taken)
+    (omega (arith, loop-test .taken, pre .1, pre .3, loop .inv .many))
+    (next-row [] (args .left .now) (args .count) (loop .i) (loop-test .taken)
+    (omega (arith, loop-test .taken, pre .0))) in
     omega (arith, f .name, loop-test .taken, pre .1, pre .2)
 
 part-encode-record-end-2 : tie.Need-part-encode-record-end-2 Inv-loop μ-loop
@@ -105,7 +124,10 @@ part-encode-record-end-2 c =
     let pre = c .before .before .before .before .before .before .pre in
     let loop = c .before .before .before .loop in
     let loop-test = c .before .before .loop-test in
-    let f = imaging-fits (loop .inv) (getD (args .left .now) (loop .i) []) (loop-test .taken) (omega (arith, loop-test .taken, pre .1, pre .3, loop .inv .many)) (next-row [] (args .left .now) (args .count) (loop .i) (loop-test .taken) (omega (arith, loop-test .taken, pre .0))) in
+    let f = imaging-fits (loop .inv) (getD (args .left .now) (loop .i) []) (loop-test .taken)
+    (omega (arith, loop-test .taken, pre .1, pre .3, loop .inv .many))
+    (next-row [] (args .left .now) (args .count) (loop .i) (loop-test .taken)
+    (omega (arith, loop-test .taken, pre .0))) in
     omega (arith, f .name, loop-test .taken, pre .1, pre .2)
 
 sub-encode-record-3 : tie.Need-sub-encode-record-3 Inv-loop μ-loop
@@ -117,7 +139,10 @@ part-encode-record-start-3 c =
     let pre = c .before .before .before .before .before .before .before .pre in
     let loop = c .before .before .before .before .loop in
     let loop-test = c .before .before .before .loop-test in
-    let f = imaging-fits (loop .inv) (getD (args .left .now) (loop .i) []) (loop-test .taken) (omega (arith, loop-test .taken, pre .1, pre .3, loop .inv .many)) (next-row [] (args .left .now) (args .count) (loop .i) (loop-test .taken) (omega (arith, loop-test .taken, pre .0))) in
+    let f = imaging-fits (loop .inv) (getD (args .left .now) (loop .i) []) (loop-test .taken)
+    (omega (arith, loop-test .taken, pre .1, pre .3, loop .inv .many))
+    (next-row [] (args .left .now) (args .count) (loop .i) (loop-test .taken)
+    (omega (arith, loop-test .taken, pre .0))) in
     omega (arith, f .body, loop-test .taken, pre .1, pre .2)
 
 part-encode-record-end-3 : tie.Need-part-encode-record-end-3 Inv-loop μ-loop
@@ -126,7 +151,10 @@ part-encode-record-end-3 c =
     let pre = c .before .before .before .before .before .before .before .pre in
     let loop = c .before .before .before .before .loop in
     let loop-test = c .before .before .before .loop-test in
-    let f = imaging-fits (loop .inv) (getD (args .left .now) (loop .i) []) (loop-test .taken) (omega (arith, loop-test .taken, pre .1, pre .3, loop .inv .many)) (next-row [] (args .left .now) (args .count) (loop .i) (loop-test .taken) (omega (arith, loop-test .taken, pre .0))) in
+    let f = imaging-fits (loop .inv) (getD (args .left .now) (loop .i) []) (loop-test .taken)
+    (omega (arith, loop-test .taken, pre .1, pre .3, loop .inv .many))
+    (next-row [] (args .left .now) (args .count) (loop .i) (loop-test .taken)
+    (omega (arith, loop-test .taken, pre .0))) in
     omega (arith, f .body, loop-test .taken, pre .1, pre .2)
 
 encode-record-requires : tie.Need-encode-record-requires Inv-loop μ-loop
@@ -145,8 +173,22 @@ set-row-requires : tie.Need-set-row-requires Inv-loop μ-loop
 set-row-requires c κs = search needs
 
 add-put-tries : tie.Need-add-put-tries Inv-loop μ-loop
-add-put-tries c = let here = next-row [] (c .before .before .before .before .before .before .before .before .before .before .before .before .before .before .before .before .args .left .now) (c .before .before .before .before .before .before .before .before .before .before .before .before .before .before .before .before .args .count) (c .before .before .before .before .before .before .before .before .before .before .before .before .before .loop .i) (c .before .before .before .before .before .before .before .before .before .before .before .before .loop-test .taken) (omega (arith, c .before .before .before .before .before .before .before .before .before .before .before .before .loop-test .taken, c .before .before .before .before .before .before .before .before .before .before .before .before .before .before .before .before .pre .0)) in
-    omega (arith, size-fits (c .before .before .before .before .before .before .before .before .before .before .before .before .before .loop .inv) (getD (c .before .before .before .before .before .before .before .before .before .before .before .before .before .before .before .before .args .left .now) (c .before .before .before .before .before .before .before .before .before .before .before .before .before .loop .i) []) (c .before .before .before .before .before .before .before .before .before .before .before .before .loop-test .taken) (omega (arith, c .before .before .before .before .before .before .before .before .before .before .before .before .loop-test .taken, c .before .before .before .before .before .before .before .before .before .before .before .before .before .before .before .before .pre .1, c .before .before .before .before .before .before .before .before .before .before .before .before .before .before .before .before .pre .3, c .before .before .before .before .before .before .before .before .before .before .before .before .before .loop .inv .many)) here _ _ (c .before .before .before .before .before .before .before .encode-record .ensures) (c .before .before .before .before .len-of .result) (c .before .before .before .before .len-of .ensures))
+add-put-tries c =
+    let earlier = c .before .before .before .before .before .before .before .before in
+    let args = earlier .before .before .before .before .before .before .before .before .args in
+    let pre = earlier .before .before .before .before .before .before .before .before .pre in
+    let loop = earlier .before .before .before .before .before .loop in
+    let loop-test = earlier .before .before .before .before .loop-test in
+    let encode-record = c .before .before .before .before .before .before .before .encode-record in
+    let len-of = c .before .before .before .before .len-of in
+    let here = next-row [] (args .left .now) (args .count) (loop .i) (loop-test .taken)
+    (omega (arith, loop-test .taken, pre .0)) in
+    omega (
+      arith,
+      size-fits (loop .inv) (getD (args .left .now) (loop .i) []) (loop-test .taken)
+          (omega (arith, loop-test .taken, pre .1, pre .3, loop .inv .many)) here _ _ (encode-record .ensures)
+          (len-of .result) (len-of .ensures),
+    )
 
 array-read-put-tries : tie.Need-array-read-put-tries Inv-loop μ-loop
 array-read-put-tries c = search needs
@@ -155,18 +197,48 @@ array-read-put-tries-2 : tie.Need-array-read-put-tries-2 Inv-loop μ-loop
 array-read-put-tries-2 c = search needs
 
 put-tries-requires : tie.Need-put-tries-requires Inv-loop μ-loop
-put-tries-requires c κs = let here = next-row [] (c .before .before .before .before .before .before .before .before .before .before .before .before .before .before .before .before .args .left .now) (c .before .before .before .before .before .before .before .before .before .before .before .before .before .before .before .before .args .count) (c .before .before .before .before .before .before .before .before .before .before .before .before .before .loop .i) (c .before .before .before .before .before .before .before .before .before .before .before .before .loop-test .taken) (omega (arith, c .before .before .before .before .before .before .before .before .before .before .before .before .loop-test .taken, c .before .before .before .before .before .before .before .before .before .before .before .before .before .before .before .before .pre .0)) in
-    tries-fit (c .before .before .before .before .before .before .before .before .before .before .before .before .before .loop .inv) (getD (c .before .before .before .before .before .before .before .before .before .before .before .before .before .before .before .before .args .left .now) (c .before .before .before .before .before .before .before .before .before .before .before .before .before .loop .i) []) (c .before .before .before .before .before .before .before .before .before .before .before .before .loop-test .taken) (omega (arith, c .before .before .before .before .before .before .before .before .before .before .before .before .loop-test .taken, c .before .before .before .before .before .before .before .before .before .before .before .before .before .before .before .before .pre .1, c .before .before .before .before .before .before .before .before .before .before .before .before .before .before .before .before .pre .3, c .before .before .before .before .before .before .before .before .before .before .before .before .before .loop .inv .many)) here _ _ (c .before .before .before .before .before .before .before .encode-record .ensures) (c .before .before .before .before .len-of .result) (c .before .before .before .before .len-of .ensures)
+put-tries-requires c κs =
+    let earlier = c .before .before .before .before .before .before .before .before in
+    let args = earlier .before .before .before .before .before .before .before .before .args in
+    let pre = earlier .before .before .before .before .before .before .before .before .pre in
+    let loop = earlier .before .before .before .before .before .loop in
+    let loop-test = earlier .before .before .before .before .loop-test in
+    let encode-record = c .before .before .before .before .before .before .before .encode-record in
+    let len-of = c .before .before .before .before .len-of in
+    let here = next-row [] (args .left .now) (args .count) (loop .i) (loop-test .taken)
+    (omega (arith, loop-test .taken, pre .0)) in
+    tries-fit (loop .inv) (getD (args .left .now) (loop .i) []) (loop-test .taken)
+    (omega (arith, loop-test .taken, pre .1, pre .3, loop .inv .many)) here _ _ (encode-record .ensures)
+    (len-of .result) (len-of .ensures)
 
 add-i : tie.Need-add-i Inv-loop μ-loop
-add-i c = omega (arith, c .before .before .before .before .before .before .before .before .before .before .before .before .before .before .before .loop-test .taken)
+add-i c =
+    let earlier = c .before .before .before .before .before .before .before .before in
+    let loop-test = earlier .before .before .before .before .before .before .before .loop-test in
+    omega (arith, loop-test .taken)
 
 loop-less : tie.Need-loop-less Inv-loop μ-loop
-loop-less c = omega (arith, c .before .before .before .before .before .before .before .before .before .before .before .before .before .before .before .loop-test .taken)
+loop-less c =
+    let earlier = c .before .before .before .before .before .before .before .before in
+    let loop-test = earlier .before .before .before .before .before .before .before .loop-test in
+    omega (arith, loop-test .taken)
 
 loop-again : tie.Need-loop-again Inv-loop μ-loop
-loop-again c = let here = next-row [] (c .before .before .before .before .before .before .before .before .before .before .before .before .before .before .before .before .before .before .before .args .left .now) (c .before .before .before .before .before .before .before .before .before .before .before .before .before .before .before .before .before .before .before .args .count) (c .before .before .before .before .before .before .before .before .before .before .before .before .before .before .before .before .loop .i) (c .before .before .before .before .before .before .before .before .before .before .before .before .before .before .before .loop-test .taken) (omega (arith, c .before .before .before .before .before .before .before .before .before .before .before .before .before .before .before .loop-test .taken, c .before .before .before .before .before .before .before .before .before .before .before .before .before .before .before .before .before .before .before .pre .0)) in
-    imaging-more (c .before .before .before .before .before .before .before .before .before .before .before .before .before .before .before .before .loop .inv) (getD (c .before .before .before .before .before .before .before .before .before .before .before .before .before .before .before .before .before .before .before .args .left .now) (c .before .before .before .before .before .before .before .before .before .before .before .before .before .before .before .before .loop .i) []) (c .before .before .before .before .before .before .before .before .before .before .before .before .before .before .before .loop-test .taken) (omega (arith, c .before .before .before .before .before .before .before .before .before .before .before .before .before .before .before .loop-test .taken, c .before .before .before .before .before .before .before .before .before .before .before .before .before .before .before .before .before .before .before .pre .1, c .before .before .before .before .before .before .before .before .before .before .before .before .before .before .before .before .before .before .before .pre .3, c .before .before .before .before .before .before .before .before .before .before .before .before .before .before .before .before .loop .inv .many)) here _ _ (c .before .before .before .before .before .before .before .before .before .before .encode-record .ensures) (c .before .before .before .before .before .before .before .len-of .result) (c .before .before .before .before .before .before .before .len-of .ensures) _ _ (c .before .before .put-tries .ensures) _ (c .before .before .before .before .before .set-row .ensures)
+loop-again c =
+    let earlier = c .before .before .before .before .before .before .before .before in
+    let args = earlier .before .before .before .before .before .before .before .before .before .before .before .args in
+    let pre = earlier .before .before .before .before .before .before .before .before .before .before .before .pre in
+    let loop = earlier .before .before .before .before .before .before .before .before .loop in
+    let loop-test = earlier .before .before .before .before .before .before .before .loop-test in
+    let encode-record = earlier .before .before .encode-record in
+    let len-of = c .before .before .before .before .before .before .before .len-of in
+    let set-row = c .before .before .before .before .before .set-row in
+    let put-tries = c .before .before .put-tries in
+    let here = next-row [] (args .left .now) (args .count) (loop .i) (loop-test .taken)
+    (omega (arith, loop-test .taken, pre .0)) in
+    imaging-more (loop .inv) (getD (args .left .now) (loop .i) []) (loop-test .taken)
+    (omega (arith, loop-test .taken, pre .1, pre .3, loop .inv .many)) here _ _ (encode-record .ensures)
+    (len-of .result) (len-of .ensures) _ _ (put-tries .ensures) _ (set-row .ensures)
 
 same-length : tie.Need-same-length Inv-loop μ-loop
 same-length c =

@@ -25,25 +25,49 @@ same-length c = search needs
 returns : tie.Need-returns
 returns c =
     let args = c .before .before .before .before .before .before .args in
-    let n = c .before .before .before .before .if1 .rows in
-    let cut : n ≡ min (args .count) (length (args .records .now)) = ⊎-elim (λ w. omega arith) (λ w. omega arith) (c .before .before .before .before .if1 .came) in
-    not-rewritten (args .log .now) (args .records .now) (take n (args .records .now)) (told-over _ _ (sym (c .enum-told .given .1) ∙ c .before .before .image-len .ensures)) ∙ ap (rewrite (args .log .now) (args .records .now)) (cut-rows (args .records .now) (args .count) n cut)
+    let if1 = c .before .before .before .before .if1 in
+    let image-len = c .before .before .image-len in
+    let enum-told = c .enum-told in
+    let n = if1 .rows in
+    let cut : n ≡ min (args .count) (length (args .records .now)) = ⊎-elim (λ w. omega arith) (λ w. omega arith)
+    (if1 .came) in
+    not-rewritten (args .log .now) (args .records .now) (take n (args .records .now))
+    (told-over _ _ (sym (enum-told .given .1) ∙ image-len .ensures)) ∙ ap
+    (rewrite (args .log .now) (args .records .now)) (cut-rows (args .records .now) (args .count) n cut)
 
 pack-requires : tie.Need-pack-requires
 pack-requires c κs =
     let args = c .before .before .before .before .before .before .before .before .before .args in
-    let told : Told (length (args .log .now)) (c .before .before .before .end .given .0 .0) (take (c .before .before .before .before .before .before .before .if1 .rows) (args .records .now)) = told-len _ _ _ (sym (c .before .before .before .end .given .1) ∙ c .before .before .before .before .before .image-len .ensures) in
+    let if1 = c .before .before .before .before .before .before .before .if1 in
+    let image-len = c .before .before .before .before .before .image-len in
+    let end = c .before .before .before .end in
+    let told : Told (length (args .log .now)) (end .given .0 .0) (take (if1 .rows) (args .records .now)) = told-len _
+    _ _ (sym (end .given .1) ∙ image-len .ensures) in
     can-pack _ _ _ _ (told .can)
 
 spread-requires : tie.Need-spread-requires
 spread-requires c κs =
-    let args = c .before .before .before .before .before .before .before .before .before .before .before .before .before .before .before .args in
-    let n = c .before .before .before .before .before .before .before .before .before .before .before .before .before .if1 .rows in
-    let told : Told (length (args .log .now)) (c .before .before .before .before .before .before .before .before .before .end .given .0 .0) (take n (args .records .now)) = told-len _ _ _ (sym (c .before .before .before .before .before .before .before .before .before .end .given .1) ∙ c .before .before .before .before .before .before .before .before .before .before .before .image-len .ensures) in
-    let cut : n ≡ min (args .count) (length (args .records .now)) = ⊎-elim (λ w. omega arith) (λ w. omega arith) (c .before .before .before .before .before .before .before .before .before .before .before .before .before .if1 .came) in
+    let earlier = c .before .before .before .before .before .before .before .before in
+    let args = earlier .before .before .before .before .before .before .before .args in
+    let if1 = earlier .before .before .before .before .before .if1 in
+    let image-len = earlier .before .before .before .image-len in
+    let end = c .before .before .before .before .before .before .before .before .before .end in
+    let pack = c .before .before .before .before .before .pack in
+    let n = if1 .rows in
+    let told : Told (length (args .log .now)) (end .given .0 .0) (take n (args .records .now)) = told-len _ _ _
+    (sym (end .given .1) ∙ image-len .ensures) in
+    let cut : n ≡ min (args .count) (length (args .records .now)) = ⊎-elim (λ w. omega arith) (λ w. omega arith)
+    (if1 .came) in
     let few : n ≤ length (args .records .now) = omega arith in
-    let span = spread-span (args .log .now) (args .records .now) n few (told .can) _ _ (c .before .before .before .before .before .pack .ensures .0) (c .before .before .before .before .before .pack .ensures .1) in
-    (omega (arith, c .before .before .before .before .before .pack .kept .1), omega (arith, c .before .before .before .before .before .pack .kept .0, told .is, spans-fit _ _ _ _ (told .can)), told .is ∙ sym span, spread-no-higher (args .log .now) (args .records .now) n few (told .can) _ _ (c .before .before .before .before .before .pack .ensures .0) (c .before .before .before .before .before .pack .ensures .1))
+    let span = spread-span (args .log .now) (args .records .now) n few (told .can) _ _ (pack .ensures .0)
+    (pack .ensures .1) in (
+      omega (arith, pack .kept .1),
+      omega (arith, pack .kept .0, told .is, spans-fit _ _ _ _ (told .can)),
+      told .is ∙
+          sym span,
+      spread-no-higher (args .log .now) (args .records .now) n few (told .can) _ _ (pack .ensures .0)
+          (pack .ensures .1),
+    )
 
 same-length-2 : tie.Need-same-length-2
 same-length-2 c = search needs
@@ -53,12 +77,22 @@ same-length-3 c = search needs
 
 returns-2 : tie.Need-returns-2
 returns-2 c =
-    let args = c .before .before .before .before .before .before .before .before .before .before .before .before .before .before .before .before .before .before .before .args in
-    let n = c .before .before .before .before .before .before .before .before .before .before .before .before .before .before .before .before .before .if1 .rows in
-    let told : Told (length (args .log .now)) (c .before .before .before .before .before .before .before .before .before .before .before .before .before .end .given .0 .0) (take n (args .records .now)) = told-len _ _ _ (sym (c .before .before .before .before .before .before .before .before .before .before .before .before .before .end .given .1) ∙ c .before .before .before .before .before .before .before .before .before .before .before .before .before .before .before .image-len .ensures) in
-    let cut : n ≡ min (args .count) (length (args .records .now)) = ⊎-elim (λ w. omega arith) (λ w. omega arith) (c .before .before .before .before .before .before .before .before .before .before .before .before .before .before .before .before .before .if1 .came) in
+    let earlier = c .before .before .before .before .before .before .before .before in
+    let args = earlier .before .before .before .before .before .before .before .before .before .before .before .args in
+    let if1 = earlier .before .before .before .before .before .before .before .before .before .if1 in
+    let image-len = earlier .before .before .before .before .before .before .before .image-len in
+    let end = earlier .before .before .before .before .before .end in
+    let pack = c .before .before .before .before .before .before .before .before .before .pack in
+    let spread = c .before .before .before .spread in
+    let n = if1 .rows in
+    let told : Told (length (args .log .now)) (end .given .0 .0) (take n (args .records .now)) = told-len _ _ _
+    (sym (end .given .1) ∙ image-len .ensures) in
+    let cut : n ≡ min (args .count) (length (args .records .now)) = ⊎-elim (λ w. omega arith) (λ w. omega arith)
+    (if1 .came) in
     let few : n ≤ length (args .records .now) = omega arith in
-    packed-and-spread (args .log .now) (args .records .now) n few (told .can) _ _ (c .before .before .before .before .before .before .before .before .before .pack .ensures .0) (c .before .before .before .before .before .before .before .before .before .pack .ensures .1) _ _ (c .before .before .before .spread .ensures .0) (c .before .before .before .spread .ensures .1) ∙ ap (rewrite (args .log .now) (args .records .now)) (cut-rows (args .records .now) (args .count) n cut)
+    packed-and-spread (args .log .now) (args .records .now) n few (told .can) _ _ (pack .ensures .0)
+    (pack .ensures .1) _ _ (spread .ensures .0) (spread .ensures .1) ∙ ap
+    (rewrite (args .log .now) (args .records .now)) (cut-rows (args .records .now) (args .count) n cut)
 
 pub compact-spec : {M : Type 1} → statement M
 compact-spec =

@@ -54,7 +54,12 @@ tries-len-requires : tie.Need-tries-len-requires Inv-loop μ-loop
 tries-len-requires c κs = search needs
 
 returns-2 : tie.Need-returns-2 Inv-loop μ-loop
-returns-2 c = over-low (c .before .before .before .before .before .loop .inv) (c .before .before .before .before .loop-test .taken) (c .before .before .before .if1 .left) (c .if2 .taken)
+returns-2 c =
+    let loop = c .before .before .before .before .before .loop in
+    let loop-test = c .before .before .before .before .loop-test in
+    let if1 = c .before .before .before .if1 in
+    let if2 = c .if2 in
+    over-low (loop .inv) (loop-test .taken) (if1 .left) (if2 .taken)
 
 fits-behind-requires : tie.Need-fits-behind-requires Inv-loop μ-loop
 fits-behind-requires c κs = search needs
@@ -67,7 +72,13 @@ add-start c =
     omega arith
 
 returns-3 : tie.Need-returns-3 Inv-loop μ-loop
-returns-3 c = over-long (c .before .before .before .before .before .before .before .loop .inv) (c .before .before .before .before .before .before .loop-test .taken) (c .before .before .before .before .before .if1 .left) (leb-false _ _ (sym (c .before .fits-behind .ensures) ∙ c .if3 .left))
+returns-3 c =
+    let loop = c .before .before .before .before .before .before .before .loop in
+    let loop-test = c .before .before .before .before .before .before .loop-test in
+    let if1 = c .before .before .before .before .before .if1 in
+    let fits-behind = c .before .fits-behind in
+    let if3 = c .if3 in
+    over-long (loop .inv) (loop-test .taken) (if1 .left) (leb-false _ _ (sym (fits-behind .ensures) ∙ if3 .left))
 
 fits-behind-requires-2 : tie.Need-fits-behind-requires-2 Inv-loop μ-loop
 fits-behind-requires-2 c κs = search needs
@@ -84,19 +95,28 @@ returns-4 : tie.Need-returns-4 Inv-loop μ-loop
 returns-4 c =
     let args = c .before .before .before .before .before .before .before .before .before .before .args in
     let loop = c .before .before .before .before .before .before .before .before .before .loop in
+    let loop-test = c .before .before .before .before .before .before .before .before .loop-test in
+    let if1 = c .before .before .before .before .before .before .before .if1 in
+    let fits-behind2 = c .before .fits-behind2 in
+    let if4 = c .if4 in
     let r = getD (args .records .now) (loop .i) [] in
-    let end = leb-false (loop .to + rowLen r) (args .long) (sym (c .before .fits-behind2 .ensures) ∙ c .if4 .left) in
-    over-span (loop .inv) (c .before .before .before .before .before .before .before .before .loop-test .taken) (c .before .before .before .before .before .before .before .if1 .left) (omega arith)
+    let end = leb-false (loop .to + rowLen r) (args .long) (sym (fits-behind2 .ensures) ∙ if4 .left) in
+    over-span (loop .inv) (loop-test .taken) (if1 .left) (omega arith)
 
 fits-behind-requires-3 : tie.Need-fits-behind-requires-3 Inv-loop μ-loop
 fits-behind-requires-3 c κs = search needs
 
 add-to-2 : tie.Need-add-to-2 Inv-loop μ-loop
 add-to-2 c =
-    let args = c .before .before .before .before .before .before .before .before .before .before .before .before .args in
+    let earlier = c .before .before .before .before .before .before .before .before in
+    let args = earlier .before .before .before .before .args in
     let loop = c .before .before .before .before .before .before .before .before .before .before .before .loop in
+    let tries-len = c .before .before .before .before .before .before .before .tries-len in
+    let fits-behind3 = c .before .fits-behind3 in
+    let if5 = c .if5 in
     let r = getD (args .records .now) (loop .i) [] in
-    let end = leb-true (loop .to + rowLen r + c .before .before .before .before .before .before .before .tries-len .result) (args .long) (sym (c .before .fits-behind3 .ensures) ∙ c .if5 .taken) in
+    let end = leb-true (loop .to + rowLen r + tries-len .result) (args .long)
+    (sym (fits-behind3 .ensures) ∙ if5 .taken) in
     omega arith
 
 loop-less : tie.Need-loop-less Inv-loop μ-loop
@@ -104,19 +124,37 @@ loop-less c = search needs
 
 loop-again : tie.Need-loop-again Inv-loop μ-loop
 loop-again c =
-    let args = c .before .before .before .before .before .before .before .before .before .before .before .before .args in
+    let earlier = c .before .before .before .before .before .before .before .before in
+    let args = earlier .before .before .before .before .args in
     let loop = c .before .before .before .before .before .before .before .before .before .before .before .loop in
+    let loop-test = c .before .before .before .before .before .before .before .before .before .before .loop-test in
+    let if1 = c .before .before .before .before .before .before .before .before .before .if1 in
+    let tries-len = c .before .before .before .before .before .before .before .tries-len in
+    let if2 = c .before .before .before .before .before .before .if2 in
+    let fits-behind = c .before .before .before .before .before .fits-behind in
+    let if3 = c .before .before .before .before .if3 in
+    let fits-behind3 = c .before .fits-behind3 in
+    let if5 = c .if5 in
     let r = getD (args .records .now) (loop .i) [] in
-    let end = leb-true (loop .to + rowLen r + c .before .before .before .before .before .before .before .tries-len .result) (args .long) (sym (c .before .fits-behind3 .ensures) ∙ c .if5 .taken) in
-    measured (loop .inv) (c .before .before .before .before .before .before .before .before .before .before .loop-test .taken) (c .before .before .before .before .before .before .before .before .before .if1 .left) (c .before .before .before .before .before .before .if2 .left) (leb-true _ _ (sym (c .before .before .before .before .before .fits-behind .ensures) ∙ c .before .before .before .before .if3 .taken)) _ (omega (arith, c .before .before .before .before .before .before .before .tries-len .ensures)) end
+    let end = leb-true (loop .to + rowLen r + tries-len .result) (args .long)
+    (sym (fits-behind3 .ensures) ∙ if5 .taken) in
+    measured (loop .inv) (loop-test .taken) (if1 .left) (if2 .left)
+    (leb-true _ _ (sym (fits-behind .ensures) ∙ if3 .taken)) _ (omega (arith, tries-len .ensures)) end
 
 returns-5 : tie.Need-returns-5 Inv-loop μ-loop
 returns-5 c =
-    let args = c .before .before .before .before .before .before .before .before .before .before .before .before .args in
+    let earlier = c .before .before .before .before .before .before .before .before in
+    let args = earlier .before .before .before .before .args in
     let loop = c .before .before .before .before .before .before .before .before .before .before .before .loop in
+    let loop-test = c .before .before .before .before .before .before .before .before .before .before .loop-test in
+    let if1 = c .before .before .before .before .before .before .before .before .before .if1 in
+    let tries-len = c .before .before .before .before .before .before .before .tries-len in
+    let fits-behind3 = c .before .fits-behind3 in
+    let if5 = c .if5 in
     let r = getD (args .records .now) (loop .i) [] in
-    let end = leb-false (loop .to + rowLen r + c .before .before .before .before .before .before .before .tries-len .result) (args .long) (sym (c .before .fits-behind3 .ensures) ∙ c .if5 .left) in
-    over-span (loop .inv) (c .before .before .before .before .before .before .before .before .before .before .loop-test .taken) (c .before .before .before .before .before .before .before .before .before .if1 .left) (omega (arith, c .before .before .before .before .before .before .before .tries-len .ensures))
+    let end = leb-false (loop .to + rowLen r + tries-len .result) (args .long)
+    (sym (fits-behind3 .ensures) ∙ if5 .left) in
+    over-span (loop .inv) (loop-test .taken) (if1 .left) (omega (arith, tries-len .ensures))
 
 returns-6 : tie.Need-returns-6 Inv-loop μ-loop
 returns-6 c =

@@ -10,7 +10,8 @@ use Rattle.log.proofs.rewrite.move_down.Statement.{statement}
 use Rattle.log.proofs.rewrite.move_down.Tie as tie
 
 abbrev Inv-loop : tie.InvT-loop
-Inv-loop log₀ a n to end k₀ p₀ log k p = (p ≤ k) × (k ≤ end) × (end ≤ length log) × (length log ≡ length log₀) × (write log p (part log k end) ≡ write log₀ to (part log₀ a end))
+Inv-loop log₀ a n to end k₀ p₀ log k p = (p ≤ k) × (k ≤ end) × (end ≤ length log) × (length log ≡ length log₀) ×
+    (write log p (part log k end) ≡ write log₀ to (part log₀ a end))
 
 abbrev μ-loop : tie.MeasureT-loop
 μ-loop log₀ a n to end k₀ p₀ log k p = end - k
@@ -20,7 +21,8 @@ returns c =
     let args = c .before .args in
     let pre = c .before .pre in
     let if1 = c .if1 in
-    subst (λ t. args .log .now ≡ write (args .log .now) t (part (args .log .now) (args .a) (args .a + args .n))) (sym (if1 .taken)) (sym (move-same (args .log .now) (args .a) (args .a + args .n) (omega arith) (pre .1)))
+    subst (λ t. args .log .now ≡ write (args .log .now) t (part (args .log .now) (args .a) (args .a + args .n)))
+    (sym (if1 .taken)) (sym (move-same (args .log .now) (args .a) (args .a + args .n) (omega arith) (pre .1)))
 
 add-end : tie.Need-add-end Inv-loop μ-loop
 add-end c = search needs
@@ -49,8 +51,15 @@ loop-again : tie.Need-loop-again Inv-loop μ-loop
 loop-again c =
     let args = c .before .before .before .before .args in
     let loop = c .before .before .loop in
-    let loop-test = c .before .loop-test in
-    (omega (arith, loop .inv .0), omega (arith, loop-test .taken), simp length-set (loop .inv .2), simp length-set (loop .inv .3), move-step (loop .log) (loop .p) (loop .k) (args .a + args .n) 0 (loop .inv .0) (loop-test .taken) (omega (arith, loop .inv .2, loop-test .taken)) ∙ loop .inv .4)
+    let loop-test = c .before .loop-test in (
+      omega (arith, loop .inv .0),
+      omega (arith, loop-test .taken),
+      simp length-set (loop .inv .2),
+      simp length-set
+          (loop .inv .3),
+      move-step (loop .log) (loop .p) (loop .k) (args .a + args .n) 0 (loop .inv .0)
+          (loop-test .taken) (omega (arith, loop .inv .2, loop-test .taken)) ∙ loop .inv .4,
+    )
 
 same-length : tie.Need-same-length Inv-loop μ-loop
 same-length c =

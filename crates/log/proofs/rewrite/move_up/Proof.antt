@@ -11,7 +11,8 @@ use Rattle.log.proofs.rewrite.move_up.Statement.{statement}
 use Rattle.log.proofs.rewrite.move_up.Tie as tie
 
 abbrev Inv-loop : tie.InvT-loop
-Inv-loop log₀ a n to k₀ log k = (k ≤ n) × (a ≤ to) × (to + n ≤ length log) × (length log ≡ length log₀) × (write log to (part log a (a + k)) ≡ write log₀ to (part log₀ a (a + n)))
+Inv-loop log₀ a n to k₀ log k = (k ≤ n) × (a ≤ to) × (to + n ≤ length log) × (length log ≡ length log₀) ×
+    (write log to (part log a (a + k)) ≡ write log₀ to (part log₀ a (a + n)))
 
 abbrev μ-loop : tie.MeasureT-loop
 μ-loop log₀ a n to k₀ log k = k
@@ -21,7 +22,9 @@ returns c =
     let args = c .before .args in
     let pre = c .before .pre in
     let if1 = c .if1 in
-    subst (λ t. args .log .now ≡ write (args .log .now) t (part (args .log .now) (args .a) (args .a + args .n))) (sym (if1 .taken)) (sym (move-same (args .log .now) (args .a) (args .a + args .n) (omega arith) (omega (arith, if1 .taken, pre .1))))
+    subst (λ t. args .log .now ≡ write (args .log .now) t (part (args .log .now) (args .a) (args .a + args .n)))
+    (sym (if1 .taken)) (sym
+    (move-same (args .log .now) (args .a) (args .a + args .n) (omega arith) (omega (arith, if1 .taken, pre .1))))
 
 loop-holds : tie.Need-loop-holds Inv-loop μ-loop
 loop-holds c =
@@ -50,8 +53,14 @@ loop-again : tie.Need-loop-again Inv-loop μ-loop
 loop-again c =
     let args = c .before .before .before .before .args in
     let loop = c .before .before .loop in
-    let loop-test = c .before .loop-test in
-    (omega (arith, loop .inv .0), loop .inv .1, simp length-set (loop .inv .2), simp length-set (loop .inv .3), move-up-step (loop .log) (args .a) (loop .k) (args .to) 0 (loop-test .taken) (loop .inv .1) (omega (arith, loop .inv .0, loop .inv .2)) ∙ loop .inv .4)
+    let loop-test = c .before .loop-test in (
+      omega (arith, loop .inv .0),
+      loop .inv .1,
+      simp length-set (loop .inv .2),
+      simp length-set (loop .inv .3),
+      move-up-step (loop .log) (args .a) (loop .k) (args .to) 0 (loop-test .taken) (loop .inv .1)
+          (omega (arith, loop .inv .0, loop .inv .2)) ∙ loop .inv .4,
+    )
 
 same-length : tie.Need-same-length Inv-loop μ-loop
 same-length c = c .before .loop .inv .3

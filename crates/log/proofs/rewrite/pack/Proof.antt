@@ -30,7 +30,8 @@ returns c =
     let args = c .before .before .before .before .args in
     let loop = c .before .before .loop in
     let if1 = c .if1 in
-    packing-ends (loop .inv) (no-row [] (args .records .now) (args .count) (loop .i) (omega (arith, loop .inv .many, if1 .taken)))
+    packing-ends (loop .inv)
+    (no-row [] (args .records .now) (args .count) (loop .i) (omega (arith, loop .inv .many, if1 .taken)))
 
 mul-r : tie.Need-mul-r Inv-loop μ-loop
 mul-r c = search needs
@@ -45,7 +46,11 @@ array-read-move-down : tie.Need-array-read-move-down Inv-loop μ-loop
 array-read-move-down c = search needs
 
 move-down-requires : tie.Need-move-down-requires Inv-loop μ-loop
-move-down-requires c κs = to-be-moved (c .before .before .before .before .loop .inv) (c .before .before .before .loop-test .taken) (c .before .before .if1 .left)
+move-down-requires c κs =
+    let loop = c .before .before .before .before .loop in
+    let loop-test = c .before .before .before .loop-test in
+    let if1 = c .before .before .if1 in
+    to-be-moved (loop .inv) (loop-test .taken) (if1 .left)
 
 array-read-t14 : tie.Need-array-read-t14 Inv-loop μ-loop
 array-read-t14 c = search needs
@@ -65,7 +70,9 @@ slice-set-from-records c = search needs
 add-to : tie.Need-add-to Inv-loop μ-loop
 add-to c =
     let loop = c .before .before .before .before .before .before .before .loop in
-    let moved = to-be-moved (loop .inv) (c .before .before .before .before .before .before .loop-test .taken) (c .before .before .before .before .before .if1 .left) in
+    let loop-test = c .before .before .before .before .before .before .loop-test in
+    let if1 = c .before .before .before .before .before .if1 in
+    let moved = to-be-moved (loop .inv) (loop-test .taken) (if1 .left) in
     omega (arith, moved .0, moved .1)
 
 add-i : tie.Need-add-i Inv-loop μ-loop
@@ -77,7 +84,10 @@ loop-less c = search needs
 loop-again : tie.Need-loop-again Inv-loop μ-loop
 loop-again c =
     let loop = c .before .before .before .before .before .before .before .loop in
-    packed-on (loop .inv) (c .before .before .before .before .before .before .loop-test .taken) (c .before .before .before .before .before .if1 .left) _ (c .before .before .move-down .ensures)
+    let loop-test = c .before .before .before .before .before .before .loop-test in
+    let if1 = c .before .before .before .before .before .if1 in
+    let move-down = c .before .before .move-down in
+    packed-on (loop .inv) (loop-test .taken) (if1 .left) _ (move-down .ensures)
 
 same-length-3 : tie.Need-same-length-3 Inv-loop μ-loop
 same-length-3 c = c .before .loop .inv .long

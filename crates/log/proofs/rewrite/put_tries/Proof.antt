@@ -36,8 +36,11 @@ encode-retry-requires c κs = search needs
 add-result : tie.Need-add-result
 add-result c =
     let args = c .before .before .before .before .before .before .before .args in
-    let n = ap length (some-tries (args .id) (args .tried) (c .before .before .before .before .before .if1 .left)) in
-    omega (arith, c .before .before .before .before .before .before .before .pre, c .before .before .before .before .retry-len .ensures)
+    let pre = c .before .before .before .before .before .before .before .pre in
+    let if1 = c .before .before .before .before .before .if1 in
+    let retry-len = c .before .before .before .before .retry-len in
+    let n = ap length (some-tries (args .id) (args .tried) (if1 .left)) in
+    omega (arith, pre, retry-len .ensures)
 
 same-length : tie.Need-same-length
 same-length c = search needs
@@ -45,12 +48,16 @@ same-length c = search needs
 returns-2 : tie.Need-returns-2
 returns-2 c =
     let args = c .before .before .before .before .before .before .before .args in
-    let line = some-tries (args .id) (args .tried) (c .before .before .before .before .before .if1 .left) in
+    let pre = c .before .before .before .before .before .before .before .pre in
+    let if1 = c .before .before .before .before .before .if1 in
+    let retry-len = c .before .before .before .before .retry-len in
+    let encode-retry = c .before .before .encode-retry in
+    let line = some-tries (args .id) (args .tried) (if1 .left) in
     let n = ap length line in
     record {
-      past = omega (arith, c .before .before .before .before .retry-len .ensures);
+      past = omega (arith, retry-len .ensures);
       bytes = filled-part (args .log .now) (args .at) (retryLine (args .id) (args .tried)) _ _
-          (omega (arith, c .before .before .before .before .before .before .before .pre)) (c .before .before .encode-retry .ensures) ∙ ap (write (args .log .now) (args .at)) (sym line);
+          (omega (arith, pre)) (encode-retry .ensures) ∙ ap (write (args .log .now) (args .at)) (sym line);
     }
 
 pub put-tries-spec : {M : Type 1} → statement M

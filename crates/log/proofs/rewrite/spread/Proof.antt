@@ -17,7 +17,8 @@ loop-holds : tie.Need-loop-holds Inv-loop μ-loop
 loop-holds c =
     let args = c .before .args in
     let pre = c .before .pre in
-    spreading-begins (args .log .now) (args .records .now) (args .count) (pre .0) (omega (arith, pre .1, pre .2)) (pre .3) (args .end) (pre .2)
+    spreading-begins (args .log .now) (args .records .now) (args .count) (pre .0) (omega (arith, pre .1, pre .2))
+    (pre .3) (args .end) (pre .2)
 
 sub-i : tie.Need-sub-i Inv-loop μ-loop
 sub-i c = search needs
@@ -46,8 +47,12 @@ sub-to : tie.Need-sub-to Inv-loop μ-loop
 sub-to c =
     let args = c .before .before .before .before .before .args in
     let pre = c .before .before .before .before .before .pre in
-    let lies = to-be-spread (args .log .now) (args .records .now) (args .count) (pre .0) (omega (arith, pre .1, pre .2)) (pre .3) (c .before .before .before .loop .inv) (c .before .before .loop-test .taken) in
-    omega (arith, lies .0, c .tries-len .ensures)
+    let loop = c .before .before .before .loop in
+    let loop-test = c .before .before .loop-test in
+    let tries-len = c .tries-len in
+    let lies = to-be-spread (args .log .now) (args .records .now) (args .count) (pre .0)
+    (omega (arith, pre .1, pre .2)) (pre .3) (loop .inv) (loop-test .taken) in
+    omega (arith, lies .0, tries-len .ensures)
 
 array-read-put-tries : tie.Need-array-read-put-tries Inv-loop μ-loop
 array-read-put-tries c = search needs
@@ -59,15 +64,23 @@ put-tries-requires : tie.Need-put-tries-requires Inv-loop μ-loop
 put-tries-requires c κs =
     let args = c .before .before .before .before .before .before .args in
     let pre = c .before .before .before .before .before .before .pre in
-    let lies = to-be-spread (args .log .now) (args .records .now) (args .count) (pre .0) (omega (arith, pre .1, pre .2)) (pre .3) (c .before .before .before .before .loop .inv) (c .before .before .before .loop-test .taken) in
-    omega (arith, lies .0, lies .1, c .before .tries-len .ensures)
+    let loop = c .before .before .before .before .loop in
+    let loop-test = c .before .before .before .loop-test in
+    let tries-len = c .before .tries-len in
+    let lies = to-be-spread (args .log .now) (args .records .now) (args .count) (pre .0)
+    (omega (arith, pre .1, pre .2)) (pre .3) (loop .inv) (loop-test .taken) in
+    omega (arith, lies .0, lies .1, tries-len .ensures)
 
 sub-to-2 : tie.Need-sub-to-2 Inv-loop μ-loop
 sub-to-2 c =
     let args = c .before .before .before .before .before .before .before .before .before .args in
     let pre = c .before .before .before .before .before .before .before .before .before .pre in
-    let lies = to-be-spread (args .log .now) (args .records .now) (args .count) (pre .0) (omega (arith, pre .1, pre .2)) (pre .3) (c .before .before .before .before .before .before .before .loop .inv) (c .before .before .before .before .before .before .loop-test .taken) in
-    omega (arith, lies .0, c .before .before .before .before .tries-len .ensures)
+    let loop = c .before .before .before .before .before .before .before .loop in
+    let loop-test = c .before .before .before .before .before .before .loop-test in
+    let tries-len = c .before .before .before .before .tries-len in
+    let lies = to-be-spread (args .log .now) (args .records .now) (args .count) (pre .0)
+    (omega (arith, pre .1, pre .2)) (pre .3) (loop .inv) (loop-test .taken) in
+    omega (arith, lies .0, tries-len .ensures)
 
 array-read-move-up : tie.Need-array-read-move-up Inv-loop μ-loop
 array-read-move-up c = search needs
@@ -76,8 +89,15 @@ move-up-requires : tie.Need-move-up-requires Inv-loop μ-loop
 move-up-requires c κs =
     let args = c .before .before .before .before .before .before .before .before .before .before .args in
     let pre = c .before .before .before .before .before .before .before .before .before .before .pre in
-    let lies = to-be-spread (args .log .now) (args .records .now) (args .count) (pre .0) (omega (arith, pre .1, pre .2)) (pre .3) (c .before .before .before .before .before .before .before .before .loop .inv) (c .before .before .before .before .before .before .before .loop-test .taken) in
-    (omega (arith, lies .0, c .before .before .before .before .before .tries-len .ensures), omega (arith, lies .0, lies .1, c .before .before .before .before .before .tries-len .ensures, c .before .before .before .put-tries .kept .0))
+    let loop = c .before .before .before .before .before .before .before .before .loop in
+    let loop-test = c .before .before .before .before .before .before .before .loop-test in
+    let tries-len = c .before .before .before .before .before .tries-len in
+    let put-tries = c .before .before .before .put-tries in
+    let lies = to-be-spread (args .log .now) (args .records .now) (args .count) (pre .0)
+    (omega (arith, pre .1, pre .2)) (pre .3) (loop .inv) (loop-test .taken) in (
+      omega (arith, lies .0, tries-len .ensures),
+      omega (arith, lies .0, lies .1, tries-len .ensures, put-tries .kept .0),
+    )
 
 array-read-t15 : tie.Need-array-read-t15 Inv-loop μ-loop
 array-read-t15 c = search needs
@@ -93,18 +113,28 @@ mul-t10 c = search needs
 
 slice-set-from-records : tie.Need-slice-set-from-records Inv-loop μ-loop
 slice-set-from-records c =
+    let earlier = c .before .before .before .before .before .before .before .before in
+    let pre = earlier .before .before .before .before .before .pre in
     let loop = c .before .before .before .before .before .before .before .before .before .before .before .loop in
-    omega (arith, loop .inv .few, loop .inv .many, c .before .before .before .before .before .before .before .before .before .before .before .before .before .pre .0, c .before .before .before .before .before .before .before .before .before .before .loop-test .taken)
+    let loop-test = c .before .before .before .before .before .before .before .before .before .before .loop-test in
+    omega (arith, loop .inv .few, loop .inv .many, pre .0, loop-test .taken)
 
 loop-less : tie.Need-loop-less Inv-loop μ-loop
 loop-less c = search needs
 
 loop-again : tie.Need-loop-again Inv-loop μ-loop
 loop-again c =
-    let args = c .before .before .before .before .before .before .before .before .before .before .before .before .before .args in
-    let pre = c .before .before .before .before .before .before .before .before .before .before .before .before .before .pre in
+    let earlier = c .before .before .before .before .before .before .before .before in
+    let args = earlier .before .before .before .before .before .args in
+    let pre = earlier .before .before .before .before .before .pre in
     let loop = c .before .before .before .before .before .before .before .before .before .before .before .loop in
-    spread-on (args .log .now) (args .records .now) (args .count) (pre .0) (omega (arith, pre .1, pre .2)) (pre .3) (loop .inv) (c .before .before .before .before .before .before .before .before .before .before .loop-test .taken) _ _ _ _ (ap (λ n. loop .to - n) (c .before .before .before .before .before .before .before .before .tries-len .ensures)) refl (c .before .before .before .before .before .before .put-tries .ensures .bytes) (c .before .before .move-up .ensures)
+    let loop-test = c .before .before .before .before .before .before .before .before .before .before .loop-test in
+    let tries-len = c .before .before .before .before .before .before .before .before .tries-len in
+    let put-tries = c .before .before .before .before .before .before .put-tries in
+    let move-up = c .before .before .move-up in
+    spread-on (args .log .now) (args .records .now) (args .count) (pre .0) (omega (arith, pre .1, pre .2)) (pre .3)
+    (loop .inv) (loop-test .taken) _ _ _ _ (ap (λ n. loop .to - n) (tries-len .ensures)) refl
+    (put-tries .ensures .bytes) (move-up .ensures)
 
 same-length : tie.Need-same-length Inv-loop μ-loop
 same-length c = c .before .loop .inv .long
@@ -116,7 +146,10 @@ returns : tie.Need-returns Inv-loop μ-loop
 returns c =
     let args = c .before .before .before .args in
     let pre = c .before .before .before .pre in
-    spreading-ends (args .log .now) (args .records .now) (args .count) (pre .0) (omega (arith, pre .1, pre .2)) (pre .3) (c .before .loop .inv) (omega (arith, c .loop-test .left))
+    let loop = c .before .loop in
+    let loop-test = c .loop-test in
+    spreading-ends (args .log .now) (args .records .now) (args .count) (pre .0) (omega (arith, pre .1, pre .2))
+    (pre .3) (loop .inv) (omega (arith, loop-test .left))
 
 pub spread-spec : {M : Type 1} → statement M
 spread-spec =

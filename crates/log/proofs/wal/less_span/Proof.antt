@@ -32,11 +32,18 @@ saturating-sub-requires-2 : tie.Need-saturating-sub-requires-2
 saturating-sub-requires-2 c κs = search needs
 
 returns : tie.Need-returns
-returns c = omega (arith, c .before .before .saturating-sub .ensures, c .saturating-sub2 .ensures, c .before .tries-len .ensures)
+returns c =
+    let saturating-sub = c .before .before .saturating-sub in
+    let tries-len = c .before .tries-len in
+    let saturating-sub2 = c .saturating-sub2 in
+    omega (arith, saturating-sub .ensures, saturating-sub2 .ensures, tries-len .ensures)
 
 returns-2 : tie.Need-returns-2
 unfolding attemptsLine
-returns-2 c = rw (List·getD-eq-default (c .before .args .records .now) [] {n = c .before .args .i} (c .if1 .left)) (omega arith)
+returns-2 c =
+    let args = c .before .args in
+    let if1 = c .if1 in
+    rw (List·getD-eq-default (args .records .now) [] {n = args .i} (if1 .left)) (omega arith)
 
 pub less-span-spec : {M : Type 1} → statement M
 less-span-spec =

@@ -30,7 +30,10 @@ returns c = omega (arith, c .saturating-sub .ensures, c .before .tries-len .ensu
 
 returns-2 : tie.Need-returns-2
 unfolding attemptsLine
-returns-2 c = rw (List·getD-eq-default (c .before .args .records .now) [] {n = c .before .args .i} (c .if1 .left)) (omega arith)
+returns-2 c =
+    let args = c .before .args in
+    let if1 = c .if1 in
+    rw (List·getD-eq-default (args .records .now) [] {n = args .i} (if1 .left)) (omega arith)
 
 pub less-tries-spec : {M : Type 1} → statement M
 less-tries-spec =

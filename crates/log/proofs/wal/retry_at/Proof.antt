@@ -24,7 +24,17 @@ set-tried-requires : tie.Need-set-tried-requires
 set-tried-requires c κs = search needs
 
 add-t17 : tie.Need-add-t17
-add-t17 c = omega (arith, leb-true (c .before .before .before .before .before .less-tries .result + c .before .before .before .before .before .before .before .retry-len .result) (length (c .before .before .before .before .before .before .before .before .before .args .log .now)) (sym (c .before .before .before .before .fits-behind .ensures) ∙ c .before .before .before .if1 .taken))
+add-t17 c =
+    let args = c .before .before .before .before .before .before .before .before .before .args in
+    let retry-len = c .before .before .before .before .before .before .before .retry-len in
+    let less-tries = c .before .before .before .before .before .less-tries in
+    let fits-behind = c .before .before .before .before .fits-behind in
+    let if1 = c .before .before .before .if1 in
+    omega (
+      arith,
+      leb-true (less-tries .result + retry-len .result) (length (args .log .now))
+          (sym (fits-behind .ensures) ∙ if1 .taken),
+    )
 
 write-retry-requires : tie.Need-write-retry-requires
 write-retry-requires c κs = search needs
@@ -36,18 +46,41 @@ same-length-2 : tie.Need-same-length-2
 same-length-2 c = search needs
 
 returns : tie.Need-returns
-returns c = let args = c .before .before .before .before .before .before .before .before .before .before .before .before .before .before .before .args in
-    let less-tries = c .before .before .before .before .before .before .before .before .before .before .before .less-tries in
-    let retry-len = c .before .before .before .before .before .before .before .before .before .before .before .before .before .retry-len in
-    let counters : Counters = record { next = args .counters .next; live = less-tries .result + retry-len .result; size = args .counters .size; dirty = args .counters .dirty; count = args .counters .count } in
-    retry-fits (args .log .now) (args .records .now) (args .counters) (args .id) (args .attempts) (args .i) (less-tries .result) (retry-len .result) (less-tries .ensures) (retry-len .ensures) (sym (c .before .before .before .before .before .before .before .before .before .before .fits-behind .ensures) ∙ c .before .before .before .before .before .before .before .before .before .if1 .taken) _
-    (c .before .before .before .write-retry .ensures ∙ ap (λ t. retryWritten (state (args .log .now) t counters) (args .id) (args .attempts)) (c .before .before .before .before .before .before .before .set-tried .ensures))
+returns c =
+    let earlier = c .before .before .before .before .before .before .before .before in
+    let args = earlier .before .before .before .before .before .before .before .args in
+    let retry-len = earlier .before .before .before .before .before .retry-len in
+    let less-tries = earlier .before .before .before .less-tries in
+    let fits-behind = earlier .before .before .fits-behind in
+    let if1 = c .before .before .before .before .before .before .before .before .before .if1 in
+    let set-tried = c .before .before .before .before .before .before .before .set-tried in
+    let write-retry = c .before .before .before .write-retry in
+    let counters : Counters = record {
+      next = args .counters .next;
+      live = less-tries .result + retry-len .result;
+      size = args .counters .size;
+      dirty = args .counters .dirty;
+      count = args .counters .count;
+    } in
+    retry-fits (args .log .now) (args .records .now) (args .counters) (args .id) (args .attempts) (args .i)
+    (less-tries .result) (retry-len .result) (less-tries .ensures) (retry-len .ensures)
+    (sym (fits-behind .ensures) ∙ if1 .taken) _
+    (write-retry .ensures ∙ ap (λ t. retryWritten (state (args .log .now) t counters) (args .id) (args .attempts))
+    (set-tried .ensures))
 
 same-length-3 : tie.Need-same-length-3
 same-length-3 c = search needs
 
 returns-2 : tie.Need-returns-2
-returns-2 c = retry-no-room (c .before .before .before .before .before .before .args .log .now) (c .before .before .before .before .before .before .args .records .now) (c .before .before .before .before .before .before .args .counters) (c .before .before .before .before .before .before .args .id) (c .before .before .before .before .before .before .args .attempts) (c .before .before .before .before .before .before .args .i) (c .before .before .less-tries .result) (c .before .before .before .before .retry-len .result) (c .before .before .less-tries .ensures) (c .before .before .before .before .retry-len .ensures) (sym (c .before .fits-behind .ensures) ∙ c .if1 .left)
+returns-2 c =
+    let args = c .before .before .before .before .before .before .args in
+    let retry-len = c .before .before .before .before .retry-len in
+    let less-tries = c .before .before .less-tries in
+    let fits-behind = c .before .fits-behind in
+    let if1 = c .if1 in
+    retry-no-room (args .log .now) (args .records .now) (args .counters) (args .id) (args .attempts) (args .i)
+    (less-tries .result) (retry-len .result) (less-tries .ensures) (retry-len .ensures)
+    (sym (fits-behind .ensures) ∙ if1 .left)
 
 pub retry-at-spec : {M : Type 1} → statement M
 retry-at-spec =

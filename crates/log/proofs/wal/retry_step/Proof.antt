@@ -23,8 +23,16 @@ same-length : tie.Need-same-length
 same-length c = search needs
 
 returns : tie.Need-returns
-returns c = retry-unknown (state (c .before .before .before .before .before .before .before .args .log .now) (c .before .before .before .before .before .before .before .args .records .now) (c .before .before .before .before .before .before .before .args .counters)) (c .before .before .before .before .before .before .before .args .id .0) (c .before .before .before .before .before .before .before .args .attempts) (sym (c .before .before .before .before .before .counts-tries .ensures) ∙ c .before .before .before .before .if1 .taken)
-    (found-missing (searchRow (c .before .before .before .before .before .before .before .args .id .0) (take (c .before .before .before .before .before .before .before .args .counters .count) (c .before .before .before .before .before .before .before .args .records .now))) (sym (c .enum-told .given .1) ∙ c .before .before .search-row .ensures))
+returns c =
+    let args = c .before .before .before .before .before .before .before .args in
+    let counts-tries = c .before .before .before .before .before .counts-tries in
+    let if1 = c .before .before .before .before .if1 in
+    let search-row = c .before .before .search-row in
+    let enum-told = c .enum-told in
+    retry-unknown (state (args .log .now) (args .records .now) (args .counters)) (args .id .0) (args .attempts)
+    (sym (counts-tries .ensures) ∙ if1 .taken)
+    (found-missing (searchRow (args .id .0) (take (args .counters .count) (args .records .now)))
+    (sym (enum-told .given .1) ∙ search-row .ensures))
 
 retry-at-requires : tie.Need-retry-at-requires
 retry-at-requires c κs = search needs
@@ -36,11 +44,26 @@ same-length-3 : tie.Need-same-length-3
 same-length-3 c = search needs
 
 returns-2 : tie.Need-returns-2
-returns-2 c = c .before .before .before .retry-at .ensures ∙ retry-known (state (c .before .before .before .before .before .before .before .before .before .before .before .before .before .before .args .log .now) (c .before .before .before .before .before .before .before .before .before .before .before .before .before .before .args .records .now) (c .before .before .before .before .before .before .before .before .before .before .before .before .before .before .args .counters)) (c .before .before .before .before .before .before .before .before .before .before .before .before .before .before .args .id .0) (c .before .before .before .before .before .before .before .before .before .before .before .before .before .before .args .attempts) (c .before .before .before .before .before .before .before .i .given .0 .0) (sym (c .before .before .before .before .before .before .before .before .before .before .before .before .counts-tries .ensures) ∙ c .before .before .before .before .before .before .before .before .before .before .before .if1 .taken)
-    (found-at (c .before .before .before .before .before .before .before .i .given .0 .0) (searchRow (c .before .before .before .before .before .before .before .before .before .before .before .before .before .before .args .id .0) (take (c .before .before .before .before .before .before .before .before .before .before .before .before .before .before .args .counters .count) (c .before .before .before .before .before .before .before .before .before .before .before .before .before .before .args .records .now))) (sym (c .before .before .before .before .before .before .before .i .given .1) ∙ c .before .before .before .before .before .before .before .before .before .search-row .ensures))
+returns-2 c =
+    let earlier = c .before .before .before .before .before .before .before .before in
+    let args = earlier .before .before .before .before .before .before .args in
+    let counts-tries = earlier .before .before .before .before .counts-tries in
+    let if1 = c .before .before .before .before .before .before .before .before .before .before .before .if1 in
+    let search-row = c .before .before .before .before .before .before .before .before .before .search-row in
+    let i = c .before .before .before .before .before .before .before .i in
+    let retry-at = c .before .before .before .retry-at in
+    retry-at .ensures ∙ retry-known (state (args .log .now) (args .records .now) (args .counters)) (args .id .0)
+    (args .attempts) (i .given .0 .0) (sym (counts-tries .ensures) ∙ if1 .taken)
+    (found-at (i .given .0 .0) (searchRow (args .id .0) (take (args .counters .count) (args .records .now)))
+    (sym (i .given .1) ∙ search-row .ensures))
 
 returns-3 : tie.Need-returns-3
-returns-3 c = retry-uncounted (state (c .before .before .before .args .log .now) (c .before .before .before .args .records .now) (c .before .before .before .args .counters)) (c .before .before .before .args .id .0) (c .before .before .before .args .attempts) (sym (c .before .counts-tries .ensures) ∙ c .if1 .left)
+returns-3 c =
+    let args = c .before .before .before .args in
+    let counts-tries = c .before .counts-tries in
+    let if1 = c .if1 in
+    retry-uncounted (state (args .log .now) (args .records .now) (args .counters)) (args .id .0) (args .attempts)
+    (sym (counts-tries .ensures) ∙ if1 .left)
 
 pub retry-step-spec : {M : Type 1} → statement M
 retry-step-spec =

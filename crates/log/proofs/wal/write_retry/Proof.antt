@@ -19,10 +19,28 @@ fits-behind-requires : tie.Need-fits-behind-requires
 fits-behind-requires c κs = search needs
 
 sub-encode-retry : tie.Need-sub-encode-retry
-sub-encode-retry c = omega (arith, leb-true (c .before .before .before .before .args .counters .size + c .before .before .retry-len .result) (length (c .before .before .before .before .args .log .now)) (sym (c .before .fits-behind .ensures) ∙ c .if1 .taken))
+sub-encode-retry c =
+    let args = c .before .before .before .before .args in
+    let retry-len = c .before .before .retry-len in
+    let fits-behind = c .before .fits-behind in
+    let if1 = c .if1 in
+    omega (
+      arith,
+      leb-true (args .counters .size + retry-len .result) (length (args .log .now))
+          (sym (fits-behind .ensures) ∙ if1 .taken),
+    )
 
 part-encode-retry-start : tie.Need-part-encode-retry-start
-part-encode-retry-start c = omega (arith, leb-true (c .before .before .before .before .args .counters .size + c .before .before .retry-len .result) (length (c .before .before .before .before .args .log .now)) (sym (c .before .fits-behind .ensures) ∙ c .if1 .taken))
+part-encode-retry-start c =
+    let args = c .before .before .before .before .args in
+    let retry-len = c .before .before .retry-len in
+    let fits-behind = c .before .fits-behind in
+    let if1 = c .if1 in
+    omega (
+      arith,
+      leb-true (args .counters .size + retry-len .result) (length (args .log .now))
+          (sym (fits-behind .ensures) ∙ if1 .taken),
+    )
 
 part-encode-retry-end : tie.Need-part-encode-retry-end
 part-encode-retry-end c = search needs
@@ -31,19 +49,45 @@ encode-retry-requires : tie.Need-encode-retry-requires
 encode-retry-requires c κs = search needs
 
 add-t16 : tie.Need-add-t16
-add-t16 c = omega (arith, leb-true (c .before .before .before .before .before .before .before .before .args .counters .size + c .before .before .before .before .before .before .retry-len .result) (length (c .before .before .before .before .before .before .before .before .args .log .now)) (sym (c .before .before .before .before .before .fits-behind .ensures) ∙ c .before .before .before .before .if1 .taken))
+add-t16 c =
+    let args = c .before .before .before .before .before .before .before .before .args in
+    let retry-len = c .before .before .before .before .before .before .retry-len in
+    let fits-behind = c .before .before .before .before .before .fits-behind in
+    let if1 = c .before .before .before .before .if1 in
+    omega (
+      arith,
+      leb-true (args .counters .size + retry-len .result) (length (args .log .now))
+          (sym (fits-behind .ensures) ∙ if1 .taken),
+    )
 
 add-t16-2 : tie.Need-add-t16-2
-add-t16-2 c = omega (arith, leb-true (c .before .before .before .before .before .before .before .before .args .counters .size + c .before .before .before .before .before .before .retry-len .result) (length (c .before .before .before .before .before .before .before .before .args .log .now)) (sym (c .before .before .before .before .before .fits-behind .ensures) ∙ c .before .before .before .before .if1 .taken))
+add-t16-2 c =
+    let args = c .before .before .before .before .before .before .before .before .args in
+    let retry-len = c .before .before .before .before .before .before .retry-len in
+    let fits-behind = c .before .before .before .before .before .fits-behind in
+    let if1 = c .before .before .before .before .if1 in
+    omega (
+      arith,
+      leb-true (args .counters .size + retry-len .result) (length (args .log .now))
+          (sym (fits-behind .ensures) ∙ if1 .taken),
+    )
 
 same-length : tie.Need-same-length
 same-length c = search needs
 
 returns : tie.Need-returns
-returns c = let fit = sym (c .before .before .before .before .before .fits-behind .ensures) ∙ c .before .before .before .before .if1 .taken in
-    let room = leb-true (c .before .before .before .before .before .before .before .before .args .counters .size + c .before .before .before .before .before .before .retry-len .result) (length (c .before .before .before .before .before .before .before .before .args .log .now)) fit in
-    retry-behind (state (c .before .before .before .before .before .before .before .before .args .log .now) (c .before .before .before .before .before .before .before .before .args .records .now) (c .before .before .before .before .before .before .before .before .args .counters)) (c .before .before .before .before .before .before .before .before .args .id) (c .before .before .before .before .before .before .before .before .args .attempts) (c .before .before .before .before .before .before .retry-len .result) (c .before .before .before .before .before .before .retry-len .ensures) fit _
-    (filled-part (c .before .before .before .before .before .before .before .before .args .log .now) (c .before .before .before .before .before .before .before .before .args .counters .size) (retryLine (c .before .before .before .before .before .before .before .before .args .id) (c .before .before .before .before .before .before .before .before .args .attempts)) _ _ (omega (arith, c .before .before .before .before .before .before .retry-len .ensures)) (c .before .before .encode-retry .ensures))
+returns c =
+    let args = c .before .before .before .before .before .before .before .before .args in
+    let retry-len = c .before .before .before .before .before .before .retry-len in
+    let fits-behind = c .before .before .before .before .before .fits-behind in
+    let if1 = c .before .before .before .before .if1 in
+    let encode-retry = c .before .before .encode-retry in
+    let fit = sym (fits-behind .ensures) ∙ if1 .taken in
+    let room = leb-true (args .counters .size + retry-len .result) (length (args .log .now)) fit in
+    retry-behind (state (args .log .now) (args .records .now) (args .counters)) (args .id) (args .attempts)
+    (retry-len .result) (retry-len .ensures) fit _
+    (filled-part (args .log .now) (args .counters .size) (retryLine (args .id) (args .attempts)) _ _
+    (omega (arith, retry-len .ensures)) (encode-retry .ensures))
 
 compact-requires : tie.Need-compact-requires
 compact-requires c κs = search needs
@@ -55,8 +99,15 @@ same-length-3 : tie.Need-same-length-3
 same-length-3 c = search needs
 
 returns-2 : tie.Need-returns-2
-returns-2 c = retry-anew (state (c .before .before .before .before .before .before .before .before .before .before .args .log .now) (c .before .before .before .before .before .before .before .before .before .before .args .records .now) (c .before .before .before .before .before .before .before .before .before .before .args .counters)) (c .before .before .before .before .before .before .before .before .before .before .args .id) (c .before .before .before .before .before .before .before .before .before .before .args .attempts) (c .before .before .before .before .before .before .before .before .retry-len .result) (c .before .before .before .before .before .before .before .before .retry-len .ensures) (sym (c .before .before .before .before .before .before .before .fits-behind .ensures) ∙ c .before .before .before .before .before .before .if1 .left) _
-    (compacted-is (c .before .before .before .before .before .before .before .before .before .before .args .log .now) _ (c .before .before .before .before .before .before .before .before .before .before .args .records .now) _ (c .before .before .before .before .before .before .before .before .before .before .args .counters) (c .before .before .before .compact .ensures))
+returns-2 c =
+    let args = c .before .before .before .before .before .before .before .before .before .before .args in
+    let retry-len = c .before .before .before .before .before .before .before .before .retry-len in
+    let fits-behind = c .before .before .before .before .before .before .before .fits-behind in
+    let if1 = c .before .before .before .before .before .before .if1 in
+    let compact = c .before .before .before .compact in
+    retry-anew (state (args .log .now) (args .records .now) (args .counters)) (args .id) (args .attempts)
+    (retry-len .result) (retry-len .ensures) (sym (fits-behind .ensures) ∙ if1 .left) _
+    (compacted-is (args .log .now) _ (args .records .now) _ (args .counters) (compact .ensures))
 
 pub write-retry-spec : {M : Type 1} → statement M
 write-retry-spec =

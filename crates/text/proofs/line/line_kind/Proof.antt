@@ -29,8 +29,14 @@ done-kind-requires : tie.Need-done-kind-requires
 done-kind-requires c κs = search needs
 
 returns : tie.Need-returns
-returns c = c .done-kind .ensures ∙ (ap doneKind (c .before .read-id .ensures)
-    ∙ sym (kind-one (c .before .before .before .before .before .args .line .now) (c .before .before .before .find .result) (c .before .before .before .find .ensures) (omega (arith, c .before .before .if1 .taken))))
+returns c =
+    let args = c .before .before .before .before .before .args in
+    let find = c .before .before .before .find in
+    let if1 = c .before .before .if1 in
+    let read-id = c .before .read-id in
+    let done-kind = c .done-kind in
+    done-kind .ensures ∙ (ap doneKind (read-id .ensures)
+    ∙ sym (kind-one (args .line .now) (find .result) (find .ensures) (omega (arith, if1 .taken))))
 
 add-find-from : tie.Need-add-find-from
 add-find-from c = search needs
@@ -39,7 +45,10 @@ find-from-requires : tie.Need-find-from-requires
 find-from-requires c κs = search needs
 
 slice-aggregate-read-id : tie.Need-slice-aggregate-read-id
-slice-aggregate-read-id c = sym (length-take-le (c .before .before .before .before .find .result) (c .before .before .before .before .before .before .args .line .now) (c .before .before .before .before .find .ensures .within))
+slice-aggregate-read-id c =
+    let args = c .before .before .before .before .before .before .args in
+    let find = c .before .before .before .before .find in
+    sym (length-take-le (find .result) (args .line .now) (find .ensures .within))
 
 read-id-requires-2 : tie.Need-read-id-requires-2
 read-id-requires-2 c κs = search needs
@@ -63,14 +72,23 @@ retry-kind-requires : tie.Need-retry-kind-requires
 retry-kind-requires c κs = search needs
 
 returns-2 : tie.Need-returns-2
-returns-2 c = let s = c .before .before .before .before .before .before .before .before .before .before .args .line .now in
-    let a = c .before .before .before .before .before .before .before .before .find .result in
-    let within = c .before .before .before .before .before .before .before .before .find .ensures .within in
-    c .retry-kind .ensures
-    ∙ (ap (λ i. retryKind i (c .before .read-id3 .result)) (c .before .before .before .read-id2 .ensures)
-    ∙ (ap (retryKind (idOf (readId (take a s)))) (c .before .read-id3 .ensures ∙ ap (λ t. idOf (readId t)) (from s (a + 1)))
-    ∙ sym (kind-two s a (c .before .before .before .before .before .before .find-from .result) (c .before .before .before .before .before .before .before .before .find .ensures) (omega (arith, c .before .before .before .before .before .before .before .if1 .left)) (c .before .before .before .before .before .before .find-from .ensures)
-    (omega (arith, c .before .before .before .before .before .if2 .taken)))))
+returns-2 c =
+    let args = c .before .before .before .before .before .before .before .before .before .before .args in
+    let find = c .before .before .before .before .before .before .before .before .find in
+    let if1 = c .before .before .before .before .before .before .before .if1 in
+    let find-from = c .before .before .before .before .before .before .find-from in
+    let if2 = c .before .before .before .before .before .if2 in
+    let read-id2 = c .before .before .before .read-id2 in
+    let read-id3 = c .before .read-id3 in
+    let retry-kind = c .retry-kind in
+    let s = args .line .now in
+    let a = find .result in
+    let within = find .ensures .within in
+    retry-kind .ensures
+    ∙ (ap (λ i. retryKind i (read-id3 .result)) (read-id2 .ensures)
+    ∙ (ap (retryKind (idOf (readId (take a s)))) (read-id3 .ensures ∙ ap (λ t. idOf (readId t)) (from s (a + 1)))
+    ∙ sym (kind-two s a (find-from .result) (find .ensures) (omega (arith, if1 .left)) (find-from .ensures)
+    (omega (arith, if2 .taken)))))
 
 add-find-from-2 : tie.Need-add-find-from-2
 add-find-from-2 c = search needs
@@ -79,16 +97,27 @@ find-from-requires-2 : tie.Need-find-from-requires-2
 find-from-requires-2 c κs = search needs
 
 returns-3 : tie.Need-returns-3
-returns-3 c = let s = c .before .before .before .before .before .before .before .args .line .now in
-    let a = c .before .before .before .before .before .find .ensures .within in
-    let b = c .before .before .before .find-from .ensures .within in
-    let one : c .before .before .before .before .before .find .result < length s = omega (arith, c .before .before .before .before .if1 .left) in
-    let two : c .before .before .before .find-from .result < length s = omega (arith, c .before .before .if2 .left) in
-    sym (kind-more s (c .before .before .before .before .before .find .result) (c .before .before .before .find-from .result) (c .before .before .before .before .before .find .ensures) one (c .before .before .before .find-from .ensures) two
-    (c .before .find-from2 .result) (c .before .find-from2 .ensures) (c .if3 .taken))
+returns-3 c =
+    let args = c .before .before .before .before .before .before .before .args in
+    let find = c .before .before .before .before .before .find in
+    let if1 = c .before .before .before .before .if1 in
+    let find-from = c .before .before .before .find-from in
+    let if2 = c .before .before .if2 in
+    let find-from2 = c .before .find-from2 in
+    let if3 = c .if3 in
+    let s = args .line .now in
+    let a = find .ensures .within in
+    let b = find-from .ensures .within in
+    let one : find .result < length s = omega (arith, if1 .left) in
+    let two : find-from .result < length s = omega (arith, if2 .left) in
+    sym (kind-more s (find .result) (find-from .result) (find .ensures) one (find-from .ensures) two
+    (find-from2 .result) (find-from2 .ensures) (if3 .taken))
 
 slice-aggregate-read-id-2 : tie.Need-slice-aggregate-read-id-2
-slice-aggregate-read-id-2 c = sym (length-take-le (c .before .before .before .before .before .before .find .result) (c .before .before .before .before .before .before .before .before .args .line .now) (c .before .before .before .before .before .before .find .ensures .within))
+slice-aggregate-read-id-2 c =
+    let args = c .before .before .before .before .before .before .before .before .args in
+    let find = c .before .before .before .before .before .before .find in
+    sym (length-take-le (find .result) (args .line .now) (find .ensures .within))
 
 read-id-requires-4 : tie.Need-read-id-requires-4
 read-id-requires-4 c κs = search needs
@@ -103,16 +132,26 @@ put-kind-requires : tie.Need-put-kind-requires
 put-kind-requires c κs = search needs
 
 returns-4 : tie.Need-returns-4
-returns-4 c = let s = c .before .before .before .before .before .before .before .before .before .before .args .line .now in
-    let a = c .before .before .before .before .before .before .before .before .find .ensures .within in
-    let b = c .before .before .before .before .before .before .find-from .ensures .within in
-    let one : c .before .before .before .before .before .before .before .before .find .result < length s = omega (arith, c .before .before .before .before .before .before .before .if1 .left) in
-    let two : c .before .before .before .before .before .before .find-from .result < length s = omega (arith, c .before .before .before .before .before .if2 .left) in
-    c .put-kind .ensures
-    ∙ (ap (λ i. putKind i (c .before .before .before .before .before .before .before .before .find .result + 1) (c .before .before .before .before .before .before .find-from .result) (c .before .before .before .before .before .before .find-from .result + 1) (length s))
-    (c .before .read-id4 .ensures)
-    ∙ sym (kind-three s (c .before .before .before .before .before .before .before .before .find .result) (c .before .before .before .before .before .before .find-from .result) (c .before .before .before .before .before .before .before .before .find .ensures) one (c .before .before .before .before .before .before .find-from .ensures) two
-    (c .before .before .before .before .find-from2 .result) (c .before .before .before .before .find-from2 .ensures) (c .before .before .before .if3 .left)))
+returns-4 c =
+    let args = c .before .before .before .before .before .before .before .before .before .before .args in
+    let find = c .before .before .before .before .before .before .before .before .find in
+    let if1 = c .before .before .before .before .before .before .before .if1 in
+    let find-from = c .before .before .before .before .before .before .find-from in
+    let if2 = c .before .before .before .before .before .if2 in
+    let find-from2 = c .before .before .before .before .find-from2 in
+    let if3 = c .before .before .before .if3 in
+    let read-id4 = c .before .read-id4 in
+    let put-kind = c .put-kind in
+    let s = args .line .now in
+    let a = find .ensures .within in
+    let b = find-from .ensures .within in
+    let one : find .result < length s = omega (arith, if1 .left) in
+    let two : find-from .result < length s = omega (arith, if2 .left) in
+    put-kind .ensures
+    ∙ (ap (λ i. putKind i (find .result + 1) (find-from .result) (find-from .result + 1) (length s))
+    (read-id4 .ensures)
+    ∙ sym (kind-three s (find .result) (find-from .result) (find .ensures) one (find-from .ensures) two
+    (find-from2 .result) (find-from2 .ensures) (if3 .left)))
 
 pub line-kind-spec : {M : Type 1} → statement M
 line-kind-spec =

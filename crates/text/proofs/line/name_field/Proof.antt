@@ -13,15 +13,30 @@ enum-known-name : tie.Need-enum-known-name
 enum-known-name c = search needs
 
 sub-result : tie.Need-sub-result
-sub-result c = let inside = subst (Inside (c .before .before .before .before .before .args .line .now)) (c .before .name .given .1) (subst (Inside (c .before .before .before .before .before .args .line .now)) (sym (c .before .before .before .line-kind .ensures)) (kind-inside (c .before .before .before .before .before .args .line .now))) in
+sub-result c =
+    let args = c .before .before .before .before .before .args in
+    let line-kind = c .before .before .before .line-kind in
+    let name = c .before .name in
+    let inside = subst (Inside (args .line .now)) (name .given .1)
+    (subst (Inside (args .line .now)) (sym (line-kind .ensures)) (kind-inside (args .line .now))) in
     omega (arith, inside)
 
 part-result-start : tie.Need-part-result-start
-part-result-start c = let inside = subst (Inside (c .before .before .before .before .before .args .line .now)) (c .before .name .given .1) (subst (Inside (c .before .before .before .before .before .args .line .now)) (sym (c .before .before .before .line-kind .ensures)) (kind-inside (c .before .before .before .before .before .args .line .now))) in
+part-result-start c =
+    let args = c .before .before .before .before .before .args in
+    let line-kind = c .before .before .before .line-kind in
+    let name = c .before .name in
+    let inside = subst (Inside (args .line .now)) (name .given .1)
+    (subst (Inside (args .line .now)) (sym (line-kind .ensures)) (kind-inside (args .line .now))) in
     omega (arith, inside)
 
 part-result-end : tie.Need-part-result-end
-part-result-end c = let inside = subst (Inside (c .before .before .before .before .before .args .line .now)) (c .before .name .given .1) (subst (Inside (c .before .before .before .before .before .args .line .now)) (sym (c .before .before .before .line-kind .ensures)) (kind-inside (c .before .before .before .before .before .args .line .now))) in
+part-result-end c =
+    let args = c .before .before .before .before .before .args in
+    let line-kind = c .before .before .before .line-kind in
+    let name = c .before .name in
+    let inside = subst (Inside (args .line .now)) (name .given .1)
+    (subst (Inside (args .line .now)) (sym (line-kind .ensures)) (kind-inside (args .line .now))) in
     omega (arith, inside)
 
 enum-told : tie.Need-enum-told
@@ -61,16 +76,32 @@ part-result-end-4 : tie.Need-part-result-end-4
 part-result-end-4 c = search needs
 
 returns : tie.Need-returns
-returns c = ap (namePart (c .before .before .before .before .before .before .args .line .now)) (sym (c .before .before .name .given .1) ∙ c .before .before .before .before .line-kind .ensures) ∙ kind-name (c .before .before .before .before .before .before .args .line .now)
+returns c =
+    let args = c .before .before .before .before .before .before .args in
+    let line-kind = c .before .before .before .before .line-kind in
+    let name = c .before .before .name in
+    ap (namePart (args .line .now)) (sym (name .given .1) ∙ line-kind .ensures) ∙ kind-name (args .line .now)
 
 returns-2 : tie.Need-returns-2
-returns-2 c = ap (namePart (c .before .before .before .before .before .args .line .now)) (sym (c .before .enum-told .given .1) ∙ c .before .before .before .line-kind .ensures) ∙ kind-name (c .before .before .before .before .before .args .line .now)
+returns-2 c =
+    let args = c .before .before .before .before .before .args in
+    let line-kind = c .before .before .before .line-kind in
+    let enum-told = c .before .enum-told in
+    ap (namePart (args .line .now)) (sym (enum-told .given .1) ∙ line-kind .ensures) ∙ kind-name (args .line .now)
 
 returns-3 : tie.Need-returns-3
-returns-3 c = ap (namePart (c .before .before .before .before .before .args .line .now)) (sym (c .before .enum-told2 .given .1) ∙ c .before .before .before .line-kind .ensures) ∙ kind-name (c .before .before .before .before .before .args .line .now)
+returns-3 c =
+    let args = c .before .before .before .before .before .args in
+    let line-kind = c .before .before .before .line-kind in
+    let enum-told2 = c .before .enum-told2 in
+    ap (namePart (args .line .now)) (sym (enum-told2 .given .1) ∙ line-kind .ensures) ∙ kind-name (args .line .now)
 
 returns-4 : tie.Need-returns-4
-returns-4 c = ap (namePart (c .before .before .before .before .before .args .line .now)) (sym (c .before .enum-told3 .given .1) ∙ c .before .before .before .line-kind .ensures) ∙ kind-name (c .before .before .before .before .before .args .line .now)
+returns-4 c =
+    let args = c .before .before .before .before .before .args in
+    let line-kind = c .before .before .before .line-kind in
+    let enum-told3 = c .before .enum-told3 in
+    ap (namePart (args .line .now)) (sym (enum-told3 .given .1) ∙ line-kind .ensures) ∙ kind-name (args .line .now)
 
 pub name-field-spec : {M : Type 1} → statement M
 name-field-spec =

@@ -29,10 +29,18 @@ returns-2 c = let h1 = c .before .before .before .i .given .1 in
     simp (h1, h2)
 
 returns-3 : tie.Need-returns-3
-returns-3 c = kind-over _ _ _ _ (c .before .before .before .before .before .i .given .1) (c .before .before .n .given .1) (omega (arith, c .if1 .taken))
+returns-3 c =
+    let i = c .before .before .before .before .before .i in
+    let n = c .before .before .n in
+    let if1 = c .if1 in
+    kind-over _ _ _ _ (i .given .1) (n .given .1) (omega (arith, if1 .taken))
 
 returns-4 : tie.Need-returns-4
-returns-4 c = kind-tried _ _ _ _ (c .before .before .before .before .before .i .given .1) (c .before .before .n .given .1) (omega (arith, c .if1 .left))
+returns-4 c =
+    let i = c .before .before .before .before .before .i in
+    let n = c .before .before .n in
+    let if1 = c .if1 in
+    kind-tried _ _ _ _ (i .given .1) (n .given .1) (omega (arith, if1 .left))
 
 pub retry-kind-spec : {M : Type 1} → statement M
 retry-kind-spec =

@@ -32,12 +32,16 @@ same-length : tie.Need-same-length
 same-length c = search needs
 
 returns : tie.Need-returns
-returns c = let out = c .before .before .before .before .before .args .out .now in
-    let at = c .before .before .before .before .before .args .at in
+returns c =
+    let args = c .before .before .before .before .before .args in
+    let pre = c .before .before .before .before .before .pre in
+    let print-id = c .before .before .print-id in
+    let out = args .out .now in
+    let at = args .at in
     record {
-      past = omega (arith, c .before .before .print-id .ensures .past);
-      bytes = ap (putMid at (length out - at) out) (c .before .before .print-id .ensures .bytes)
-          ∙ part-back out at (printId (c .before .before .before .before .before .args .id)) (c .before .before .before .before .before .pre);
+      past = omega (arith, print-id .ensures .past);
+      bytes = ap (putMid at (length out - at) out) (print-id .ensures .bytes)
+          ∙ part-back out at (printId (args .id)) (pre);
     }
 
 pub put-id-spec : {M : Type 1} → statement M

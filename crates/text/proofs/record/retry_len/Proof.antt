@@ -16,13 +16,25 @@ id-len-requires-2 : tie.Need-id-len-requires-2
 id-len-requires-2 c κs = search needs
 
 add-result : tie.Need-add-result
-add-result c = omega (arith, c .before .id-len .ensures, c .id-len2 .ensures, print-short (c .before .before .args .id), print-short (c .before .before .args .attempts))
+add-result c =
+    let args = c .before .before .args in
+    let id-len = c .before .id-len in
+    let id-len2 = c .id-len2 in
+    omega (arith, id-len .ensures, id-len2 .ensures, print-short (args .id), print-short (args .attempts))
 
 add-result-2 : tie.Need-add-result-2
-add-result-2 c = omega (arith, c .before .id-len .ensures, c .id-len2 .ensures, print-short (c .before .before .args .id), print-short (c .before .before .args .attempts))
+add-result-2 c =
+    let args = c .before .before .args in
+    let id-len = c .before .id-len in
+    let id-len2 = c .id-len2 in
+    omega (arith, id-len .ensures, id-len2 .ensures, print-short (args .id), print-short (args .attempts))
 
 returns : tie.Need-returns
-returns c = omega (arith, c .before .id-len .ensures, c .id-len2 .ensures, retry-length (c .before .before .args .id) (c .before .before .args .attempts))
+returns c =
+    let args = c .before .before .args in
+    let id-len = c .before .id-len in
+    let id-len2 = c .id-len2 in
+    omega (arith, id-len .ensures, id-len2 .ensures, retry-length (args .id) (args .attempts))
 
 pub retry-len-spec : {M : Type 1} → statement M
 retry-len-spec =

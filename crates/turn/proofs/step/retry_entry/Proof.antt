@@ -33,11 +33,18 @@ same-length-2 c = search needs
 
 returns : tie.Need-returns
 unfolding retryEntry
-returns c store groups links keys actors = let h1 = c .before .before .before .before .before .before .before .before .before .before .before .before .before .again .given .1 in
-    let e1 = c .before .before .before .before .before .before .before .before .before .before .before .id-at .ensures in
-    let e2 = c .before .before .before .before .before .before .before .before .before .before .attempts-at .ensures in
-    let h2 = simp (e1) at (c .before .before .before .before .before .before .before .before .id .given .1) in
-    let e3 = c .before .before .before .retry-logged .ensures in
+returns c store groups links keys actors =
+    let earlier = c .before .before .before .before .before .before .before .before in
+    let again = earlier .before .before .before .before .before .again in
+    let id-at = c .before .before .before .before .before .before .before .before .before .before .before .id-at in
+    let attempts-at = earlier .before .before .attempts-at in
+    let id = c .before .before .before .before .before .before .before .before .id in
+    let retry-logged = c .before .before .before .retry-logged in
+    let h1 = again .given .1 in
+    let e1 = id-at .ensures in
+    let e2 = attempts-at .ensures in
+    let h2 = simp (e1) at (id .given .1) in
+    let e3 = retry-logged .ensures in
     simp (h1, h2, ← e2) (e3 _ _ _ _ _ _)
 
 returns-2 : tie.Need-returns-2

@@ -25,10 +25,16 @@ same-length-2 c = search needs
 
 returns : tie.Need-returns
 unfolding retryLogged orderForOf
-returns c store groups links rows keys actors = let e1 = c .before .before .before .before .before .before .before .before .before .before .before .counters .ensures in
-    let e2 = simp (e1) at (c .before .before .before .before .before .before .before .before .retry .ensures) in
-    let e3 = c .before .before .waiting .ensures in
-    let e4 = c .set-log .ensures in
+returns c store groups links rows keys actors =
+    let earlier = c .before .before .before .before .before .before .before .before in
+    let counters = earlier .before .before .before .counters in
+    let retry = c .before .before .before .before .before .before .before .before .retry in
+    let waiting = c .before .before .waiting in
+    let set-log = c .set-log in
+    let e1 = counters .ensures in
+    let e2 = simp (e1) at (retry .ensures) in
+    let e3 = waiting .ensures in
+    let e4 = set-log .ensures in
     simp (e1, ← e2, e3, e4)
 
 pub retry-logged-spec : {M : Type 1} → statement M

@@ -32,7 +32,12 @@ same-length-6 : tie.Need-same-length-6
 same-length-6 c = search needs
 
 returns : tie.Need-returns
-returns c = ran-is _ _ _ _ _ (c .before .before .before .before .before .before .before .before .before .before .before .before .before .before .before .before .before .before .again-at .ensures _ _ _ _ _) (c .before .before .before .before .before .before .before .before .before .before .before .before .go .ensures _ _) (c .before .before .before .retry-entry .ensures _ _ _ _ _)
+returns c =
+    let earlier = c .before .before .before .before .before .before .before .before in
+    let again-at = earlier .before .before .before .before .before .before .before .before .before .before .again-at in
+    let go = c .before .before .before .before .before .before .before .before .before .before .before .before .go in
+    let retry-entry = c .before .before .before .retry-entry in
+    ran-is _ _ _ _ _ (again-at .ensures _ _ _ _ _) (go .ensures _ _) (retry-entry .ensures _ _ _ _ _)
 
 pub run-point-spec : {M : Type 1} → statement M
 run-point-spec =
