@@ -21,6 +21,7 @@ pub mod LivingSteps
 pub mod LivingRouting
 pub mod LivingTicking
 pub mod LivingTurn
+pub mod Groups
 pub mod MailSteps
 pub mod Retries
 pub mod Invariant
@@ -34,12 +35,13 @@ pub mod Replies
 pub mod OrderShown
 pub mod Refused
 pub mod Calls
-pub mod RetriesRun
-pub mod RetriesWritten
 pub mod Loaded
 pub mod Refusals
 pub mod Opened
 pub mod Opening
+pub mod GroupsKept
+pub mod RetriesRun
+pub mod RetriesWritten
 pub mod Instance
 pub mod WrongPools
 pub mod Rail

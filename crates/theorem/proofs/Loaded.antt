@@ -74,7 +74,7 @@ module _ (s : State) (name body : List ℕ) where
   comer who l = record { name = name; body = body; caller = who; id = l }
 
   -- where no line holds the message is kept, and with it the log's order, if nobody waits
-  effect-rule : (P : State → Type 0) (who : Caller) → judged (admitRefusals s name body who) ≡ check.Fine
+  pub effect-rule : (P : State → Type 0) (who : Caller) → judged (admitRefusals s name body who) ≡ check.Fine
       → ((l : Logged) → P (kept s (comer who l) INBOX))
       → ((l : Logged) (d : log.DidAppend) (o : Order) → P (kept (admits.recorded s d o) (comer who l) INBOX))
       → P (admits.admitEffect s name body who .state)
@@ -132,7 +132,7 @@ ordered-state : (w : World) (c : Call) (s : State) (j : disk.LogWorld) (o : Show
 ordered-state w c s j nothing = refl
 ordered-state w c s j (shows o) = refl
 
-step-state : (w : World) (c : Call) → step w c .state ≡ callOf (w .state) c .state
+pub step-state : (w : World) (c : Call) → step w c .state ≡ callOf (w .state) c .state
 unfolding step
 step-state w c = go (callOf (w .state) c .state) (callOf (w .state) c .answer)
   where

@@ -27,6 +27,7 @@ use Rattle.theorem.specs.Retries.{RetriesWritten}
 use Rattle.theorem.proofs.Invariant.{Steady}
 use Rattle.theorem.proofs.Calls.{run-steady, size-is, tail-kept, order-fits}
 use Rattle.theorem.proofs.Refused.{refused-stays}
+use Rattle.theorem.proofs.GroupsKept.{after-in}
 use Rattle.theorem.proofs.RetriesWritten.{call-retries}
 use Rattle.theorem.proofs.Opened.{accepted-taken, refused-untouched}
 use Rattle.theorem.proofs.Opening.{limitsOf, opens-long, opens-replacing, opens-tail, open-steady, reopens}
@@ -127,7 +128,7 @@ orders-fit = record {
 
 pub retries-written : RetriesWritten
 retries-written l ok before c =
-    call-retries (length (l .bytes)) (limitsOf l) (after l before) c (after-steady l ok before)
+    call-retries (length (l .bytes)) (limitsOf l) (after l before) c (after-steady l ok before) (after-in l ok before)
 
 -- the body store has its length
 stored-long : (l : Lent) → Accepts l → (calls : List Call) → length (after l calls .state .store) ≡ 40960

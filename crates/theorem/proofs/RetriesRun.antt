@@ -4,7 +4,7 @@ use mathlib.Core.Bool.{Bool, true, false, false≢true, _&&_}
 use mathlib.Core.Logic.{_≢_}
 use mathlib.Core.Option.{some}
 use mathlib.Core.List.{List}
-use Prim.Native.Nat.{ℕ, suc, _+_, _<_, _≤_}
+use Prim.Native.Nat.{ℕ, _+_, _<_, _≤_}
 use native.Mathlib.Omega.{arith}
 use native.Mathlib.Decide.{decLt, ℕ-discrete}
 use borrow.Author.Tests.{leb-false, lt-ltb, le-leb}
@@ -49,7 +49,7 @@ use Rattle.turn.specs.State.{State, walOf, withLinks, isFree, runningOf, marksA
 use Rattle.turn.specs.Go.{goOf}
 use Rattle.turn.specs.Retry.{againTrapped, againAt, retriedIn, retryLogged, retryEntry, ranOf}
 use Rattle.turn.specs.Step.{markLogged, markEntry, markFirst, markAt, goFree, turnStep, advanced}
-use Rattle.theorem.specs.Rail.{turn, nothing, ordered, lastIn}
+use Rattle.theorem.specs.Rail.{lastIn}
 use Rattle.theorem.specs.Handing.{idsOf}
 use Rattle.theorem.specs.Retries.{attemptsIn}
 use Rattle.theorem.proofs.Steps.{pick-rule}
@@ -61,6 +61,7 @@ use Rattle.theorem.proofs.Marks.{row-found}
 use Rattle.theorem.proofs.Retries.{found-again, again-last, hand-again}
 use Rattle.theorem.proofs.Running.{Aside, go-aside, mark-stays, step-rule, advanced-rule, point-works}
 use Rattle.theorem.proofs.Running.{marks-run, last-among, step-runs}
+use Rattle.theorem.proofs.GroupsKept.{InGroups, marked-in, step-in, again-few, one-more}
 
 -- ---- which row a point changes
 
@@ -209,14 +210,14 @@ retry-unwritten w ms x n stands there told most idle =
 
 -- the entry's message is logged under id, and had n₀ attempts when the run began, with the journal j
 module _ (long : ℕ) (j : disk.LogWorld) (e : ℕ) (id : LogId) (n₀ : ℕ) where
-  -- it has as many still; or the log had no room for those that it has; or their order waits, and it is the last of
-  -- pending; or no line says them
+  -- it has as many still; or no more than a line says, and the log had no room for these; or their order waits, and it
+  -- is the last of pending
   pub data Tells (s : State) : Type 0 where
     as-before : attemptsIn s e ≡ n₀ → Tells s
-    no-room : length (j .wal .bytes) < length (image (retried (id .0) (attemptsIn s e) (j .now))) → Tells s
-    goes-out : (o : Order) → s .pool .turn .disk ≡ order.Waits o (orderFor.Retry id)
+    no-room : attemptsIn s e ≤ ATTEMPTS
+        → length (j .wal .bytes) < length (image (retried (id .0) (attemptsIn s e) (j .now))) → Tells s
+    goes-out : attemptsIn s e ≤ ATTEMPTS → (o : Order) → s .pool .turn .disk ≡ order.Waits o (orderFor.Retry id)
         → lastIn (view (s .links) PENDING) ≡ found.Entry e → Tells s
-    unsaid : ATTEMPTS < attemptsIn s e → Tells s
 
   -- the entry is the id's own
   abbrev pub Owns : State → Type 0
@@ -226,40 +227,40 @@ module _ (long : ℕ) (j : disk.LogWorld) (e : ℕ) (id : LogId) (n₀ : ℕ) wh
   row-tells : (s s′ : State) → s .pool .turn .disk ≡ order.Free → messageAt (s′ .rows) e ≡ messageAt (s .rows) e
       → Tells s → Tells s′
   row-tells s s′ free row (as-before is) = as-before (ap (λ m. m .attempts) row ∙ is)
-  row-tells s s′ free row (no-room more) =
-      no-room (subst (λ n. length (j .wal .bytes) < length (image (retried (id .0) n (j .now))))
+  row-tells s s′ free row (no-room few more) =
+      no-room (omega (arith, ap (λ m. m .attempts) row, few))
+      (subst (λ n. length (j .wal .bytes) < length (image (retried (id .0) n (j .now))))
       (sym (ap (λ m. m .attempts) row)) more)
-  row-tells s s′ free row (goes-out o waits last) = absurd (false≢true (sym (ap isFree waits) ∙ ap isFree free))
-  row-tells s s′ free row (unsaid over) = unsaid (omega (arith, ap (λ m. m .attempts) row))
+  row-tells s s′ free row (goes-out few o waits last) = absurd (false≢true (sym (ap isFree waits) ∙ ap isFree free))
 
   -- what was tried again is written, or there was no room
   module _ (s : State) (free : s .pool .turn .disk ≡ order.Free) (works : Working long j s) (owns : Owns s)
-      (last : lastIn (view (s .links) PENDING) ≡ found.Entry e) (some : 0 < attemptsIn s e) where
+      (last : lastIn (view (s .links) PENDING) ≡ found.Entry e) (some : 0 < attemptsIn s e)
+      (few : attemptsIn s e ≤ ATTEMPTS) where
     standing : Stands (walOf s) (j .now)
     standing = subst (λ v. Stands v (j .now)) (works .wal) (log.sound-stands long j (works .journal) .stands)
 
     abbrev wroteBy : Due → State
     wroteBy d = retriedIn s id (record { wal = retryOf (walOf s) (id .0) (attemptsIn s e) .wal; due = d })
 
-    wrote-tells : (d : Due) → retryOf (walOf s) (id .0) (attemptsIn s e) .due ≡ d → Dec (attemptsIn s e < suc ATTEMPTS)
-        → Tells (wroteBy d)
-    wrote-tells (due.Ordered o) is few = goes-out o refl last
-    wrote-tells due.Nothing is (yes few) =
-        no-room (subst (λ (v : Wal). length (v .bytes) < length (image (retried (id .0) (attemptsIn s e) (j .now))))
+    wrote-tells : (d : Due) → retryOf (walOf s) (id .0) (attemptsIn s e) .due ≡ d → Tells (wroteBy d)
+    wrote-tells (due.Ordered o) is = goes-out few o refl last
+    wrote-tells due.Nothing is =
+        no-room few
+        (subst (λ (v : Wal). length (v .bytes) < length (image (retried (id .0) (attemptsIn s e) (j .now))))
         (sym (works .wal))
         (retry-unwritten (walOf s) (j .now) (id .0) (attemptsIn s e) standing
-        (last-among long j s free works e last id owns) some (omega arith) is))
-    wrote-tells due.Nothing is (no over) = unsaid (omega arith)
+        (last-among long j s free works e last id owns) some few is))
 
     entry-tells : Tells (retryEntry s (found.Entry e))
     unfolding retryEntry retryLogged
     entry-tells =
         subst (λ l. Tells (retryLogged s l (attemptsIn s e))) (sym owns)
-        (wrote-tells (retryOf (walOf s) (id .0) (attemptsIn s e) .due) refl (decLt (attemptsIn s e) (suc ATTEMPTS)))
+        (wrote-tells (retryOf (walOf s) (id .0) (attemptsIn s e) .due) refl)
 
   -- a point, and what it tried again
   module _ (s : State) (p : Point) (at-is : s .pool .turn .at ≡ at.Runs p) (free : s .pool .turn .disk ≡ order.Free)
-      (works : Working long j s) (owns : Owns s) (before : Tells s) where
+      (works : Working long j s) (within : InGroups s) (owns : Owns s) (before : Tells s) where
     went : Working long j (goOf s p)
     went = point-works long j s p at-is works
 
@@ -286,6 +287,11 @@ module _ (long : ℕ) (j : disk.LogWorld) (e : ℕ) (id : LogId) (n₀ : ℕ) wh
             entry-tells (goOf s p) stays went (ap (λ m. m .id) row ∙ owns)
             (again-last s p e (works .sound .good) is)
             (omega (arith, ap (λ m. m .attempts) row, capped-some (messageAt (s .rows) e .attempts)))
+            (omega (
+              arith,
+              ap (λ m. m .attempts) row,
+              one-more (messageAt (s .rows) e .attempts) (again-few s within e p at-is is),
+            ))
         at (no outside) =
             other-tells (found.Entry e)
             (ap (λ r. messageAt r e) (rows ∙ row-past (s .rows) e (triedOf (messageAt (s .rows) e)) (omega arith)))
@@ -314,6 +320,7 @@ module _ (long : ℕ) (j : disk.LogWorld) (e : ℕ) (id : LogId) (n₀ : ℕ) wh
   -- what holds while the turn runs, and where it stops
   pub record Follows (s : State) : Type 0 where
     pub runs : Runs long j s
+    pub within : InGroups s
     pub owns : Owns s
     pub tells : Tells s
 
@@ -361,17 +368,20 @@ module _ (long : ℕ) (j : disk.LogWorld) (e : ℕ) (id : LogId) (n₀ : ℕ) wh
     goes-tells =
         pick-rule Tells (isFree (marked .pool .turn .disk))
         (λ is. let none = free-is (marked .pool .turn .disk) is in
-        ran-tells marked p (mark-stays s p .0 ∙ at-is) none (marked-works none) marked-owns marked-tells)
+        ran-tells marked p (mark-stays s p .0 ∙ at-is) none (marked-works none) (marked-in s p (h .within))
+        marked-owns marked-tells)
         (λ is. marked-tells)
 
   step-follows : (s : State) → runningOf (s .pool) ≡ true → Follows s → Follows (turnStep s)
   step-follows s run h = record {
     runs = step-runs long j s run (h .runs);
+    within = step-in s run (h .within);
     owns = step-rule Owns s run (λ p at-is free. goes-owns s p at-is free h);
     tells = step-rule Tells s run (λ p at-is free. goes-tells s p at-is free h);
   }
 
-  pub run-follows : (s : State) → s .pool .turn .disk ≡ order.Free → Working long j s → Owns s
+  pub run-follows : (s : State) → s .pool .turn .disk ≡ order.Free → Working long j s → InGroups s → Owns s
       → attemptsIn s e ≡ n₀ → Follows (advanced s)
-  run-follows s free works owns is =
-      advanced-rule Follows step-follows s (record { runs = still free works; owns = owns; tells = as-before is })
+  run-follows s free works within owns is =
+      advanced-rule Follows step-follows s
+      (record { runs = still free works; within = within; owns = owns; tells = as-before is })

@@ -1,14 +1,14 @@
 -- A message whose attempts a call changed: the log has them then, or had no room for them. Assumes nothing.
 use mathlib.Core.Path.{_≡_, refl, sym, ap, _∙_, subst}
 use mathlib.Core.Bool.{Bool, true, false, false≢true, _&&_}
-use mathlib.Core.Logic.{_⊎_, inl, inr, _≢_}
+use mathlib.Core.Logic.{inl, inr, _≢_}
 use mathlib.Core.List.{List, [], _∷_, List·Memᴰ·head, List·Memᴰ·tail}
-use Prim.Native.Nat.{ℕ, _<_, _≤_}
+use Prim.Native.Nat.{ℕ, _<_}
 use native.Mathlib.Omega.{arith}
 use borrow.Author.Tests.{eqb-true}
 use lib.Dec.{eqb}
 use lib.ListN.{length}
-use Rattle.text.specs.Format.{ATTEMPTS, Message}
+use Rattle.text.specs.Format.{Message}
 use Rattle.lists.specs.declared.Found.the-variants as found
 use Rattle.lists.specs.Links.{FREE, INBOX, PENDING, HAND}
 use Rattle.lists.specs.Family.{count, view}
@@ -49,11 +49,11 @@ use Rattle.pool.specs.Admit as one
 use Rattle.pool.specs.Calls as pool
 use Rattle.pool.specs.Calls.{begunTurn, freed, resumeIn, resumeAt, storedIn}
 use Rattle.theorem.specs.Rail.{World, Call, admit, turn, reply, sync, close, callOf, stepDid, worldAfter}
-use Rattle.theorem.specs.Rail.{nothing, accepted, orderShown, ordered, orderedFor, answered}
+use Rattle.theorem.specs.Rail.{accepted, orderShown, ordered, orderedFor, answered}
 use Rattle.theorem.specs.Rail.{outOfPlaces, lastIn, LastTried}
 use Rattle.theorem.specs.Handing.{idsOf}
 use Rattle.theorem.specs.Places.{NotMailbox}
-use Rattle.theorem.specs.Retries.{attemptsIn, Says, NoRoom, CallRetries}
+use Rattle.theorem.specs.Retries.{attemptsIn, Says, Noted, CallRetries}
 use Rattle.theorem.proofs.PlaceMoves.{not-mailbox-inbox, not-mailbox-pending}
 use Rattle.theorem.proofs.Steps.{pick-rule}
 use Rattle.theorem.proofs.Invariant.{Working, Runs, still, marks, tries, retriedAs, Steady}
@@ -66,7 +66,8 @@ use Rattle.theorem.proofs.Admit.{kept-arrives}
 use Rattle.theorem.proofs.Replies.{begun-works, replying, freed-works, from, still-from, resumed-works}
 use Rattle.theorem.proofs.Left.{retried-none}
 use Rattle.theorem.proofs.Running.{Aside}
-use Rattle.theorem.proofs.RetriesRun.{Tells, as-before, no-room, goes-out, unsaid, run-follows}
+use Rattle.theorem.proofs.GroupsKept.{InGroups, begun-in, resumed-in}
+use Rattle.theorem.proofs.RetriesRun.{Tells, as-before, no-room, goes-out, run-follows}
 
 -- ---- the log has them
 
@@ -104,73 +105,73 @@ module _ (w : World) (c : Call) where
   abbrev Writes : Did → Type 0
   Writes d = (e : ℕ) (id : LogId) → count e (view (w .state .links) FREE) ≡ 0
       → messageAt (w .state .rows) e .id ≡ logged.As id → attemptsIn (d .state) e ≢ attemptsIn (w .state) e
-      → attemptsIn (d .state) e ≤ ATTEMPTS
-      → Says (nowBy (d .state)) (id .0) (attemptsIn (d .state) e) ⊎ NoRoom w (id .0) (attemptsIn (d .state) e)
+      → Noted w (nowBy (d .state)) (id .0) (attemptsIn (d .state) e)
 
   -- the rows of those that were not free are as they were
   still-writes : (s : State) (a : Answer)
       → ((e : ℕ) → count e (view (w .state .links) FREE) ≡ 0 → messageAt (s .rows) e ≡ messageAt (w .state .rows) e)
       → Writes (record { state = s; answer = a })
-  still-writes s a kept e id busy owns changed few = absurd (changed (ap (λ m. m .attempts) (kept e busy)))
+  still-writes s a kept e id busy owns changed = absurd (changed (ap (λ m. m .attempts) (kept e busy)))
 
   -- a run: its order is the retry, or there was no room
   module _ (long : ℕ) (own : Marking w c) (s : State) (j : disk.LogWorld) (now : j .now ≡ w .journal .now)
       (rows : s .rows ≡ w .state .rows) (bytes : s .bytes ≡ w .state .bytes) (from : answered (w .journal) c ≡ j)
-      (free : s .pool .turn .disk ≡ order.Free) (works : Working long j s) where
+      (free : s .pool .turn .disk ≡ order.Free) (works : Working long j s) (within : InGroups s) where
     module _ (e : ℕ) (id : LogId) (owns : messageAt (w .state .rows) e .id ≡ logged.As id)
-        (changed : attemptsIn (advanced s) e ≢ attemptsIn (w .state) e) (few : attemptsIn (advanced s) e ≤ ATTEMPTS)
-      where
-        abbrev end : State
-        end = advanced s
+        (changed : attemptsIn (advanced s) e ≢ attemptsIn (w .state) e) where
+      abbrev end : State
+      end = advanced s
 
-        abbrev Written : Type 0
-        Written = Says (nowBy end) (id .0) (attemptsIn end e) ⊎ NoRoom w (id .0) (attemptsIn end e)
+      abbrev Written : Type 0
+      Written = Noted w (nowBy end) (id .0) (attemptsIn end e)
 
-        -- the retry of the last of pending, which the entry is
-        retry-says : (o : Order) (for : OrderFor) (l : LastTried end (j .now))
-            → end .pool .turn .disk ≡ order.Waits o for
-            → Working long (retriedAs j end o (l .id) (messageAt (end .rows) (l .entry) .attempts)) end
-            → lastIn (view (end .links) PENDING) ≡ found.Entry e → messageAt (end .rows) e .id ≡ logged.As id
-            → Says (nowBy end) (id .0) (attemptsIn end e)
-        unfolding disk.issue
-        retry-says o for l waits then last ends =
-            let same : l .entry ≡ e = cc (l .last, last) in
-            let mine : l .id ≡ id = cc (l .own, ends, same) in
-            let n = messageAt (end .rows) (l .entry) .attempts in
-            let none : outOfPlaces end (j .now) ≡ [] = retried-none end (l .id .0) n (j .now) (then .ids) in
-            let made : nowBy end ≡ retried (l .id .0) n (j .now) =
-            ap (λ k. orderedIn c w end k (end .pool .turn .disk) .journal .now) from
-            ∙ (ap (λ d. orderedIn c w end j d .journal .now) waits
-            ∙ (ap (λ k. orderedFor w end j o k .journal .now) (own .0) ∙ retried-effect end (j .now) l none)) in
-            subst (λ ms. Says ms (id .0) (attemptsIn end e)) (sym made)
-            (subst (λ k. Says (retried (l .id .0) n (j .now)) (k .0) (attemptsIn end e)) mine
-            (subst (λ k. Says (retried (l .id .0) n (j .now)) (l .id .0) (attemptsIn end k)) same
-            (retried-says (l .id .0) n (j .now) (l .among))))
+      -- the retry of the last of pending, which the entry is
+      retry-says : (o : Order) (for : OrderFor) (l : LastTried end (j .now))
+          → end .pool .turn .disk ≡ order.Waits o for
+          → Working long (retriedAs j end o (l .id) (messageAt (end .rows) (l .entry) .attempts)) end
+          → lastIn (view (end .links) PENDING) ≡ found.Entry e → messageAt (end .rows) e .id ≡ logged.As id
+          → Says (nowBy end) (id .0) (attemptsIn end e)
+      unfolding disk.issue
+      retry-says o for l waits then last ends =
+          let same : l .entry ≡ e = cc (l .last, last) in
+          let mine : l .id ≡ id = cc (l .own, ends, same) in
+          let n = messageAt (end .rows) (l .entry) .attempts in
+          let none : outOfPlaces end (j .now) ≡ [] = retried-none end (l .id .0) n (j .now) (then .ids) in
+          let made : nowBy end ≡ retried (l .id .0) n (j .now) =
+          ap (λ k. orderedIn c w end k (end .pool .turn .disk) .journal .now) from
+          ∙ (ap (λ d. orderedIn c w end j d .journal .now) waits
+          ∙ (ap (λ k. orderedFor w end j o k .journal .now) (own .0) ∙ retried-effect end (j .now) l none)) in
+          subst (λ ms. Says ms (id .0) (attemptsIn end e)) (sym made)
+          (subst (λ k. Says (retried (l .id .0) n (j .now)) (k .0) (attemptsIn end e)) mine
+          (subst (λ k. Says (retried (l .id .0) n (j .now)) (l .id .0) (attemptsIn end k)) same
+          (retried-says (l .id .0) n (j .now) (l .among))))
 
-        by : Runs long j end → messageAt (end .rows) e .id ≡ logged.As id
-            → Tells long j e id (attemptsIn (w .state) e) end → Written
-        by runs ends (as-before is) = absurd (changed is)
-        by runs ends (no-room more) =
-            inr (subst (λ ms. length (w .state .bytes) < length (image (retried (id .0) (attemptsIn end e) ms))) now
+      by : Runs long j end → messageAt (end .rows) e .id ≡ logged.As id
+          → Tells long j e id (attemptsIn (w .state) e) end → Written
+      by runs ends (as-before is) = absurd (changed is)
+      by runs ends (no-room few more) = (
+        few,
+        inr (subst (λ ms. length (w .state .bytes) < length (image (retried (id .0) (attemptsIn end e) ms))) now
             (subst (λ b. length b < length (image (retried (id .0) (attemptsIn end e) (j .now))))
-            (ap (λ v. v .bytes) (works .wal) ∙ bytes) more))
-        by (still was works) ends (goes-out o waits last) = absurd (false≢true (sym (ap isFree waits) ∙ ap isFree was))
-        by (marks p x is there next tail works) ends (goes-out o waits last) =
-            let z : _≡_ {A = ℕ} 0 1 = cc (waits, is) in absurd (omega arith)
-        by (tries p for l is next tail works) ends (goes-out o waits last) =
-            inl (retry-says p for l is works last ends)
-        by runs ends (unsaid over) = absurd (omega arith)
+            (ap (λ v. v .bytes) (works .wal) ∙ bytes) more)),
+      )
+      by (still was works) ends (goes-out few o waits last) =
+          absurd (false≢true (sym (ap isFree waits) ∙ ap isFree was))
+      by (marks p x is there next tail works) ends (goes-out few o waits last) =
+          let z : _≡_ {A = ℕ} 0 1 = cc (waits, is) in absurd (omega arith)
+      by (tries p for l is next tail works) ends (goes-out few o waits last) =
+          (few, inl (retry-says p for l is works last ends))
 
-        run-written : Written
-        run-written =
-            let h = run-follows long j e id (attemptsIn (w .state) e) s free works
-            (ap (λ r. messageAt r e .id) rows ∙ owns) (ap (λ r. messageAt r e .attempts) rows) in
-            by (h .runs) (h .owns) (h .tells)
+      run-written : Written
+      run-written =
+          let h = run-follows long j e id (attemptsIn (w .state) e) s free works within
+          (ap (λ r. messageAt r e .id) rows ∙ owns) (ap (λ r. messageAt r e .attempts) rows) in
+          by (h .runs) (h .owns) (h .tells)
 
     run-writes : Writes (runOf s)
     unfolding runOf
     run-writes =
-        answered-rule Writes (advanced s) (λ a ok e id busy owns changed few. run-written e id owns changed few)
+        answered-rule Writes (advanced s) (λ a ok e id busy owns changed. run-written e id owns changed)
 
 -- ---- each call
 
@@ -196,7 +197,7 @@ resumed-rows s r = go (s .pool .turn .at)
     go (at.Asks a) = resume-rows s a r
     go (at.Runs p) = refl
 
-module _ (long : ℕ) (limits : Limits) (w : World) (steady : Steady long limits w) where
+module _ (long : ℕ) (limits : Limits) (w : World) (steady : Steady long limits w) (within : InGroups (w .state)) where
   abbrev s : State
   s = w .state
 
@@ -222,7 +223,7 @@ module _ (long : ℕ) (limits : Limits) (w : World) (steady : Steady long limits
       table-rule (Writes w turn) s (judged (turnRefusals (s .pool))) _ (away-writes turn)
       (λ fine. let (free, rests) = turn-fine (s .pool) fine in
       run-writes w turn long (refl, λ s o h. h) (withPool s (begunTurn (s .pool))) (w .journal) refl refl refl refl free
-      (begun-works long limits w steady rests))
+      (begun-works long limits w steady rests) (begun-in s within))
 
   sync-writes : Writes w sync (callOf s sync)
   unfolding callOf pool.syncOf
@@ -277,7 +278,7 @@ module _ (long : ℕ) (limits : Limits) (w : World) (steady : Steady long limits
           (λ e. run-writes w c long (replying long limits w steady r name body) (freed s)
           (disk.storedOrder (w .journal) (disk.sent (s .bytes) (waits .out))) refl refl refl
           (from long limits w steady r name body waits stored.Stored is) refl
-          (freed-works long limits w steady r name body waits))
+          (freed-works long limits w steady r name body waits) within)
           (λ e. rest-writes c (freed s) refl)
 
       replied-writes : (isMessage r && noEntryFree (s .links)) ≡ false → (x : StoredIn) → storedIn r ≡ x
@@ -295,7 +296,7 @@ module _ (long : ℕ) (limits : Limits) (w : World) (steady : Steady long limits
           run-writes w c long (replying long limits w steady r name body) (resumeAt s r) (w .journal) refl
           (resumed-rows s r) (ap (λ (a : Aside). a .wal .bytes) aside)
           (still-from long limits w steady r name body free) (ap (λ (a : Aside). a .disk) aside ∙ free)
-          (resumed-works long limits w steady r name body free))
+          (resumed-works long limits w steady r name body free) (resumed-in s within r))
 
       reply-writes : Writes w c (callOf s c)
       unfolding callOf pool.replyOf pool.replyEffect
@@ -330,19 +331,20 @@ now-after w c d ok shown = at (d .answer) refl
         ∙ ap (λ o. ordered c w (d .state) (answered (w .journal) c) o .journal .now)
         (sym (ap orderShown is) ∙ shown)
 
-pub call-retries : (long : ℕ) (limits : Limits) (w : World) (c : Call) → Steady long limits w → CallRetries w c
-call-retries long limits w c steady e id busy owns changed few =
+pub call-retries : (long : ℕ) (limits : Limits) (w : World) (c : Call) → Steady long limits w → InGroups (w .state)
+    → CallRetries w c
+call-retries long limits w c steady within e id busy owns changed =
     at (accepted (callOf (w .state) c .answer)) refl
   where
     tried : ℕ
     tried = attemptsIn (callOf (w .state) c .state) e
 
     Written : Type 0
-    Written = Says (stepDid w c (callOf (w .state) c) .journal .now) (id .0) tried ⊎ NoRoom w (id .0) tried
+    Written = Noted w (stepDid w c (callOf (w .state) c) .journal .now) (id .0) tried
 
     at : (b : Bool) → accepted (callOf (w .state) c .answer) ≡ b → Written
     at true ok =
-        subst (λ ms. Says ms (id .0) tried ⊎ NoRoom w (id .0) tried)
+        subst (λ ms. Noted w ms (id .0) tried)
         (sym (now-after w c (callOf (w .state) c) ok (order-shown (w .state) c ok)))
-        (call-writes long limits w steady c e id busy owns changed few)
+        (call-writes long limits w steady within c e id busy owns changed)
     at false off = absurd (changed (ap (λ x. attemptsIn x e) (refused-stays (w .state) c off)))

@@ -64,13 +64,14 @@ use Rattle.theorem.proofs.Marks.{GoesOut, mark-goes, mark-sound, mark-t
 
 -- ---- the parts of a step
 
--- what no step changes: the limits and the body store
+-- what no step changes: the limits, the groups and the body store
 pub record Lasting : Type 0 where
   pub limits : Limits
+  pub groups : Table
   pub store : List ℕ
 
 abbrev pub lastingOf : State → Lasting
-lastingOf s = record { limits = s .pool .limits; store = s .store }
+lastingOf s = record { limits = s .pool .limits; groups = s .groups; store = s .store }
 
 -- what no point changes
 pub record Aside : Type 0 where
@@ -185,8 +186,8 @@ moved-works long j s s′ works aside went holds = record {
   journal = works .journal;
 }
 
-pub point-works : (long : ℕ) (j : disk.LogWorld) (s : State) (p : Point) → s .pool .turn .at ≡ at.Runs p → Working long j s
-    → Working long j (goOf s p)
+pub point-works : (long : ℕ) (j : disk.LogWorld) (s : State) (p : Point) → s .pool .turn .at ≡ at.Runs p
+    → Working long j s → Working long j (goOf s p)
 point-works long j s p at-is works =
     moved-works long j s (goOf s p) works (go-aside s p) (go-keeps s p (works .sound))
     (go-lives s p (works .sound .good) (works .lives)

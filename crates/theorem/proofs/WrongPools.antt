@@ -2,7 +2,7 @@
 -- an outcome (`Did`), and the world goes by outcomes; so these are laws of any outcome of any pool. Assumes nothing.
 use mathlib.Core.Path.{_≡_, refl, sym, ap, _∙_, subst}
 use mathlib.Core.Bool.{false, false≢true}
-use mathlib.Core.Logic.{_⊎_, inl, inr, _≢_}
+use mathlib.Core.Logic.{inl, inr, _≢_}
 use mathlib.Core.List.{List, [], _∷_, _++_, List·Memᴰ, List·Memᴰ·head, List·Memᴰ·tail}
 use Prim.Native.Nat.{ℕ, _+_, _≤_, _<_}
 use native.Mathlib.Omega.{arith}
@@ -45,7 +45,7 @@ use Rattle.answers.specs.Refusals.{Lent, fileIn}
 use Rattle.theorem.specs.Rail.{Call, admit, turn, reply, sync, close, World, nothing, stepDid, unordered, ordered}
 use Rattle.theorem.specs.Rail.{answered, answeredBy, begin, turnEffect, lastIn, LastTried, orderShown, mailboxAt}
 use Rattle.theorem.specs.Rail.{handAt, Placed, NextOpening, Holds}
-use Rattle.theorem.specs.Retries.{attemptsIn, Says, NoRoom, DidRetries}
+use Rattle.theorem.specs.Retries.{attemptsIn, Says, Noted, DidRetries}
 use Rattle.theorem.proofs.Refusals.{Taken}
 use Rattle.theorem.proofs.Opened.{tables-true, opensAs, opens-as}
 use Rattle.theorem.proofs.Opening.{lent, hands-back}
@@ -100,26 +100,29 @@ answered-now j (reply r name body) = by (j .disk .status) (storedIn r)
 answered-now j sync = refl
 answered-now j close = refl
 
--- the log has other attempts of it, and room for these; so no pool tries a message again without writing that
 module _ (w : World) (c : Call) (s : State) (e : ℕ) (id : LogId) (busy : count e (view (w .state .links) FREE) ≡ 0)
-    (owns : messageAt (w .state .rows) e .id ≡ logged.As id) (changed : attemptsIn s e ≢ attemptsIn (w .state) e)
-    (few : attemptsIn s e ≤ ATTEMPTS) (silent : Says (w .journal .now) (id .0) (attemptsIn s e) → ⊥)
-    (room : length (image (retried (id .0) (attemptsIn s e) (w .journal .now))) ≤ length (w .state .bytes)) where
-  pub unwritten-refused : (a : Answer) → orderShown a ≡ nothing
-      → DidRetries w c (record { state = s; answer = a }) → ⊥
-  unwritten-refused a hidden h = by (h e id busy owns changed few)
-    where
-      stays : (x : Answer) → orderShown x ≡ nothing
-          → stepDid w c (record { state = s; answer = x }) .journal .now ≡ w .journal .now
-      stays (answer.Refused r) is = refl
-      stays (answer.Open q) is =
-          ap (λ o. ordered c w s (answered (w .journal) c) o .journal .now) is ∙ answered-now (w .journal) c
-      stays (answer.Ended more waiters) is = answered-now (w .journal) c
+    (owns : messageAt (w .state .rows) e .id ≡ logged.As id) (changed : attemptsIn s e ≢ attemptsIn (w .state) e) where
+  -- no pool counts further than a retry line can say
+  pub over-refused : (a : Answer) → ATTEMPTS < attemptsIn s e → DidRetries w c (record { state = s; answer = a }) → ⊥
+  over-refused a over h = omega (arith, h e id busy owns changed .0)
 
-      by : Says (stepDid w c (record { state = s; answer = a }) .journal .now) (id .0) (attemptsIn s e)
-          ⊎ NoRoom w (id .0) (attemptsIn s e) → ⊥
-      by (inl says) = silent (subst (λ ms. Says ms (id .0) (attemptsIn s e)) (stays a hidden) says)
-      by (inr more) = omega arith
+  -- the log has other attempts of it, and room for these; so no pool tries a message again without writing that
+  module _ (silent : Says (w .journal .now) (id .0) (attemptsIn s e) → ⊥)
+      (room : length (image (retried (id .0) (attemptsIn s e) (w .journal .now))) ≤ length (w .state .bytes)) where
+    pub unwritten-refused : (a : Answer) → orderShown a ≡ nothing
+        → DidRetries w c (record { state = s; answer = a }) → ⊥
+    unwritten-refused a hidden h = by (h e id busy owns changed)
+      where
+        stays : (x : Answer) → orderShown x ≡ nothing
+            → stepDid w c (record { state = s; answer = x }) .journal .now ≡ w .journal .now
+        stays (answer.Refused r) is = refl
+        stays (answer.Open q) is =
+            ap (λ o. ordered c w s (answered (w .journal) c) o .journal .now) is ∙ answered-now (w .journal) c
+        stays (answer.Ended more waiters) is = answered-now (w .journal) c
+
+        by : Noted w (stepDid w c (record { state = s; answer = a }) .journal .now) (id .0) (attemptsIn s e) → ⊥
+        by (few, inl says) = silent (subst (λ ms. Says ms (id .0) (attemptsIn s e)) (stays a hidden) says)
+        by (few, inr more) = omega arith
 
 -- ---- `safe`: a file that a cut may leave, and that reads as no moment
 

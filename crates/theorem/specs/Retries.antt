@@ -32,15 +32,16 @@ pub record Says (now : List Message) (id tried : ℕ) : Type 0 where
 abbrev pub NoRoom : World → ℕ → ℕ → Type 0
 NoRoom w id tried = length (w .state .bytes) < length (image (retried id tried (w .journal .now)))
 
+-- a number that a retry line can say; and the log, with these messages after the call, has it, or had no room for it
+abbrev pub Noted : World → List Message → ℕ → ℕ → Type 0
+Noted w now id tried = (tried ≤ ATTEMPTS) × (Says now id tried ⊎ NoRoom w id tried)
+
 -- What a call made of the world, whatever pool it was, refused or not. If it changed the attempts of a message that was
--- logged, in an entry that was not free, to a number that a retry line can say, the log has that number after the call,
--- or had no room for it.
+-- logged, in an entry that was not free, it wrote them, or there was no room.
 abbrev pub DidRetries : World → Call → Did → Type 0
 DidRetries w c d = (e : ℕ) (id : LogId) → count e (view (w .state .links) FREE) ≡ 0
     → messageAt (w .state .rows) e .id ≡ logged.As id → attemptsIn (d .state) e ≢ attemptsIn (w .state) e
-    → attemptsIn (d .state) e ≤ ATTEMPTS
-    → Says (stepDid w c d .journal .now) (id .0) (attemptsIn (d .state) e)
-    ⊎ NoRoom w (id .0) (attemptsIn (d .state) e)
+    → Noted w (stepDid w c d .journal .now) (id .0) (attemptsIn (d .state) e)
 
 -- so it is with this pool's calls
 abbrev pub CallRetries : World → Call → Type 0
