@@ -4,20 +4,17 @@
 use crate::lent::Lent;
 use crate::limits::{BODY_MAX, MESSAGES, NAME_MAX, STORE, refusal};
 use crate::model::log::CallerId;
-use crate::model::pool::{Call, GroupSetting, Reply, Settings, Status};
+use crate::model::pool::{Call, GroupSetting, Reply, Settings};
 use crate::output::Answer;
 use crate::property::judge;
 use crate::property::list::{List, Opening};
+use crate::property::replies::{CLOCK, END, NO, STORED, YES, YIELDS};
 use crate::script::SHOW_STORE;
 use crate::tables::list;
 use crate::tally::{Tally, same};
 
 /// A list, and what is stated of its end.
-pub struct Stated {
-    pub what: &'static str,
-    pub list: List,
-    pub end: End,
-}
+pub type Stated = crate::property::list::Stated<End>;
 
 /// The answers to the last calls of a list, and what stands after them.
 #[derive(PartialEq, Eq, Debug)]
@@ -60,12 +57,6 @@ pub fn lists() -> Vec<Stated> {
     [refused(), order_of_refusals(), which_group(), marked()].into_iter().flatten().collect()
 }
 
-const STORED: Call = Call::Reply(Reply::Stored);
-const YES: Call = Call::Reply(Reply::Yes);
-const NO: Call = Call::Reply(Reply::No);
-const END: Call = Call::Reply(Reply::End);
-const CLOCK: Call = Call::Reply(Reply::Clock(0));
-const YIELDS: Call = Call::Reply(Reply::Ran(Status::Preempted));
 const UNLOADED: Answer = no(refusal::UNLOADED);
 const BOOT: Answer = Answer::Boot { group: 0 };
 /// A first message for `row` with the body `x`: the orders of its record and of its mark, and the log after each.

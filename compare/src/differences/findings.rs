@@ -2,10 +2,11 @@
 use super::{Run, port};
 use crate::lent::Lent;
 use crate::limits::STORE;
-use crate::model::pool::{Call, GroupSetting, Reply, Settings, Status};
+use crate::model::pool::{Call, GroupSetting, Reply, Settings};
 use crate::output::{Answer, Entry};
 use crate::property::judge;
 use crate::property::list::{List, Opening};
+use crate::property::replies::{CALLS_HOST, CLOCK, END, NO, NO_EVENTS, RAISES, RECEIVES, STORED, YES, YIELDS};
 use crate::recorded::beside;
 use crate::script::SHOW_STORE;
 use crate::tables::list;
@@ -61,17 +62,7 @@ fn opening(replicas: usize, file: &[u8]) -> Opening {
     Opening { settings, log_len: 64, store_len: STORE, file: file.to_vec() }
 }
 
-const STORED: Call = Call::Reply(Reply::Stored);
-const YES: Call = Call::Reply(Reply::Yes);
-const NO: Call = Call::Reply(Reply::No);
-const END: Call = Call::Reply(Reply::End);
-const CLOCK: Call = Call::Reply(Reply::Clock(0));
-const NONE: Call = Call::Reply(Reply::Count(0));
 const ONE: Call = Call::Reply(Reply::Count(1));
-const YIELDS: Call = Call::Reply(Reply::Ran(Status::Preempted));
-const RECEIVES: Call = Call::Reply(Reply::Ran(Status::Event));
-const CALLS_HOST: Call = Call::Reply(Reply::Ran(Status::HostCall));
-const RAISES: Call = Call::Reply(Reply::Ran(Status::Error));
 
 /// An idle actor that still waits is woken, takes the message that it had refused, and blocks: idle and blocked. The
 /// first Poll of 0 drops it from the waiting list, with the message in its hands. Five turns, one message.
@@ -82,18 +73,18 @@ fn lost_wake_up() -> List {
     calls.extend([Call::Turn, YES, CLOCK, CALLS_HOST, ONE, END]);
     // A message comes; no answer yet; it is stepped for the message, receives, and refuses it: idle, and still
     // waiting.
-    calls.extend([admit, STORED, Call::Turn, CLOCK, NONE, RECEIVES, NONE, NO, END]);
+    calls.extend([admit, STORED, Call::Turn, CLOCK, NO_EVENTS, RECEIVES, NO_EVENTS, NO, END]);
     // The answer is there: woken, it takes the message and blocks again. Nothing cleared `idle`.
-    calls.extend([Call::Turn, CLOCK, ONE, RECEIVES, NONE, YES, CALLS_HOST, ONE, END]);
+    calls.extend([Call::Turn, CLOCK, ONE, RECEIVES, NO_EVENTS, YES, CALLS_HOST, ONE, END]);
     // No answer: dropped. In the last turn nobody is asked.
-    calls.extend([Call::Turn, CLOCK, NONE, Call::Turn, CLOCK]);
+    calls.extend([Call::Turn, CLOCK, NO_EVENTS, Call::Turn, CLOCK]);
     List { opening: opening(1, b""), calls }
 }
 
 /// The message stays first in the mailbox, and the second turn asks nobody.
 fn refused_push() -> List {
     let mut calls = vec![STORED];
-    calls.extend([Call::Turn, YES, CLOCK, RECEIVES, NONE, NO, END]);
+    calls.extend([Call::Turn, YES, CLOCK, RECEIVES, NO_EVENTS, NO, END]);
     calls.extend([Call::Turn, CLOCK]);
     List { opening: opening(1, b"0\trow\t\n"), calls }
 }

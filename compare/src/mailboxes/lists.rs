@@ -3,9 +3,10 @@
 use super::{Change, End, Stated};
 use crate::limits::{MESSAGES, STORE};
 use crate::model::log::CallerId;
-use crate::model::pool::{Call, GroupSetting, Reply, Settings, Status};
+use crate::model::pool::{Call, GroupSetting, Reply, Settings};
 use crate::output::Answer;
 use crate::property::list::{List, Opening};
+use crate::property::replies::{CLOCK, END, ENDS, NO, NO_EVENTS, RAISES, RECEIVES, STORED, YES, YIELDS};
 use crate::tables::list::{BATCH, FREE, HAND, INBOX, OVER, PENDING, hand, mailbox};
 
 pub fn lists() -> Vec<Stated> {
@@ -17,25 +18,10 @@ pub fn lists() -> Vec<Stated> {
 const OTHER: usize = 0;
 const ROW: usize = 1;
 
-const STORED: Call = Call::Reply(Reply::Stored);
-const YES: Call = Call::Reply(Reply::Yes);
-const NO: Call = Call::Reply(Reply::No);
-const END: Call = Call::Reply(Reply::End);
-const CLOCK: Call = Call::Reply(Reply::Clock(0));
-const NO_EVENTS: Call = Call::Reply(Reply::Count(0));
-const YIELDS: Call = ran(Status::Preempted);
-const RECEIVES: Call = ran(Status::Event);
-const ENDS: Call = ran(Status::Done);
-const RAISES: Call = ran(Status::Error);
-
 const BOOT: Answer = Answer::Boot { group: ROW as u64 };
 const PUSH: Answer = Answer::Push { group: ROW as u64, key: 0 };
 const SENDS: Answer = Answer::Sends { group: ROW as u64, key: 0 };
 const BUSY: Answer = Answer::TurnEnd { busy: true, waiters: false };
-
-const fn ran(status: Status) -> Call {
-    Call::Reply(Reply::Ran(status))
-}
 
 /// A message for `row`, logged.
 fn admit() -> Call {

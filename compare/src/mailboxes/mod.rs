@@ -15,11 +15,7 @@ use crate::tables::list;
 use crate::tally::{Tally, same};
 
 /// A list of calls, and what is stated of its last call.
-pub struct Stated {
-    pub what: &'static str,
-    pub list: List,
-    pub end: End,
-}
+pub type Stated = crate::property::list::Stated<End>;
 
 /// The answer to a call, and the lists of messages that it changes.
 pub struct End {

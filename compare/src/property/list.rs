@@ -21,6 +21,13 @@ pub struct List {
     pub calls: Vec<Call>,
 }
 
+/// A fixed list, and what is stated of its end.
+pub struct Stated<End> {
+    pub what: &'static str,
+    pub list: List,
+    pub end: End,
+}
+
 #[derive(Clone, Copy, PartialEq, Eq)]
 pub enum Size {
     Short,

@@ -7,6 +7,7 @@ pub mod decoder;
 pub mod files;
 pub mod judge;
 pub mod list;
+pub mod replies;
 pub mod settings;
 pub mod state;
 pub mod texts;

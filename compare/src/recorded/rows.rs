@@ -3,6 +3,7 @@ use crate::limits::STORE;
 use crate::model::log::CallerId;
 use crate::model::pool::{Call, GroupSetting, Reply, Settings, Status};
 use crate::property::list::{List, Opening};
+use crate::property::replies::{END, NO, STORED, YES, ran};
 
 const CALLER: u64 = 7;
 
@@ -29,17 +30,8 @@ pub fn opening(group: GroupSetting, tick_ns: u64, file: &[u8]) -> Opening {
     Opening { settings, log_len: 64, store_len: STORE, file: file.to_vec() }
 }
 
-const STORED: Call = Call::Reply(Reply::Stored);
-const YES: Call = Call::Reply(Reply::Yes);
-const NO: Call = Call::Reply(Reply::No);
-const END: Call = Call::Reply(Reply::End);
-
 fn clock(clock: u64) -> Call {
     Call::Reply(Reply::Clock(clock))
-}
-
-fn ran(status: Status) -> Call {
-    Call::Reply(Reply::Ran(status))
 }
 
 fn count(count: u64) -> Call {

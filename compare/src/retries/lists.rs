@@ -3,9 +3,10 @@ use super::{End, Stated};
 use crate::lent::LOG_FILL;
 use crate::limits::{STORE, refusal};
 use crate::model::log::CallerId;
-use crate::model::pool::{Call, GroupSetting, Reply, Settings, Status};
+use crate::model::pool::{Call, GroupSetting, Reply, Settings};
 use crate::output::Answer;
 use crate::property::list::{List, Opening};
+use crate::property::replies::{CLOCK, END, NO, NO_EVENTS, RAISES, RECEIVES, STORED, YES, YIELDS};
 
 pub fn lists() -> Vec<Stated> {
     [behind_the_others(), rewritten(), no_room(), own_number(), marks_and_records(), trapped(), no_line(), the_disk()]
@@ -14,22 +15,8 @@ pub fn lists() -> Vec<Stated> {
         .collect()
 }
 
-const STORED: Call = Call::Reply(Reply::Stored);
-const YES: Call = Call::Reply(Reply::Yes);
-const NO: Call = Call::Reply(Reply::No);
-const END: Call = Call::Reply(Reply::End);
-const CLOCK: Call = Call::Reply(Reply::Clock(0));
-const NO_EVENTS: Call = Call::Reply(Reply::Count(0));
-const YIELDS: Call = ran(Status::Preempted);
-const RECEIVES: Call = ran(Status::Event);
-const RAISES: Call = ran(Status::Error);
-
 const TRAP: Answer = Answer::Trap { group: 0 };
 const BUSY: Answer = Answer::TurnEnd { busy: true, waiters: false };
-
-const fn ran(status: Status) -> Call {
-    Call::Reply(Reply::Ran(status))
-}
 
 fn admit(body: &[u8]) -> Call {
     Call::Admit { name: b"row".to_vec(), body: body.to_vec(), caller: None }

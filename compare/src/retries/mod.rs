@@ -16,11 +16,7 @@ use crate::tables::list;
 use crate::tally::{Tally, same};
 
 /// A list of calls, and what is stated of its end.
-pub struct Stated {
-    pub what: &'static str,
-    pub list: List,
-    pub end: End,
-}
+pub type Stated = crate::property::list::Stated<End>;
 
 /// The answers to the last calls of a list, and what stands after them.
 #[derive(PartialEq, Eq, Debug)]

@@ -14,7 +14,8 @@ mod scripts;
 mod texts;
 
 use crate::limits::STORE;
-use crate::model::pool::{self, Call, GroupSetting, Pool, Reply, Settings};
+use crate::model::pool::{self, Call, GroupSetting, Pool, Settings};
+use crate::property::replies::STORED;
 
 /// Settings with one group, `row`, of one actor.
 fn settings(inbox: usize, compact_at: usize) -> Settings {
@@ -47,8 +48,6 @@ fn running(settings: &Settings, log_len: usize, file: &[u8]) -> Pool {
     pool.call(&STORED);
     pool
 }
-
-const STORED: Call = Call::Reply(Reply::Stored);
 
 /// A message that nobody waits for, which is logged.
 fn admit(name: &[u8], body: &[u8]) -> Call {
