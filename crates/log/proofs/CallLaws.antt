@@ -25,7 +25,8 @@ use Rattle.log.specs.Stands.{Stands}
 use Rattle.log.specs.Opening.{insert, remove, retried, Read, takeIn, fits, image}
 use Rattle.log.specs.Log.{Wal, turnedAway, extended, compacted, withRecord, logged, newMessage, appendRefusal}
 use Rattle.log.specs.Log.{appended, appendOf, openRows, findRow, withoutRow, keeps, markedDone, markFound}
-use Rattle.log.specs.Log.{markOf, nothingDue, withTried, retryWritten, retriedAt, retryFound, countsTries, retryOf, syncLog}
+use Rattle.log.specs.Log.{markOf, nothingDue, withTried, retryWritten, retriedAt, retryFound}
+use Rattle.log.specs.Log.{countsTries, retryOf, syncLog}
 use Rattle.log.specs.Recovery.{LogCall, append, mark, sync, Called, byAppend, byMark, bySync, didCall, Sent}
 use Rattle.log.specs.Recovery as calls
 use Rattle.log.specs.Recovery.{appending, replacing, flushing, sent, callEffect}

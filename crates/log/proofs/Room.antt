@@ -9,7 +9,8 @@ use borrow.Author.Tests.{eqb-true}
 use lib.Dec.{eqb, ltb}
 use lib.ListN.{length, length-append}
 use Rattle.text.specs.Format.{TAB, LF, BACKSLASH, escapeByte, escape, escaped, unescape, unescape-next, printId}
-use Rattle.text.specs.Format.{ATTEMPTS, readId, Message, recordText, recordLine, line, retryText, retryLine, attemptsLine}
+use Rattle.text.specs.Format.{ATTEMPTS, readId, Message, recordText, recordLine, line}
+use Rattle.text.specs.Format.{retryText, retryLine, attemptsLine}
 use Rattle.text.specs.Format.{messageLines}
 use Rattle.text.specs.Format.{joinHead, split, allButLast, lines, fields}
 use Rattle.text.specs.Bytes.{Free}

@@ -14,7 +14,8 @@ use Rattle.log.specs.declared.opening.Pass.{Pass}
 use Rattle.log.specs.Opening.{insert, remove, triedTimes, retried, Rising, Read, readLines, readFile, takeIn}
 use Rattle.log.specs.Opening.{nothingRead}
 use Rattle.log.specs.Log.{row, rowId}
-use Rattle.log.specs.Scan.{rowMessage, rowMessages, RowsRise, insertRow, removeRow, retryRow, Took, beneath, beyond}
+use Rattle.log.specs.Scan.{rowMessage, rowMessages, RowsRise, insertRow, removeRow, retryRow}
+use Rattle.log.specs.Scan.{Took, beneath, beyond}
 use Rattle.log.specs.Scan.{set-in, evicted, passRows, TookNext, LastId, Window}
 use Rattle.log.proofs.OpeningLaws.{Rising-low, Rising-le, Rising-insert, Rising-remove, Rising-retried}
 use Rattle.log.proofs.OpeningLaws.{retried-append}

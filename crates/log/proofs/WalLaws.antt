@@ -21,7 +21,7 @@ use Rattle.log.specs.Log.{row, Wal, state, openRows, DidAppend, DidMark,
 use Rattle.log.specs.Log.{rewrite, rowAt, rowLen, rowTries, nothingDue, withTried, retryWritten, retriedAt}
 use Rattle.log.specs.Log.{retryFound, countsTries, retryOf}
 use Rattle.log.specs.Log.{compacted, withRecord, logged, newMessage, appendRefusal, appended, appendOf}
-use Rattle.log.specs.Log.{searchRow, withoutRow, keeps, markedDone, markOf, syncLog}
+use Rattle.log.specs.Log.{searchRow, withoutRow, keeps, grown, lineBehind, allAnew, markedDone, markOf, syncLog}
 use Rattle.log.specs.Table.{foundOf}
 use Rattle.log.specs.Opening.{fits}
 use Rattle.log.proofs.OpeningLaws.{and-left}
@@ -185,55 +185,45 @@ pub without-any : (log : List ℕ) (rows rows' : List (List ℕ)) (c c' : Counte
 unfolding withoutRow
 without-any log rows rows' c c' i e = ap (λ v. state log (v .table) (v .counters)) e
 
+-- the log rewritten
+pub all-anew : (w after : Wal) → after ≡ compacted w
+    → _≡_ {A = DidMark} (record { wal = after; due = due.Ordered (Replace (w .counters .live)) }) (allAnew w)
+all-anew w after a = rw a refl
+
+-- a line of n bytes behind the file
+pub line-behind : (w : Wal) (line : List ℕ) (n : ℕ) → n ≡ length line → (c : Counters) → c ≡ grown (w .counters) n
+    → (log' : List ℕ) → log' ≡ write (w .bytes) (w .counters .size) line
+    → _≡_ {A = DidMark} (record {
+      wal = state log' (w .table) c;
+      due = due.Ordered (Append (w .counters .size) (w .counters .size + n));
+    }) (lineBehind w line)
+unfolding extended
+line-behind w line n e c g log' p = rw (g, p, e) refl
+
 module _ (limit : ℕ) (w : Wal) (id n : ℕ) (e : n ≡ length (doneLine id)) where
   pub marked-behind : keeps limit (length (w .bytes)) (w .counters .live) (w .counters .size + n) ≡ true
-      → (log' : List ℕ) → log' ≡ write (w .bytes) (w .counters .size) (doneLine id)
-      → _≡_ {A = DidMark} (record {
-        wal = state log' (w .table) (record {
-          next = w .counters .next;
-          live = w .counters .live;
-          size =
-              w .counters .size + n;
-          dirty = w .counters .dirty;
-          count = w .counters .count;
-        });
-        due = due.Ordered (Append (w .counters .size) (w .counters .size + n));
-      }) (markedDone limit w id)
-  unfolding markedDone extended
-  marked-behind t log' p = let yes : keeps limit (length (w .bytes)) (w .counters .live) (w .counters .size + length
+      → lineBehind w (doneLine id) ≡ markedDone limit w id
+  unfolding markedDone
+  marked-behind t = let yes : keeps limit (length (w .bytes)) (w .counters .live) (w .counters .size + length
       (doneLine id)) ≡ true = rw e at t in cc
 
-  pub marked-anew : keeps limit (length (w .bytes)) (w .counters .live) (w .counters .size + n) ≡ false → (after : Wal)
-      → after ≡ compacted w
-      → _≡_ {A = DidMark} (record { wal = after; due = due.Ordered (Replace (w .counters .live)) })
-      (markedDone limit w id)
+  pub marked-anew : keeps limit (length (w .bytes)) (w .counters .live) (w .counters .size + n) ≡ false
+      → allAnew w ≡ markedDone limit w id
   unfolding markedDone
-  marked-anew t after a = let no : keeps limit (length (w .bytes)) (w .counters .live) (w .counters .size + length
+  marked-anew t = let no : keeps limit (length (w .bytes)) (w .counters .live) (w .counters .size + length
       (doneLine id)) ≡ false = rw e at t in cc
 
 -- retry
 module _ (w : Wal) (id n len : ℕ) (e : len ≡ length (retryLine id n)) where
   pub retry-behind : leb (w .counters .size + len) (length (w .bytes)) ≡ true
-      → (log' : List ℕ) → log' ≡ write (w .bytes) (w .counters .size) (retryLine id n)
-      → _≡_ {A = DidMark} (record {
-        wal = state log' (w .table) (record {
-          next = w .counters .next;
-          live = w .counters .live;
-          size = w .counters .size + len;
-          dirty = w .counters .dirty;
-          count = w .counters .count;
-        });
-        due = due.Ordered (Append (w .counters .size) (w .counters .size + len));
-      }) (retryWritten w id n)
-  unfolding retryWritten extended
-  retry-behind t log' p =
+      → lineBehind w (retryLine id n) ≡ retryWritten w id n
+  unfolding retryWritten
+  retry-behind t =
       let yes : leb (w .counters .size + length (retryLine id n)) (length (w .bytes)) ≡ true = rw e at t in cc
 
-  pub retry-anew : leb (w .counters .size + len) (length (w .bytes)) ≡ false → (after : Wal) → after ≡ compacted w
-      → _≡_ {A = DidMark} (record { wal = after; due = due.Ordered (Replace (w .counters .live)) })
-      (retryWritten w id n)
+  pub retry-anew : leb (w .counters .size + len) (length (w .bytes)) ≡ false → allAnew w ≡ retryWritten w id n
   unfolding retryWritten
-  retry-anew t after a =
+  retry-anew t =
       let no : leb (w .counters .size + length (retryLine id n)) (length (w .bytes)) ≡ false = rw e at t in cc
 
 module _ (log : List ℕ) (rows : List (List ℕ)) (c : Counters) (id n i : ℕ) where

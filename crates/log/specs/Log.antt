@@ -88,18 +88,16 @@ pub record DidMark : Type 0 where
 abbrev pub turnedAway : Wal → Refusal → DidAppend
 turnedAway w r = record { wal = w; answer = Refused r }
 
+-- the counters of a file that has n bytes more
+abbrev pub grown : Counters → ℕ → Counters
+grown c n = record { next = c .next; live = c .live; size = c .size + n; dirty = c .dirty; count = c .count }
+
 -- a text written from the log's first free byte on
 unfoldable pub extended : Wal → List ℕ → Wal
 extended w text = record {
   bytes = write (w .bytes) (w .counters .size) text;
   table = w .table;
-  counters = record {
-    next = w .counters .next;
-    live = w .counters .live;
-    size = w .counters .size + length text;
-    dirty = w .counters .dirty;
-    count = w .counters .count;
-  };
+  counters = grown (w .counters) (length text);
 }
 
 -- The rows stand one behind the other in a log of this length, from `start` on; and written anew one behind the other
@@ -272,15 +270,23 @@ keeps compactAt long live to = leb to long && ltb to (max compactAt (2 * live))
 abbrev pub withDone : Wal → ℕ → ℕ
 withDone w id = w .counters .size + length (doneLine id)
 
--- the row of the id is out already: its done line is written behind the file and the append of it ordered, as long as
--- `keeps` allows it; else the log is rewritten to the records still open, and a replace by live ordered
+-- a line written behind the file, and the append of it ordered
+abbrev pub lineBehind : Wal → List ℕ → DidMark
+lineBehind w line = record {
+  wal = extended w line;
+  due = due.Ordered (Append (w .counters .size) (w .counters .size + length line));
+}
+
+-- the log rewritten to its open records and their retry lines, and a replace by these, which are live, ordered
+abbrev pub allAnew : Wal → DidMark
+allAnew w = record { wal = compacted w; due = due.Ordered (Replace (w .counters .live)) }
+
+-- the row of the id is out already: its done line goes behind the file, as long as `keeps` allows it; else the log is
+-- rewritten to the records still open
 unfoldable pub markedDone : ℕ → Wal → ℕ → DidMark
 markedDone compactAt w id = elim (keeps compactAt (length (w .bytes)) (w .counters .live) (withDone w id)) [
-  | true ↦ record {
-    wal = extended w (doneLine id);
-    due = due.Ordered (Append (w .counters .size) (w .counters .size + length (doneLine id)));
-  }
-  | false ↦ record { wal = compacted w; due = due.Ordered (Replace (w .counters .live)) }
+  | true ↦ lineBehind w (doneLine id)
+  | false ↦ allAnew w
 ]
 
 -- a log on which nothing is due
@@ -311,15 +317,11 @@ withTried w id i n = record {
   };
 }
 
--- the row says n already: the retry line is written behind the file and the append of it ordered, if it fits there;
--- else the log is rewritten with it, and a replace by live ordered
+-- the row says n already: the retry line goes behind the file, if it fits there; else the log is rewritten with it
 unfoldable pub retryWritten : Wal → ℕ → ℕ → DidMark
 retryWritten w id n = elim (leb (w .counters .size + length (retryLine id n)) (length (w .bytes))) [
-  | true ↦ record {
-    wal = extended w (retryLine id n);
-    due = due.Ordered (Append (w .counters .size) (w .counters .size + length (retryLine id n)));
-  }
-  | false ↦ record { wal = compacted w; due = due.Ordered (Replace (w .counters .live)) }
+  | true ↦ lineBehind w (retryLine id n)
+  | false ↦ allAnew w
 ]
 
 -- an open id's retry, its row at place i: written, if the open records and the retry lines then fit into the log;

@@ -11,9 +11,8 @@ use Rattle.text.specs.Format.{TAB, Message, line, retryLine}
 use Rattle.text.specs.Bytes.{part}
 use Rattle.log.specs.declared.Order.{Order}
 use Rattle.log.specs.declared.Order.the-variants.{Append, Replace, Flush}
-use Rattle.log.specs.declared.Due.the-variants as due
 use Rattle.log.specs.Opening.{Opening, refused, opened, opening}
-use Rattle.log.specs.Log.{Wal, DidMark, nothingDue, extended, compacted, withTried, retriedAt}
+use Rattle.log.specs.Log.{Wal, DidMark, nothingDue, lineBehind, allAnew, withTried, retriedAt}
 use Rattle.log.specs.Opened.{openedLogBy}
 use Rattle.log.specs.Recovery.{LogCall, mark, retry, didCall, openedWal}
 use Rattle.log.specs.RowEnds.{sameBytes, leaves, rowName, emptyLog, walAfter, two, respelled, lastId}
@@ -24,16 +23,10 @@ use Rattle.log.specs.RowEnds.{sameBytes, leaves, rowName, emptyLog, walA
 -- rewritten with it, if all then fits; else nothing is written
 unfoldable pub retryAsked : Wal → ℕ → ℕ → ℕ → DidMark
 retryAsked w id n i = elim (leb (w .counters .size + length (retryLine id n)) (length (w .bytes))) [
-  | true ↦ record {
-    wal = extended (withTried w id i n) (retryLine id n);
-    due = due.Ordered (Append (w .counters .size) (w .counters .size + length (retryLine id n)));
-  }
+  | true ↦ lineBehind (withTried w id i n) (retryLine id n)
   | false ↦
       elim (leb (withTried w id i n .counters .live) (length (w .bytes))) [
-        | true ↦ record {
-          wal = compacted (withTried w id i n);
-          due = due.Ordered (Replace (withTried w id i n .counters .live));
-        }
+        | true ↦ allAnew (withTried w id i n)
         | false ↦ nothingDue w
       ]
 ]

@@ -3,11 +3,11 @@
 // (tools/stepped.py). The work is in `append_step`, `mark_step`, `retry_step` and `sync_step`, by value.
 ghost use mathlib.Core.Path.{_≡_};
 ghost use mathlib.Core.List.{[]};
-ghost use Prim.Native.Nat.{_+_, _-_, _≤_};
+ghost use Prim.Native.Nat.{_+_, _-_, _^_, _≤_, _<_};
 ghost use lib.ListN.{length, getD, set};
 ghost use Rattle.text.specs.Format.{untried};
 ghost use Rattle.log.specs.Log.{state, row, rowAt, rowLen, rowTries, rowSpan, CanAppend, newMessage, logged};
-ghost use Rattle.log.specs.Log.{appended, appendOf, withoutRow, keeps, markedDone, markOf};
+ghost use Rattle.log.specs.Log.{appended, appendOf, withoutRow, keeps, grown, allAnew, markedDone, markOf};
 ghost use Rattle.log.specs.Log.{retryWritten, retriedAt, countsTries, retryOf, syncLog};
 ghost use Rattle.log.specs.declared.Answer.the-variants.{Refused};
 use crate::Answer;
@@ -226,6 +226,41 @@ fn keeps_on(size: usize, n: usize, long: usize, limit: usize, live: usize) -> bo
     to / 2 < live
 }
 
+// The counters of a file that has n bytes more.
+fn grown(counters: Counters, n: usize) -> Counters
+    requires { ⌜ counters .size + n < 2 ^ 64 ⌝ }
+    ensures { λ r. ⌜ r ≡ grown counters n ⌝ }
+{
+    Counters {
+        next: counters.next,
+        live: counters.live,
+        size: counters.size + n,
+        dirty: counters.dirty,
+        count: counters.count,
+    }
+}
+
+// The log rewritten to its open records and their retry lines, and a replace by these.
+fn rewrite_all(log: &mut [u8], records: &mut [RecordRow], counters: Counters) -> AnsweredDue
+    ensures { λ r. ⌜ record { wal = state (now (log .exit)) (now (records .exit)) (r .counters); due = r .due }
+        ≡ allAnew (state (now (log .entry)) (now (records .entry)) counters) ⌝ }
+{
+    let live = counters.live;
+    let count = counters.count;
+    compact(log, records, count);
+    let dense = Counters {
+        next: counters.next,
+        live,
+        size: live,
+        dirty: counters.dirty,
+        count,
+    };
+    AnsweredDue {
+        counters: dense,
+        due: Due::Ordered(Order::Replace(live)),
+    }
+}
+
 // The done line behind the others, or the log rewritten to the open records.
 fn mark_done(
     log: &mut [u8],
@@ -239,34 +274,16 @@ fn mark_done(
 {
     let size = counters.size;
     let live = counters.live;
-    let count = counters.count;
     let n = done_len(id);
     if keeps_on(size, n, log.len(), limit, live) {
         encode_done(&mut log[size..], id);
-        let more = Counters {
-            next: counters.next,
-            live,
-            size: size + n,
-            dirty: counters.dirty,
-            count,
-        };
+        let more = grown(counters, n);
         return AnsweredDue {
             counters: more,
             due: Due::Ordered(Order::Append(size, size + n)),
         };
     }
-    compact(log, records, count);
-    let dense = Counters {
-        next: counters.next,
-        live,
-        size: live,
-        dirty: counters.dirty,
-        count,
-    };
-    AnsweredDue {
-        counters: dense,
-        due: Due::Ordered(Order::Replace(live)),
-    }
+    rewrite_all(log, records, counters)
 }
 
 // Mark, by value.
@@ -343,35 +360,16 @@ fn write_retry(
         ≡ retryWritten (state (now (log .entry)) (now (records .entry)) counters) id attempts ⌝ }
 {
     let size = counters.size;
-    let live = counters.live;
-    let count = counters.count;
     let n = retry_len(id, attempts);
     if fits_behind(size, n, log.len()) {
         encode_retry(&mut log[size..], id, attempts);
-        let more = Counters {
-            next: counters.next,
-            live,
-            size: size + n,
-            dirty: counters.dirty,
-            count,
-        };
+        let more = grown(counters, n);
         return AnsweredDue {
             counters: more,
             due: Due::Ordered(Order::Append(size, size + n)),
         };
     }
-    compact(log, records, count);
-    let dense = Counters {
-        next: counters.next,
-        live,
-        size: live,
-        dirty: counters.dirty,
-        count,
-    };
-    AnsweredDue {
-        counters: dense,
-        due: Due::Ordered(Order::Replace(live)),
-    }
+    rewrite_all(log, records, counters)
 }
 
 // The retry of an open id, its row at place i: written, if the open records and their retry lines then fit.

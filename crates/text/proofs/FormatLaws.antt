@@ -9,7 +9,8 @@ use borrow.Author.Tests.{ltb-true, eqb-true, lt-ltb, le-leb, eq-eqb, ne-eqb}
 use lib.Dec.{eqb, leb, ltb}
 use lib.ListN.{length, length-append}
 use Rattle.text.specs.Bytes.{All, Free}
-use Rattle.text.specs.Format.{TAB, LF, DIGIT0, BACKSLASH, escapeByte, escape, Message, recordText, retryText, escaped}
+use Rattle.text.specs.Format.{TAB, LF, DIGIT0, BACKSLASH, escapeByte, escape}
+use Rattle.text.specs.Format.{Message, recordText, retryText, escaped}
 use Rattle.text.specs.Format.{unescape, digits, printId, decimal, line, joinHead}
 use Rattle.text.specs.Format.{split, allButLast, lines, fields}
 use Rattle.text.proofs.Bridge.{decimal-head}

@@ -12,7 +12,8 @@ use lib.ListN.{length, take, drop, getD, length-append, length-drop, drop-of-len
 use lib.Seq.{take-suc, take-all, take-at, drop-at, length-take-le, getD-drop, split-at, drop-drop}
 use Rattle.text.specs.Format.{TAB, LF, ATTEMPTS, untried, unescape, joinHead, split, lines, line, fields, readId}
 use Rattle.text.specs.Bytes.{Free, part}
-use Rattle.text.specs.Line.{Line, put, done, retry, other, readFields, readLine, doneOf, attemptsOf, putOf, nameOf}
+use Rattle.text.specs.Line.{Line, put, done, retry, other, readFields, readLine}
+use Rattle.text.specs.Line.{doneOf, attemptsOf, putOf, nameOf}
 use Rattle.text.specs.Line.{bodyOf}
 use Rattle.text.specs.Line.{ofRecord, nameIn, bodyIn, nameField, bodyField}
 use Rattle.text.specs.Answers.{First, FirstFrom, idOf, doneKind, retryKind, putKind, lineKindIn, lineKind}
@@ -260,26 +261,23 @@ retry-says line (some id) (some n) = at (leb n ATTEMPTS)
     at true = refl
     at false = refl
 
+-- what holds of every retry line, and of a line that says nothing, holds of any line of two fields
+attempts-rule : (P : Line → Type 0) → ((id n : ℕ) → P (retry id n)) → P other → (o p : Option ℕ) → P (attemptsOf o p)
+unfolding attemptsOf
+attempts-rule P says rest none p = rest
+attempts-rule P says rest (some id) none = rest
+attempts-rule P says rest (some id) (some n) = at (leb n ATTEMPTS)
+  where
+    at : (t : Bool) → P (elim t [ true ↦ retry id n | false ↦ other ])
+    at true = says id n
+    at false = rest
+
 -- a line of two fields has no name, and no body
 retry-no-name : (o p : Option ℕ) → [] ≡ nameOf (attemptsOf o p)
-unfolding attemptsOf
-retry-no-name none p = refl
-retry-no-name (some id) none = refl
-retry-no-name (some id) (some n) = at (leb n ATTEMPTS)
-  where
-    at : (t : Bool) → [] ≡ nameOf (elim t [ true ↦ retry id n | false ↦ other ])
-    at true = refl
-    at false = refl
+retry-no-name o p = attempts-rule (λ l. [] ≡ nameOf l) (λ id n. refl) refl o p
 
 retry-no-body : (o p : Option ℕ) → [] ≡ bodyOf (attemptsOf o p)
-unfolding attemptsOf
-retry-no-body none p = refl
-retry-no-body (some id) none = refl
-retry-no-body (some id) (some n) = at (leb n ATTEMPTS)
-  where
-    at : (t : Bool) → [] ≡ bodyOf (elim t [ true ↦ retry id n | false ↦ other ])
-    at true = refl
-    at false = refl
+retry-no-body o p = attempts-rule (λ l. [] ≡ bodyOf l) (λ id n. refl) refl o p
 
 put-says : (line name body : List ℕ) (o : Option ℕ) (a b c d : ℕ) → part line a b ≡ name → part line c d ≡ body
     → kindOf line (putKind (idOf o) a b c d) ≡ putOf o name body

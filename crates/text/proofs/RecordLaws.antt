@@ -4,7 +4,8 @@ use mathlib.Core.List.{List, [], _∷_, _++_, append-assoc}
 use Prim.Native.Nat.{ℕ, _+_, _≤_}
 use native.Mathlib.Omega.{arith}
 use lib.ListN.{length, length-append}
-use Rattle.text.specs.Format.{printId, escape, Message, recordText, recordLine, doneLine, retryText, retryLine, line}
+use Rattle.text.specs.Format.{printId, escape, Message, recordText, recordLine, doneLine}
+use Rattle.text.specs.Format.{retryText, retryLine, line}
 use Rattle.text.specs.Bytes.{Wrote}
 use Rattle.text.proofs.WriteLaws.{Writing, begin, further}
 

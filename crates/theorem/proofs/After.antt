@@ -34,8 +34,9 @@ use Rattle.answers.specs.Answers.{Did, refused, shown}
 use Rattle.answers.specs.Refusals.{judged, byTable, inTurn, isMessage, fitsIn, noEntryFree}
 use Rattle.answers.specs.Refusals.{turnRefusals, replyRefusals, syncRefusals}
 use Rattle.pool.specs.Run.{answeredOf}
-use Rattle.theorem.specs.Rail.{Call, World, inPlaces, turnEffect, moved, unordered, Shown, nothing, shows, ordersIn, orderShown}
-use Rattle.theorem.specs.Rail.{ofTurn, purposeOf, outOfPlaces, triedAs, retriedLast, LastTried, TurnFits}
+use Rattle.theorem.specs.Rail.{Call, World, inPlaces, turnEffect, moved, unordered, Shown}
+use Rattle.theorem.specs.Rail.{nothing, shows, ordersIn, orderShown}
+use Rattle.theorem.specs.Rail.{ofTurn, purposeOf, outOfPlaces, triedAs, LastTried, TurnFits}
 use Rattle.theorem.specs.Rail.{OrderFits, orderedFor, ordered, answered}
 use Rattle.theorem.specs.Rail.{accepted}
 use Rattle.theorem.specs.Rail.{stepDid}

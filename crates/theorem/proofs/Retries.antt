@@ -1,10 +1,10 @@
 -- What a point tries again comes to the end of pending; and a retry leaves the log's next id. Assumes nothing.
-use mathlib.Core.Path.{_≡_, refl, sym, ap, _∙_, subst}
+use mathlib.Core.Path.{_≡_, refl, sym, ap, _∙_}
 use mathlib.Core.Bool.{Bool, true, false}
 use mathlib.Core.Logic.{_≢_}
 use mathlib.Core.Option.{Option, none, some}
 use mathlib.Core.List.{List, [], _∷_, _++_}
-use Prim.Native.Nat.{ℕ, _+_, _<_, _≤_}
+use Prim.Native.Nat.{ℕ, _+_, _<_}
 use native.Mathlib.Omega.{arith}
 use native.Mathlib.Decide.{decLt}
 use lib.Dec.{eqb, leb, ltb}
@@ -13,7 +13,7 @@ use Rattle.lists.specs.declared.Found.{Found}
 use Rattle.lists.specs.declared.Found.the-variants as found
 use Rattle.lists.specs.declared.keys.Key.{Key}
 use Rattle.lists.specs.declared.keys.Key.the-variants as key
-use Rattle.lists.specs.Links.{pick, Table, LISTS, firstOf, moveFirst, mailboxOf, handOf, PENDING, HAND}
+use Rattle.lists.specs.Links.{Table, LISTS, firstOf, moveFirst, mailboxOf, handOf, PENDING, HAND}
 use Rattle.lists.specs.KeyLists.{keysAt, frontOf}
 use Rattle.lists.specs.Family.{firstIn, view, Good, Moved}
 use Rattle.lists.proofs.Family.{first-is, view-past}
@@ -28,7 +28,7 @@ use Rattle.points.specs.declared.at.Cursor.{Cursor}
 use Rattle.group.specs.Settings.{groupAt}
 use Rattle.group.specs.Roster.{TRAPPED, slotAt}
 use Rattle.tick.specs.Crash.{dying, againFound, againFirst, crashedEntry, crashedFound, handleCrash, crashOf, mailBack}
-use Rattle.tick.specs.Crash.{crashTrappedKey, crashTrappedFront, crashTrapped}
+use Rattle.tick.specs.Crash.{crashTrappedKey, crashTrapped}
 use Rattle.turn.specs.State.{State}
 use Rattle.turn.specs.Go.{goOf}
 use Rattle.turn.specs.Retry.{againTrapped, againAt}

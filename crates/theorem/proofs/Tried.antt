@@ -3,7 +3,7 @@
 use mathlib.Core.Path.{_≡_, refl, sym, ap, _∙_}
 use mathlib.Core.Bool.{Bool, true, false}
 use mathlib.Core.List.{List, [], _∷_, _++_}
-use Prim.Native.Nat.{ℕ, suc, _+_, _-_, _≤_, _<_}
+use Prim.Native.Nat.{ℕ, suc, _+_, _-_, _≤_}
 use native.Mathlib.Omega.{arith}
 use borrow.Author.Tests.{eqb-true, eqb-false}
 use lib.Dec.{eqb}
@@ -13,7 +13,7 @@ use Rattle.lists.specs.Links.{Table, FREE, ENTRIES}
 use Rattle.lists.specs.Family.{count, view}
 use Rattle.lists.proofs.Counts.{count-up-below}
 use Rattle.log.specs.declared.LogId.{LogId}
-use Rattle.log.specs.Opening.{remove, triedTimes, retried}
+use Rattle.log.specs.Opening.{remove, retried}
 use Rattle.log.specs.Stands.{Tries}
 use Rattle.actor.specs.declared.message.Logged.{Logged}
 use Rattle.actor.specs.declared.message.Logged.the-variants as logged

@@ -19,7 +19,7 @@ use Rattle.points.specs.declared.at.Cursor.{Cursor}
 use Rattle.group.specs.Roster.{TRAPPED, slotAt}
 use Rattle.tick.specs.Crash.{againFirst}
 use Rattle.turn.specs.declared.state.OrderFor.the-variants as orderFor
-use Rattle.turn.specs.State.{State, walOf, withPool, withLog, withDisk, diskFor}
+use Rattle.turn.specs.State.{State, walOf, withDue}
 use Rattle.turn.specs.Go.{goOf}
 
 -- ---- what a point tries again
@@ -50,9 +50,7 @@ againAt s (point.CrashTrapped c left) =
 
 -- a retry in the log: its order waits, if one was due
 abbrev pub retriedIn : State → LogId → DidMark → State
-retriedIn s id d =
-    withLog (withPool s (withDisk (s .pool) (d .wal .counters) (diskFor (d .due) (orderFor.Retry id)))) (d .wal .bytes)
-    (d .wal .table)
+retriedIn s id d = withDue s d (orderFor.Retry id)
 
 -- the attempts of a message that was logged are written; of one that was not, nothing is
 unfoldable pub retryLogged : State → Logged → ℕ → State

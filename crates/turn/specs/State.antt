@@ -4,7 +4,7 @@ use mathlib.Core.List.{List}
 use Prim.Native.Nat.{ℕ}
 use Rattle.lists.specs.Links.{Table}
 use Rattle.log.specs.declared.Counters.{Counters}
-use Rattle.log.specs.Log.{Wal}
+use Rattle.log.specs.Log.{Wal, DidMark}
 use Rattle.points.specs.declared.at.At.{At}
 use Rattle.points.specs.declared.at.At.the-variants as at
 use Rattle.points.specs.declared.at.Point.{Point}
@@ -168,6 +168,11 @@ withDisk p n d = withTurn p (record { at = p .turn .at; disk = d; counts = p .tu
 abbrev pub diskFor : Due → OrderFor → Disk
 diskFor (due.Ordered o) w = disk.Waits o w
 diskFor due.Nothing w = disk.Free
+
+-- the log is as a mark or a retry left it, and its order waits, if one was due, for this; all else is as it was
+abbrev pub withDue : State → DidMark → OrderFor → State
+withDue s d w =
+    withLog (withPool s (withDisk (s .pool) (d .wal .counters) (diskFor (d .due) w))) (d .wal .bytes) (d .wal .table)
 
 -- the turn stands there, with these counts
 abbrev pub countedAt : Pool → At → Counts → Pool

@@ -12,8 +12,7 @@ use Rattle.points.specs.declared.at.At.{At}
 use Rattle.points.specs.declared.at.At.the-variants as at
 use Rattle.points.specs.declared.at.Point.{Point}
 use Rattle.turn.specs.declared.state.OrderFor.the-variants as orderFor
-use Rattle.turn.specs.State.{State, walOf, withPool, withLinks, withLog, withDisk, diskFor, isFree, marksAt}
-use Rattle.turn.specs.State.{runningOf}
+use Rattle.turn.specs.State.{State, walOf, withLinks, withDue, isFree, marksAt, runningOf}
 use Rattle.turn.specs.Retry.{ranOf}
 use Rattle.turn.specs.Weight.{weightOf}
 
@@ -21,9 +20,7 @@ use Rattle.turn.specs.Weight.{weightOf}
 
 -- a mark in the log: its order waits, if one was due
 abbrev pub marked : State → LogId → DidMark → State
-marked s id d =
-    withLog (withPool s (withDisk (s .pool) (d .wal .counters) (diskFor (d .due) (orderFor.Mark id)))) (d .wal .bytes)
-    (d .wal .table)
+marked s id d = withDue s d (orderFor.Mark id)
 
 -- a message that was logged gets its mark
 unfoldable pub markLogged : State → Logged → State

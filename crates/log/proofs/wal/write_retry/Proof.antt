@@ -1,5 +1,5 @@
 -- The line fills the part of the log that starts at size; else the rewrite.
-use Rattle.log.proofs.WalLaws.{compacted-is, retry-behind, retry-anew}
+use Rattle.log.proofs.WalLaws.{line-behind, retry-behind, retry-anew}
 use Rattle.log.specs.Log.{state}
 use Rattle.text.proofs.AnswerLaws.{filled-part}
 use Rattle.text.specs.Format.{retryLine}
@@ -24,11 +24,10 @@ sub-encode-retry c =
     let retry-len = c .before .before .retry-len in
     let fits-behind = c .before .fits-behind in
     let if1 = c .if1 in
-    omega (
-      arith,
-      leb-true (args .counters .size + retry-len .result) (length (args .log .now))
-          (sym (fits-behind .ensures) ∙ if1 .taken),
-    )
+    let room =
+    leb-true (args .counters .size + retry-len .result) (length (args .log .now))
+    (sym (fits-behind .ensures) ∙ if1 .taken) in
+    omega (arith, room)
 
 part-encode-retry-start : tie.Need-part-encode-retry-start
 part-encode-retry-start c =
@@ -36,11 +35,10 @@ part-encode-retry-start c =
     let retry-len = c .before .before .retry-len in
     let fits-behind = c .before .fits-behind in
     let if1 = c .if1 in
-    omega (
-      arith,
-      leb-true (args .counters .size + retry-len .result) (length (args .log .now))
-          (sym (fits-behind .ensures) ∙ if1 .taken),
-    )
+    let room =
+    leb-true (args .counters .size + retry-len .result) (length (args .log .now))
+    (sym (fits-behind .ensures) ∙ if1 .taken) in
+    omega (arith, room)
 
 part-encode-retry-end : tie.Need-part-encode-retry-end
 part-encode-retry-end c = search needs
@@ -48,49 +46,49 @@ part-encode-retry-end c = search needs
 encode-retry-requires : tie.Need-encode-retry-requires
 encode-retry-requires c κs = search needs
 
-add-t16 : tie.Need-add-t16
-add-t16 c =
+grown-requires : tie.Need-grown-requires
+grown-requires c κs =
     let args = c .before .before .before .before .before .before .before .before .args in
     let retry-len = c .before .before .before .before .before .before .retry-len in
     let fits-behind = c .before .before .before .before .before .fits-behind in
     let if1 = c .before .before .before .before .if1 in
-    omega (
-      arith,
-      leb-true (args .counters .size + retry-len .result) (length (args .log .now))
-          (sym (fits-behind .ensures) ∙ if1 .taken),
-    )
+    let room =
+    leb-true (args .counters .size + retry-len .result) (length (args .log .now))
+    (sym (fits-behind .ensures) ∙ if1 .taken) in
+    omega (arith, room)
 
-add-t16-2 : tie.Need-add-t16-2
-add-t16-2 c =
-    let args = c .before .before .before .before .before .before .before .before .args in
-    let retry-len = c .before .before .before .before .before .before .retry-len in
-    let fits-behind = c .before .before .before .before .before .fits-behind in
-    let if1 = c .before .before .before .before .if1 in
-    omega (
-      arith,
-      leb-true (args .counters .size + retry-len .result) (length (args .log .now))
-          (sym (fits-behind .ensures) ∙ if1 .taken),
-    )
+add-t13 : tie.Need-add-t13
+add-t13 c =
+    let args = c .before .before .before .before .before .before .before .before .before .args in
+    let retry-len = c .before .before .before .before .before .before .before .retry-len in
+    let fits-behind = c .before .before .before .before .before .before .fits-behind in
+    let if1 = c .before .before .before .before .before .if1 in
+    let room =
+    leb-true (args .counters .size + retry-len .result) (length (args .log .now))
+    (sym (fits-behind .ensures) ∙ if1 .taken) in
+    omega (arith, room)
 
 same-length : tie.Need-same-length
 same-length c = search needs
 
 returns : tie.Need-returns
 returns c =
-    let args = c .before .before .before .before .before .before .before .before .args in
-    let retry-len = c .before .before .before .before .before .before .retry-len in
-    let fits-behind = c .before .before .before .before .before .fits-behind in
-    let if1 = c .before .before .before .before .if1 in
-    let encode-retry = c .before .before .encode-retry in
+    let args = c .before .before .before .before .before .before .before .before .before .args in
+    let retry-len = c .before .before .before .before .before .before .before .retry-len in
+    let fits-behind = c .before .before .before .before .before .before .fits-behind in
+    let if1 = c .before .before .before .before .before .if1 in
+    let encode-retry = c .before .before .before .encode-retry in
+    let grown = c .grown in
+    let w = state (args .log .now) (args .records .now) (args .counters) in
     let fit = sym (fits-behind .ensures) ∙ if1 .taken in
     let room = leb-true (args .counters .size + retry-len .result) (length (args .log .now)) fit in
-    retry-behind (state (args .log .now) (args .records .now) (args .counters)) (args .id) (args .attempts)
-    (retry-len .result) (retry-len .ensures) fit _
+    line-behind w (retryLine (args .id) (args .attempts)) (retry-len .result) (retry-len .ensures) _ (grown .ensures) _
     (filled-part (args .log .now) (args .counters .size) (retryLine (args .id) (args .attempts)) _ _
     (omega (arith, retry-len .ensures)) (encode-retry .ensures))
+    ∙ retry-behind w (args .id) (args .attempts) (retry-len .result) (retry-len .ensures) fit
 
-compact-requires : tie.Need-compact-requires
-compact-requires c κs = search needs
+rewrite-all-requires : tie.Need-rewrite-all-requires
+rewrite-all-requires c κs = search needs
 
 same-length-2 : tie.Need-same-length-2
 same-length-2 c = search needs
@@ -104,10 +102,11 @@ returns-2 c =
     let retry-len = c .before .before .before .before .before .before .before .before .retry-len in
     let fits-behind = c .before .before .before .before .before .before .before .fits-behind in
     let if1 = c .before .before .before .before .before .before .if1 in
-    let compact = c .before .before .before .compact in
-    retry-anew (state (args .log .now) (args .records .now) (args .counters)) (args .id) (args .attempts)
-    (retry-len .result) (retry-len .ensures) (sym (fits-behind .ensures) ∙ if1 .left) _
-    (compacted-is (args .log .now) _ (args .records .now) _ (args .counters) (compact .ensures))
+    let rewrite-all = c .before .before .before .rewrite-all in
+    let w = state (args .log .now) (args .records .now) (args .counters) in
+    rewrite-all .ensures
+    ∙ retry-anew w (args .id) (args .attempts) (retry-len .result) (retry-len .ensures)
+    (sym (fits-behind .ensures) ∙ if1 .left)
 
 pub write-retry-spec : {M : Type 1} → statement M
 write-retry-spec =
@@ -119,11 +118,11 @@ write-retry-spec =
     part-encode-retry-start
     part-encode-retry-end
     encode-retry-requires
-    add-t16
-    add-t16-2
+    grown-requires
+    add-t13
     same-length
     returns
-    compact-requires
+    rewrite-all-requires
     same-length-2
     same-length-3
     returns-2)
