@@ -74,14 +74,13 @@ const SOURCES: &[Source] = &[
 
 fn main() {
     println!("cargo::rerun-if-changed=build.rs");
-    println!("cargo::rustc-check-cfg=cfg(drive, oracle, rewriting)");
+    println!("cargo::rustc-check-cfg=cfg(drive, oracle)");
     let here = PathBuf::from(env::var("CARGO_MANIFEST_DIR").unwrap());
     let out = PathBuf::from(env::var("OUT_DIR").unwrap());
     if env::var_os("CARGO_FEATURE_PORT").is_some() {
         let folder = here.join(env::var("FELDWYGOR_LIB").unwrap_or("../target/staticlib".into()));
         link_port(&folder);
-        link_beside(&folder, "drive");
-        link_beside(&folder, "rewriting");
+        link_drive(&folder);
     }
     if take_rust(&here, &out) && compile_slab(&out) {
         println!("cargo::rustc-cfg=oracle");
@@ -100,14 +99,13 @@ fn link_port(folder: &Path) {
     println!("cargo::rustc-link-lib=static=replay");
 }
 
-/// A further archive of the port: its calls one at a time (`drive`), or its rewrite by itself (`rewriting`). What needs
-/// one says so where it is not built.
-fn link_beside(folder: &Path, name: &str) {
-    let archive = folder.join(format!("lib{name}.a"));
+/// The calls one at a time, which `bench` alone measures; where they are not built, it says so.
+fn link_drive(folder: &Path) {
+    let archive = folder.join("libdrive.a");
     println!("cargo::rerun-if-changed={}", archive.display());
     if archive.exists() {
-        println!("cargo::rustc-link-lib=static={name}");
-        println!("cargo::rustc-cfg={name}");
+        println!("cargo::rustc-link-lib=static=drive");
+        println!("cargo::rustc-cfg=drive");
     }
 }
 

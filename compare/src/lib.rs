@@ -12,7 +12,6 @@ pub mod model;
 pub mod output;
 pub mod port;
 pub mod program;
-pub mod rewriting;
 pub mod rng;
 pub mod scratch;
 pub mod script;
@@ -40,7 +39,6 @@ pub mod mailboxes;
 pub mod property;
 pub mod recorded;
 pub mod retries;
-pub mod rewrites;
 pub mod spellings;
 pub mod unloaded;
 

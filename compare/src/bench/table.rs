@@ -1,5 +1,4 @@
 //! The results as tables of Markdown.
-use super::rewrites::Rewritten;
 
 /// One list: what is counted in it, and the times of it all together, in nanoseconds.
 pub struct Row {
@@ -68,22 +67,6 @@ pub fn openings(rows: &[Opened]) {
             None => ("–".into(), "–".into()),
         };
         println!("| {what} | {:.3} | {rust} | {ratio} |", port / 1_000.0);
-    }
-}
-
-/// Rewrites by themselves, beside a copy of as many bytes.
-pub fn rewrites(rows: &[Rewritten]) {
-    println!(
-        "| a rewrite by itself | bytes kept | steps of eight | single steps | ns | memcpy, ns | rewrite ÷ memcpy |"
-    );
-    println!("|---|---:|---:|---:|---:|---:|---:|");
-    for Rewritten { what, bytes, steps, rewrite, copy } in rows {
-        let (bytes, [eights, singles]) = (
-            thousands(*bytes as u64),
-            [steps.down.eights + steps.up.eights, steps.down.singles + steps.up.singles].map(thousands),
-        );
-        let ratio = rewrite / copy;
-        println!("| {what} | {bytes} | {eights} | {singles} | {rewrite:.0} | {copy:.0} | {ratio:.1} |");
     }
 }
 

@@ -1,5 +1,4 @@
 //! bench [RUNS]: times of the port beside the Rust, medians of RUNS runs, and what each holds in memory, as tables.
-//! bench rewrites RUNS: the rewrites by themselves alone.
 //! bench rows: the lists by number, with how many calls each counts.
 //! bench count port|rust ROW RUNS: one list RUNS times on one side, call by call, to be counted by
 //! compare/instructions.
@@ -9,7 +8,7 @@ use compare::bench::lists::Timed;
 use compare::bench::port_side::{Calls, Runner};
 use compare::bench::table::{Driven, Opened, Row};
 use compare::bench::writes::Writes;
-use compare::bench::{clock, driven, lists, logs, rewrites, table};
+use compare::bench::{clock, driven, lists, logs, table};
 use compare::drive;
 use compare::limits::{LOG_MAX, STORE};
 use compare::model::pool::{GroupSetting, Settings};
@@ -40,7 +39,7 @@ const RUNS: usize = 501;
 #[global_allocator]
 static HELD: held::Held = held::Held;
 
-const USAGE: &str = "usage: bench [RUNS] | bench rewrites RUNS | bench rows | bench count port|rust ROW RUNS";
+const USAGE: &str = "usage: bench [RUNS] | bench rows | bench count port|rust ROW RUNS";
 
 fn main() {
     let words: Vec<String> = std::env::args().skip(1).collect();
@@ -49,7 +48,6 @@ fn main() {
     port::on_large_stack(|| match words[..] {
         [] => run(RUNS),
         ["rows"] => rows(),
-        ["rewrites", runs] => rewritten(number(runs)),
         ["count", side, row, runs] => count(side, number(row), number(runs)),
         [runs] => run(number(runs)),
         _ => panic!("{USAGE}"),
@@ -100,20 +98,8 @@ fn run(runs: usize) {
     let opened: Vec<Opened> = files().into_iter().map(|(what, file)| opened(what, file, runs, &path)).collect();
     table::openings(&opened);
     println!();
-    rewritten(runs);
-    println!();
     state(&path);
     println!("\nMedians of {runs} runs.");
-}
-
-/// The port's rewrite by itself, where it is at hand.
-fn rewritten(runs: usize) {
-    let rows = rewrites::all(runs);
-    if rows.is_empty() {
-        println!("The port's rewrite by itself is not built: rt staticlib rewriting.");
-    } else {
-        table::rewrites(&rows);
-    }
 }
 
 /// The port's two sides call by call, where they are at hand.

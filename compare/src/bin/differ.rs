@@ -1,6 +1,6 @@
 //! differ [COUNT [SEED]]: COUNT random cases, the port beside the Rust and beside the plain program; before them
 //! what is fixed or smaller: slips that must be caught, recorded answers, differences, programs that are not loaded,
-//! spellings of ids, retries, rewrites, mailboxes, any lists of calls, power cuts, any bytes.
+//! spellings of ids, retries, mailboxes, any lists of calls, power cuts, any bytes.
 //! differ coverage [COUNT [SEED]]: the cases alone, and how often each named point was met, as a table.
 //! differ selftest: the slips alone, in more cases.
 //! differ CASE 0 show: one case as text, and what differs in it (CASE as a FAILED line names it).
@@ -10,7 +10,7 @@ use compare::lent::Lent;
 use compare::scratch::Scratch;
 use compare::tally::Tally;
 use compare::{cuts, diff, differences, mailboxes, met, port, program, property};
-use compare::{recorded, retries, rewrites, spellings, unloaded};
+use compare::{recorded, retries, spellings, unloaded};
 use std::process::ExitCode;
 
 const USAGE: &str = "differ [COUNT [SEED]]
@@ -24,10 +24,8 @@ const ALL_POINTS: u64 = 10_000;
 /// Cases in which every slip is made: before a run, and when it is asked for alone.
 const SELFTEST: u64 = 60;
 const SELFTEST_ALONE: u64 = 400;
-/// Cases for each list of any calls, for each full log, for each list that is cut, and bytes of any scripts for each
-/// case.
+/// Cases for each list of any calls, for each list that is cut, and bytes of any scripts for each case.
 const CASES_A_LIST: u64 = 5;
-const CASES_A_REWRITE: u64 = 5;
 const CASES_A_CUT: u64 = 100;
 const BYTES_A_CASE: u64 = 200;
 
@@ -62,7 +60,6 @@ fn run(count: u64, seed: u64) -> bool {
     unloaded::run(&mut tally);
     spellings::run(&mut tally);
     retries::run(&mut tally);
-    rewrites::run(&mut tally, count / CASES_A_REWRITE, seed);
     mailboxes::run(&mut tally);
     property::run(&mut tally, count / CASES_A_LIST, seed);
     cuts::run(&mut tally, count / CASES_A_CUT, seed);

@@ -357,7 +357,7 @@ pub fn open_records(file: &[u8]) -> Vec<Open> {
 }
 
 /// What a rewrite leaves of these open records: each as it stands in the log, directly behind it its line.
-pub fn kept(log: &[u8], open: &[Open]) -> Vec<u8> {
+fn kept(log: &[u8], open: &[Open]) -> Vec<u8> {
     open.iter().flat_map(|r| [&log[r.from..r.to], &r.line()].concat()).collect()
 }
 

@@ -54,7 +54,7 @@ pub fn run(tally: &mut Tally) {
 }
 
 /// The end of a list, of which so many answers count, by the port.
-pub fn found(lent: &mut Lent, list: &List, answers: usize) -> Result<End, String> {
+fn found(lent: &mut Lent, list: &List, answers: usize) -> Result<End, String> {
     let output = lent.output(&list.script(SHOW_STORE))?;
     let last = output.entries.last().ok_or("no entry")?;
     let tables = last.tables.ok_or("no tables")?;

@@ -10,7 +10,6 @@ mod points;
 mod records;
 mod refusals;
 mod retries;
-mod rewrites;
 mod scripts;
 mod texts;
 

@@ -1,0 +1,26 @@
+-- The laws of the log, and its theorems (Recovery, RowEnds).
+pub mod OpeningLaws
+pub mod Skipped
+pub mod Room
+pub mod TabledLaws
+pub mod Steps
+pub mod CallLaws
+pub mod RecoveryLaws
+pub mod OpenLaws
+pub mod Recovery
+pub mod TableLaws
+pub mod WalLaws
+pub mod RowLaws
+pub mod SearchLaws
+pub mod FieldLaws
+pub mod SizeLaws
+pub mod ScanLaws
+pub mod Again
+pub mod Local
+pub mod PassLaws
+pub mod LeftLaws
+pub mod StoreLaws
+pub mod DecisionLaws
+pub mod RewriteLaws
+pub mod RowEnds
+pub mod Retries
