@@ -13,7 +13,7 @@ use borrow.Author.Tests.{ltb-true, ltb-false, leb-true, lt-ltb, le-leb}
 use Rattle.text.specs.Bytes.{write, part}
 use Rattle.text.proofs.LineLaws.{from}
 use Rattle.text.proofs.WriteLaws.{length_write, part_below, part_above, part_written}
-use Rattle.log.proofs.OpeningLaws.{and_left, and_right}
+use Rattle.message_log.proofs.OpeningLaws.{and_left, and_right}
 use Rattle.lists.specs.declared.Found.{Found}
 use Rattle.lists.specs.declared.Found.TheVariants.{Entry, Nothing}
 use Rattle.lists.specs.Links.{pick, Table, FREE, first_of}

@@ -1,7 +1,7 @@
 -- A message put into a free entry of the body store: 160 bytes each, the name in the first 32, the body in the 128
 -- after it. The other entries' bytes, and its own past the given name and body, do not change.
 use Rattle.std.specs.Prelude.{List, ℕ, ◌+◌, ◌*◌, ltb, leb, length}
-use Rattle.log.specs.Opening.{NAME, ENTRY}
+use Rattle.message_log.specs.Opening.{NAME, ENTRY}
 use Rattle.text.specs.Bytes.{write}
 use Rattle.lists.specs.declared.Found.{Found}
 use Rattle.lists.specs.declared.Found.TheVariants as found

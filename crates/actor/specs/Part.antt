@@ -1,7 +1,7 @@
 -- The message in question as a part of the body store: where its name and its body begin and end. An entry has 160
 -- bytes, the name in the first 32, the body in the 128 behind them (docs/RULES.md, 1).
 use Rattle.std.specs.Prelude.{◌≡◌, Bool, ◌&&◌, List, ℕ, ◌+◌, ◌*◌, ◌≤◌, ltb, leb}
-use Rattle.log.specs.Opening.{NAME, BODY, ENTRY, STORE}
+use Rattle.message_log.specs.Opening.{NAME, BODY, ENTRY, STORE}
 use Rattle.text.specs.Bytes.{part}
 use Rattle.lists.specs.declared.Found.{Found}
 use Rattle.lists.specs.declared.Found.TheVariants.{Entry, Nothing}

@@ -6,7 +6,7 @@ ghost use Rattle.actor.specs.Entry.{put_bytes, store_entry, keep_at, keep_of};
 use crate::message;
 use crate::message::{Caller, Logged, MessageRow};
 use lists::{Found, LinkRow};
-use log::{ENTRY, NAME};
+use message_log::{ENTRY, NAME};
 
 // Bytes written over a part of the store; where they do not fit nothing is.
 fn put_bytes(store: &mut [u8], at: usize, bytes: &[u8])

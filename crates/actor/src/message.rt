@@ -5,12 +5,12 @@ ghost use Rattle.std.specs.Prelude.{◌≡◌, [], get_or, ◌<◌};
 ghost use Rattle.actor.specs.Messages.{caller_of, caller_tag, caller_number, logged_of, logged_tag, logged_number};
 ghost use Rattle.actor.specs.Messages.{message_at, put_message, tried_of};
 
-use log::LogId;
+use message_log::LogId;
 
 // The most bytes of a name and of a body, as a row counts them.
-pub const NAME: u64 = log::NAME as u64;
+pub const NAME: u64 = message_log::NAME as u64;
 
-pub const BODY: u64 = log::BODY as u64;
+pub const BODY: u64 = message_log::BODY as u64;
 
 // Who waits for the outcome (the Rust's `Reply.id`).
 #[derive(Drop)]

@@ -7,7 +7,7 @@ ghost use Rattle.actor.specs.Part.{no_part, part_at, part_of, bytes_in};
 use crate::message;
 use crate::message::MessageRow;
 use lists::Found;
-use log::{ENTRY, NAME};
+use message_log::{ENTRY, NAME};
 
 // From a byte up to another, this one left out.
 #[derive(Drop)]

@@ -6,7 +6,7 @@ ghost use Rattle.actor.specs.Questions.{slot_of, yes_in, clock_in, count_in, ran
 
 use crate::message::CallerId;
 use lists::{Found, slab};
-use log::Order;
+use message_log::Order;
 
 // The keys of a group.
 const KEYS: usize = slab::KEYS as usize;

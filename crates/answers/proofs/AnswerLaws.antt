@@ -5,10 +5,10 @@ use mathlib.Core.Bool.{Bool, true, false}
 use Prim.Native.Nat.{ℕ}
 use lib.Dec.{eqb}
 use Rattle.lists.specs.Links.{pick}
-use Rattle.log.specs.Log as log
-use Rattle.log.specs.declared.Refusal as of-log
-use Rattle.log.specs.declared.Refusal.TheVariants as logged
-use Rattle.log.specs.declared.Order.TheVariants as order
+use Rattle.message_log.specs.Log as log
+use Rattle.message_log.specs.declared.Refusal as of-log
+use Rattle.message_log.specs.declared.Refusal.TheVariants as logged
+use Rattle.message_log.specs.declared.Order.TheVariants as order
 use Rattle.actor.specs.declared.question.Who.{Who}
 use Rattle.actor.specs.declared.question.Outcome.{Outcome}
 use Rattle.actor.specs.declared.question.Outcome.TheVariants as outcome

@@ -1,8 +1,8 @@
 -- What a call answers, and what it leaves; the numbers of refusals.
 use Rattle.std.specs.Prelude.{ℕ}
 use Rattle.lists.specs.Links.{Table}
-use Rattle.log.specs.declared.Refusal as of-log
-use Rattle.log.specs.declared.Refusal.TheVariants as logged
+use Rattle.message_log.specs.declared.Refusal as of-log
+use Rattle.message_log.specs.declared.Refusal.TheVariants as logged
 use Rattle.actor.specs.declared.question.Asked.{Asked}
 use Rattle.actor.specs.Entry.{Messages, Arrival, keep_of}
 use Rattle.turn.specs.State.{Pool, State, with_store, with_links, with_rows}

@@ -3,9 +3,9 @@
 -- refused with r exactly where its table says r is `by_the_table`, in crates/theorem/proofs/Refusals.
 use Rattle.std.specs.Prelude.{◌≡◌, Bool, true, false, not, ◌&&◌, ◌||◌, List, [], ◌∷◌, ◌++◌, ℕ, ◌+◌, ◌-◌, ◌^◌, eqb, ltb, leb, length, take}
 use Rattle.text.specs.Format.{record_line}
-use Rattle.log.specs.Opening.{read_file, all_fit, RECORDS, NAME, BODY}
-use Rattle.log.specs.Opened.{sized}
-use Rattle.log.specs.Log.{new_message}
+use Rattle.message_log.specs.Opening.{read_file, all_fit, RECORDS, NAME, BODY}
+use Rattle.message_log.specs.Opened.{sized}
+use Rattle.message_log.specs.Log.{new_message}
 use Rattle.lists.specs.Links.{pick, Table, FREE, len_of, INBOX, LISTS, ENTRIES, SLOTS, GROUPS}
 use Rattle.actor.specs.declared.message.Caller.{Caller}
 use Rattle.actor.specs.declared.message.Caller.TheVariants as caller

@@ -82,17 +82,17 @@ pub fn number(r: Refusal) -> u64
 }
 
 // The log's refusal as the pool's.
-pub fn log_refusal(r: log::Refusal) -> Refusal
+pub fn log_refusal(r: message_log::Refusal) -> Refusal
     ensures { result ≡ log_refusal r }
 {
     match r {
-        log::Refusal::Sizes => Refusal::Sizes,
-        log::Refusal::LastId => Refusal::LastId,
-        log::Refusal::TooMuch => Refusal::TooMuch,
-        log::Refusal::TooLong => Refusal::TooLong,
-        log::Refusal::Full => Refusal::TooMany,
-        log::Refusal::NoId => Refusal::NoId,
-        log::Refusal::NoRoom => Refusal::NoRoom,
+        message_log::Refusal::Sizes => Refusal::Sizes,
+        message_log::Refusal::LastId => Refusal::LastId,
+        message_log::Refusal::TooMuch => Refusal::TooMuch,
+        message_log::Refusal::TooLong => Refusal::TooLong,
+        message_log::Refusal::Full => Refusal::TooMany,
+        message_log::Refusal::NoId => Refusal::NoId,
+        message_log::Refusal::NoRoom => Refusal::NoRoom,
     }
 }
 

@@ -17,7 +17,7 @@ use crate::answer;
 use crate::answer::Answer;
 use actor::question::{Asked, Outcome, Question, Who};
 use lists::Found;
-use log::Order;
+use message_log::Order;
 
 // Which answer, and its values a, b and c.
 

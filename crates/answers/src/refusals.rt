@@ -17,7 +17,7 @@ use group::settings::GroupRow;
 use group::{roster, settings as group_settings};
 use lists::LinkRow;
 use lists::keys::KeyRow;
-use log::{BODY, NAME};
+use message_log::{BODY, NAME};
 use points::words;
 use points::words::{AtKind, Where};
 use settings::ranges as limits;

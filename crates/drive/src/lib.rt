@@ -28,7 +28,7 @@ use group::roster;
 use group::settings::GroupRow;
 use lists::keys::KeyRow;
 use lists::{Found, LinkRow};
-use log::{RECORDS, RecordRow, STORE};
+use message_log::{RECORDS, RecordRow, STORE};
 use pool::{admit, calls, open};
 use settings::ranges::Settings;
 use turn::state::PoolCells;

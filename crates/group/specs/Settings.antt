@@ -1,7 +1,7 @@
 -- A group's settings as cells; the group of a message's name, in an entry of the body store or as bytes; and whether
 -- the program of a name is loaded.
 use Rattle.std.specs.Prelude.{Bool, true, false, ◌&&◌, List, [], ℕ, zero, suc, ◌+◌, ◌*◌, eqb, ltb, leb, length, get_or}
-use Rattle.log.specs.Opening.{NAME, ENTRY}
+use Rattle.message_log.specs.Opening.{NAME, ENTRY}
 use Rattle.lists.specs.Links.{pick, Table, ENTRIES}
 use Rattle.actor.specs.Actors.{bool_of}
 use Rattle.group.specs.declared.settings.Group.{Group}

@@ -13,7 +13,7 @@ ghost use Rattle.group.specs.Settings.{
 };
 
 use actor::message;
-use log::{ENTRY, NAME};
+use message_log::{ENTRY, NAME};
 
 // A group's row, as it is lent: the numbers of a `Group`, in order, the length of its name, and its 32 bytes.
 pub type GroupRow = [u64; 37];

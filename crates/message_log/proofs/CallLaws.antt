@@ -15,26 +15,26 @@ use Rattle.text.specs.Line.{put, done, retry, read_line}
 use Rattle.text.specs.Bytes.{Free, write}
 use Rattle.text.proofs.FormatLaws.{record_text_free, print_id_free, retry_text_free}
 use Rattle.text.proofs.WriteLaws.{length_write, write_write, take_written, drop_written, part_written}
-use Rattle.log.specs.declared.Order.{Order}
-use Rattle.log.specs.declared.Order.TheVariants.{Append, Replace, Flush}
-use Rattle.log.specs.declared.Refusal.{Refusal}
-use Rattle.log.specs.declared.Refusal.TheVariants.{TooLong, Full, NoId, NoRoom}
-use Rattle.log.specs.declared.Answer.TheVariants.{Ordered}
-use Rattle.log.specs.declared.Due.TheVariants as due
-use Rattle.log.specs.Stands.{Stands}
-use Rattle.log.specs.Opening.{insert, remove, retried, Read, take_in, fits, image}
-use Rattle.log.specs.Log.{Wal, turned_away, extended, compacted, with_record, logged, new_message, append_refusal}
-use Rattle.log.specs.Log.{appended, append_of, open_rows, find_row, without_row, keeps, marked_done, mark_found}
-use Rattle.log.specs.Log.{mark_of, nothing_due, with_tried, retry_written, retried_at, retry_found}
-use Rattle.log.specs.Log.{counts_tries, retry_of, sync_log}
-use Rattle.log.specs.Recovery.{LogCall, append, mark, sync, Called, by_append, by_mark, by_sync, did_call, Sent}
-use Rattle.log.specs.Recovery as calls
-use Rattle.log.specs.Recovery.{appending, replacing, flushing, sent, call_effect}
-use Rattle.log.proofs.OpeningLaws.{read_line_record, read_line_done, read_line_retry, insert_last, image_snoc}
-use Rattle.log.proofs.OpeningLaws.{and_left, and_right, untried_lines}
-use Rattle.log.proofs.Steps.{Laid, laid, extended_stands, logged_stands, compacted_bytes, compacted_stands}
-use Rattle.log.proofs.Steps.{known_below, without_stands, tried_laid}
-use Rattle.log.proofs.SearchLaws.{open_finds}
+use Rattle.message_log.specs.declared.Order.{Order}
+use Rattle.message_log.specs.declared.Order.TheVariants.{Append, Replace, Flush}
+use Rattle.message_log.specs.declared.Refusal.{Refusal}
+use Rattle.message_log.specs.declared.Refusal.TheVariants.{TooLong, Full, NoId, NoRoom}
+use Rattle.message_log.specs.declared.Answer.TheVariants.{Ordered}
+use Rattle.message_log.specs.declared.Due.TheVariants as due
+use Rattle.message_log.specs.Stands.{Stands}
+use Rattle.message_log.specs.Opening.{insert, remove, retried, Read, take_in, fits, image}
+use Rattle.message_log.specs.Log.{Wal, turned_away, extended, compacted, with_record, logged, new_message, append_refusal}
+use Rattle.message_log.specs.Log.{appended, append_of, open_rows, find_row, without_row, keeps, marked_done, mark_found}
+use Rattle.message_log.specs.Log.{mark_of, nothing_due, with_tried, retry_written, retried_at, retry_found}
+use Rattle.message_log.specs.Log.{counts_tries, retry_of, sync_log}
+use Rattle.message_log.specs.Recovery.{LogCall, append, mark, sync, Called, by_append, by_mark, by_sync, did_call, Sent}
+use Rattle.message_log.specs.Recovery as calls
+use Rattle.message_log.specs.Recovery.{appending, replacing, flushing, sent, call_effect}
+use Rattle.message_log.proofs.OpeningLaws.{read_line_record, read_line_done, read_line_retry, insert_last, image_snoc}
+use Rattle.message_log.proofs.OpeningLaws.{and_left, and_right, untried_lines}
+use Rattle.message_log.proofs.Steps.{Laid, laid, extended_stands, logged_stands, compacted_bytes, compacted_stands}
+use Rattle.message_log.proofs.Steps.{known_below, without_stands, tried_laid}
+use Rattle.message_log.proofs.SearchLaws.{open_finds}
 
 -- what a reader of the file would have: the messages, and the next id
 abbrev pub held : Wal → List Message → Read

@@ -10,22 +10,22 @@ use lib.Seq.{length-take-le}
 use Rattle.text.specs.Format.{Message}
 use Rattle.text.specs.Bytes.{write}
 use Rattle.text.proofs.WriteLaws.{take_written, length_write}
-use Rattle.log.specs.declared.Refusal.{Refusal}
-use Rattle.log.specs.declared.Refusal.TheVariants.{Sizes, LastId, TooMuch}
-use Rattle.log.specs.declared.Order.TheVariants.{Replace}
-use Rattle.log.specs.declared.Answer.TheVariants.{Ordered, Refused}
-use Rattle.log.specs.declared.Answered.{Answered}
-use Rattle.log.specs.declared.opening.LeftRows.{LeftRows}
-use Rattle.log.specs.declared.opening.LeftRows.TheVariants.{NoNext, Many, Rows}
-use Rattle.log.specs.declared.opening.Decision.{Decision}
-use Rattle.log.specs.declared.opening.Decision.TheVariants.{Refuse, Accept}
-use Rattle.log.specs.Opening.{read_file, all_fit, refused, opened, judge, opening, image}
-use Rattle.log.specs.Opened.{Opened, sized, stored, left_row, rows_from, no_counters, opened_log_by, open_log}
-use Rattle.log.specs.Scan.{row_message, row_messages, LeftIn, AllRows, Accepted, Decided, Imaged, imaged, fit_left}
-use Rattle.log.specs.Scan.{from_store}
-use Rattle.log.proofs.Room.{image_short}
-use Rattle.log.proofs.OpenLaws.{Sized, sized_all}
-use Rattle.log.proofs.StoreLaws.{stored_long, read_back, left_fit}
+use Rattle.message_log.specs.declared.Refusal.{Refusal}
+use Rattle.message_log.specs.declared.Refusal.TheVariants.{Sizes, LastId, TooMuch}
+use Rattle.message_log.specs.declared.Order.TheVariants.{Replace}
+use Rattle.message_log.specs.declared.Answer.TheVariants.{Ordered, Refused}
+use Rattle.message_log.specs.declared.Answered.{Answered}
+use Rattle.message_log.specs.declared.opening.LeftRows.{LeftRows}
+use Rattle.message_log.specs.declared.opening.LeftRows.TheVariants.{NoNext, Many, Rows}
+use Rattle.message_log.specs.declared.opening.Decision.{Decision}
+use Rattle.message_log.specs.declared.opening.Decision.TheVariants.{Refuse, Accept}
+use Rattle.message_log.specs.Opening.{read_file, all_fit, refused, opened, judge, opening, image}
+use Rattle.message_log.specs.Opened.{Opened, sized, stored, left_row, rows_from, no_counters, opened_log_by, open_log}
+use Rattle.message_log.specs.Scan.{row_message, row_messages, LeftIn, AllRows, Accepted, Decided, Imaged, imaged, fit_left}
+use Rattle.message_log.specs.Scan.{from_store}
+use Rattle.message_log.proofs.Room.{image_short}
+use Rattle.message_log.proofs.OpenLaws.{Sized, sized_all}
+use Rattle.message_log.proofs.StoreLaws.{stored_long, read_back, left_fit}
 
 module _ (file : List ℕ) where
   refuse_id : 2 ^ 64 ≤ (read_file file).next → opening file ≡ refused LastId

@@ -16,9 +16,9 @@ use Rattle.text.specs.declared.escape.Measure.{Measure}
 use Rattle.text.proofs.LineLaws.{name_read, body_read}
 use Rattle.text.proofs.AnswerLaws.{filled_part, filled_answer}
 use Rattle.text.proofs.WriteLaws.{length_write}
-use Rattle.log.specs.declared.opening.Lengths.{Lengths}
-use Rattle.log.specs.Scan.{fit_line, measured_len, lengths_of}
-use Rattle.log.proofs.OpeningLaws.{and_left, and_right}
+use Rattle.message_log.specs.declared.opening.Lengths.{Lengths}
+use Rattle.message_log.specs.Scan.{fit_line, measured_len, lengths_of}
+use Rattle.message_log.proofs.OpeningLaws.{and_left, and_right}
 
 -- a field of the line at a place, unescaped
 field_at : (P : Line → List ℕ) (file line field : List ℕ) (at : ℕ) → line ≡ first_text (lines (drop at file))

@@ -7,11 +7,11 @@ use borrow.Rule.Slice.PartMut.{put_mid, same_len_mid}
 use lib.ListN.{length, take, drop, length-append, length-map}
 use lib.Seq.{length-take-le, take-append-add, take-append-le}
 use Rattle.text.specs.Format.{Message, lines}
-use Rattle.log.specs.declared.opening.Pass.{Pass}
-use Rattle.log.specs.Opening.{Rising, read_file, nothing_read}
-use Rattle.log.specs.Scan.{row_message, row_messages, Window, Passed}
-use Rattle.log.proofs.OpeningLaws.{Rising-low, Rising-le, read_lines_in_order}
-use Rattle.log.proofs.ScanLaws.{map_append}
+use Rattle.message_log.specs.declared.opening.Pass.{Pass}
+use Rattle.message_log.specs.Opening.{Rising, read_file, nothing_read}
+use Rattle.message_log.specs.Scan.{row_message, row_messages, Window, Passed}
+use Rattle.message_log.proofs.OpeningLaws.{Rising-low, Rising-le, read_lines_in_order}
+use Rattle.message_log.proofs.ScanLaws.{map_append}
 
 -- two ways to part a rising list at the same id are one
 parted : (x x' y y' : List Message) (a b top top' : ℕ) → Rising a x b → Rising a x' b → Rising b y top

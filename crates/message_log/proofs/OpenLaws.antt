@@ -11,15 +11,15 @@ use lib.Seq.{length-take-le}
 use Rattle.text.specs.Format.{lines}
 use Rattle.text.specs.Bytes.{write}
 use Rattle.text.proofs.WriteLaws.{length_write, take_written}
-use Rattle.log.specs.declared.Order.TheVariants.{Replace}
-use Rattle.log.specs.Stands.{Stands, Tabled}
-use Rattle.log.specs.Opening.{Read, nothing_read, read_file, opened, opening, image}
-use Rattle.log.specs.Log.{Wal}
-use Rattle.log.specs.Opened.{sized, rows_from, opened_log_by, open_log}
-use Rattle.log.specs.Recovery.{sent, replacing, opened_wal}
-use Rattle.log.proofs.OpeningLaws.{read_lines_in_order, read_lines_tries, and_left, and_right, judge_opened}
-use Rattle.log.proofs.Room.{image_short}
-use Rattle.log.proofs.TabledLaws.{small_few, tabled_image, rows_from_lem}
+use Rattle.message_log.specs.declared.Order.TheVariants.{Replace}
+use Rattle.message_log.specs.Stands.{Stands, Tabled}
+use Rattle.message_log.specs.Opening.{Read, nothing_read, read_file, opened, opening, image}
+use Rattle.message_log.specs.Log.{Wal}
+use Rattle.message_log.specs.Opened.{sized, rows_from, opened_log_by, open_log}
+use Rattle.message_log.specs.Recovery.{sent, replacing, opened_wal}
+use Rattle.message_log.proofs.OpeningLaws.{read_lines_in_order, read_lines_tries, and_left, and_right, judge_opened}
+use Rattle.message_log.proofs.Room.{image_short}
+use Rattle.message_log.proofs.TabledLaws.{small_few, tabled_image, rows_from_lem}
 
 -- the lent sizes are right
 pub record Sized (log n store table left : ℕ) : Type 0 where

@@ -18,9 +18,9 @@ use Rattle.text.proofs.FormatLaws.{unescape_escape, fields_record, fields_done, 
 use Rattle.text.proofs.FormatLaws.{retry_text_free}
 use Rattle.text.proofs.FormatLaws.{lines_line, lines_torn}
 use Rattle.text.proofs.Spelling.{read_id_print_id, line_spelled}
-use Rattle.log.specs.Stands.{Small, Tries}
-use Rattle.log.specs.Opening.{insert, remove, tried_times, retried, Read, take_in, read_lines, fits, all_fit, Rising}
-use Rattle.log.specs.Opening.{opened, judge, image}
+use Rattle.message_log.specs.Stands.{Small, Tries}
+use Rattle.message_log.specs.Opening.{insert, remove, tried_times, retried, Read, take_in, read_lines, fits, all_fit, Rising}
+use Rattle.message_log.specs.Opening.{opened, judge, image}
 
 pub read_line_record : (m : Message) → m.id < 2 ^ 64 → read_line (record_text m) ≡ put (tried_times m 0)
 unfolding read_line read_fields put_of

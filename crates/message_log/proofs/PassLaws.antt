@@ -12,14 +12,14 @@ use Rattle.text.specs.declared.lines.NextLine.{NextLine}
 use Rattle.text.specs.declared.lines.Line.{Line}
 use Rattle.text.specs.declared.lines.Line.TheVariants.{At, End}
 use Rattle.text.proofs.NextLaws.{found, no_line, next_at_none}
-use Rattle.log.specs.declared.opening.Passing.{Passing}
-use Rattle.log.specs.declared.opening.Taken.{Taken}
-use Rattle.log.specs.declared.opening.Taken.TheVariants.{Next, Over}
-use Rattle.log.specs.Scan.{pass_rows, going, pass_begun, CanTake, TookNextLine, Scanned}
-use Rattle.log.specs.Opening.{read_file}
-use Rattle.log.proofs.ScanLaws.{rows_rise, Tracked, tracked_begin, tracked_end, tracked_line, next_lines_lem}
-use Rattle.log.proofs.ScanLaws.{next_file, next_none, next_line, next_over}
-use Rattle.log.proofs.RowLaws.{took_next, took_over}
+use Rattle.message_log.specs.declared.opening.Passing.{Passing}
+use Rattle.message_log.specs.declared.opening.Taken.{Taken}
+use Rattle.message_log.specs.declared.opening.Taken.TheVariants.{Next, Over}
+use Rattle.message_log.specs.Scan.{pass_rows, going, pass_begun, CanTake, TookNextLine, Scanned}
+use Rattle.message_log.specs.Opening.{read_file}
+use Rattle.message_log.proofs.ScanLaws.{rows_rise, Tracked, tracked_begin, tracked_end, tracked_line, next_lines_lem}
+use Rattle.message_log.proofs.ScanLaws.{next_file, next_none, next_line, next_over}
+use Rattle.message_log.proofs.RowLaws.{took_next, took_over}
 
 abbrev bit : Bool → ℕ
 bit true = 1

@@ -13,26 +13,26 @@ use lib.ListN.{length, take, drop}
 use lib.Seq.{take-nil, length-take-le}
 use Rattle.text.specs.Format.{Message, record_line, done_line, retry_line}
 use Rattle.text.proofs.WriteLaws.{drop_write}
-use Rattle.log.specs.declared.Order.{Order}
-use Rattle.log.specs.declared.Refusal.{Refusal}
-use Rattle.log.specs.Opening.{Read, Opening, refused, opened, opening, image}
-use Rattle.log.specs.Log.{Wal, open_rows, new_message, append_refusal, appended, append_judged, append_of, search_row}
-use Rattle.log.specs.Log.{without_row, keeps, marked_done, mark_found, mark_of, with_tried, retry_written, retried_at}
-use Rattle.log.specs.Log.{retry_found, counts_tries, retry_of, sync_log}
-use Rattle.log.specs.Opened.{Opened, sized, opened_log_by, open_judged, open_log}
-use Rattle.log.specs.Recovery.{LogCall, append, mark, sync, order_of_answer, ordered_due, by_sync, did_call, Cut}
-use Rattle.log.specs.Recovery.{Status, retry}
-use Rattle.log.specs.Recovery.{settled, waits, lost, LogWorld, issue, issued, called, Event, call, stored, failed}
-use Rattle.log.specs.Recovery.{step_log, run_log, begin_log, stored_order, failed_order, firm_moment, confirm}
-use Rattle.log.specs.Recovery.{replacing}
-use Rattle.log.specs.Recovery.{Recovers, Recoverable, TailKept, TailKeptThrough}
-use Rattle.log.specs.Stands.{Stands, Standing}
-use Rattle.log.proofs.OpenLaws.{sized_all, sized_true, open_accepts, image_fits, opened_long, opened_stands}
-use Rattle.log.proofs.OpenLaws.{opened_sent}
-use Rattle.log.proofs.RecoveryLaws.{ReadBack, stands_fit, stored_replace, whole_image, Sound, waiting}
-use Rattle.log.proofs.RecoveryLaws.{step_sound, run_sound, sound_reads, sound_stands}
-use Rattle.log.proofs.WalLaws.{sync_clean}
-use Rattle.log.proofs.CallLaws.{ActsBy, acts}
+use Rattle.message_log.specs.declared.Order.{Order}
+use Rattle.message_log.specs.declared.Refusal.{Refusal}
+use Rattle.message_log.specs.Opening.{Read, Opening, refused, opened, opening, image}
+use Rattle.message_log.specs.Log.{Wal, open_rows, new_message, append_refusal, appended, append_judged, append_of, search_row}
+use Rattle.message_log.specs.Log.{without_row, keeps, marked_done, mark_found, mark_of, with_tried, retry_written, retried_at}
+use Rattle.message_log.specs.Log.{retry_found, counts_tries, retry_of, sync_log}
+use Rattle.message_log.specs.Opened.{Opened, sized, opened_log_by, open_judged, open_log}
+use Rattle.message_log.specs.Recovery.{LogCall, append, mark, sync, order_of_answer, ordered_due, by_sync, did_call, Cut}
+use Rattle.message_log.specs.Recovery.{Status, retry}
+use Rattle.message_log.specs.Recovery.{settled, waits, lost, LogWorld, issue, issued, called, Event, call, stored, failed}
+use Rattle.message_log.specs.Recovery.{step_log, run_log, begin_log, stored_order, failed_order, firm_moment, confirm}
+use Rattle.message_log.specs.Recovery.{replacing}
+use Rattle.message_log.specs.Recovery.{Recovers, Recoverable, TailKept, TailKeptThrough}
+use Rattle.message_log.specs.Stands.{Stands, Standing}
+use Rattle.message_log.proofs.OpenLaws.{sized_all, sized_true, open_accepts, image_fits, opened_long, opened_stands}
+use Rattle.message_log.proofs.OpenLaws.{opened_sent}
+use Rattle.message_log.proofs.RecoveryLaws.{ReadBack, stands_fit, stored_replace, whole_image, Sound, waiting}
+use Rattle.message_log.proofs.RecoveryLaws.{step_sound, run_sound, sound_reads, sound_stands}
+use Rattle.message_log.proofs.WalLaws.{sync_clean}
+use Rattle.message_log.proofs.CallLaws.{ActsBy, acts}
 
 -- the accepted opening
 module _ (log : List ℕ) (n : ℕ) (store : List ℕ) (table left : List (List ℕ)) (r : Read) (s : sized (length log) n

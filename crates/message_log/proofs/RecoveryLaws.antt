@@ -12,18 +12,18 @@ use lib.Seq.{drop-append-le, drop_at}
 use Rattle.text.specs.Format.{LF, Message, line, lines}
 use Rattle.text.specs.Line.{read_line}
 use Rattle.text.specs.Bytes.{Free}
-use Rattle.log.specs.declared.Order.{Order}
-use Rattle.log.specs.Stands.{Small, Tries, Stands, Standing}
-use Rattle.log.specs.Opening.{Rising, Read, take_in, read_lines, nothing_read, read_file, opened, opening, image}
-use Rattle.log.specs.Log.{Wal}
-use Rattle.log.specs.Recovery.{LogCall, did_call, Sent, appending, replacing, flushing, sent, settled, waits, lost}
-use Rattle.log.specs.Recovery.{Disk, Cut, confirm, firm_moment, LogWorld, call_effect, issue, issued, called}
-use Rattle.log.specs.Recovery.{stored_order}
-use Rattle.log.specs.Recovery.{failed_order, Event, call, stored, failed, step_log, run_log, Possible}
-use Rattle.log.proofs.OpeningLaws.{joined, FreeAll, read_joined, joined_snoc, FreeAll-snoc, read_lines_append}
-use Rattle.log.proofs.OpeningLaws.{lefts, lefts_snoc, Accepted, Accepted-snoc, take_lines, judge_good, texts}
-use Rattle.log.proofs.OpeningLaws.{image_joined, texts_free, read_texts_left, read_texts_next}
-use Rattle.log.proofs.CallLaws.{held, Takes, Kind, appends, replaces, flushes, ActsBy, acts}
+use Rattle.message_log.specs.declared.Order.{Order}
+use Rattle.message_log.specs.Stands.{Small, Tries, Stands, Standing}
+use Rattle.message_log.specs.Opening.{Rising, Read, take_in, read_lines, nothing_read, read_file, opened, opening, image}
+use Rattle.message_log.specs.Log.{Wal}
+use Rattle.message_log.specs.Recovery.{LogCall, did_call, Sent, appending, replacing, flushing, sent, settled, waits, lost}
+use Rattle.message_log.specs.Recovery.{Disk, Cut, confirm, firm_moment, LogWorld, call_effect, issue, issued, called}
+use Rattle.message_log.specs.Recovery.{stored_order}
+use Rattle.message_log.specs.Recovery.{failed_order, Event, call, stored, failed, step_log, run_log, Possible}
+use Rattle.message_log.proofs.OpeningLaws.{joined, FreeAll, read_joined, joined_snoc, FreeAll-snoc, read_lines_append}
+use Rattle.message_log.proofs.OpeningLaws.{lefts, lefts_snoc, Accepted, Accepted-snoc, take_lines, judge_good, texts}
+use Rattle.message_log.proofs.OpeningLaws.{image_joined, texts_free, read_texts_left, read_texts_next}
+use Rattle.message_log.proofs.CallLaws.{held, Takes, Kind, appends, replaces, flushes, ActsBy, acts}
 
 -- what is held can be written and read again
 pub record Fit (h : Read) : Type 0 where

@@ -9,15 +9,15 @@ use lib.ListN.{length}
 use Rattle.text.specs.Format
 use Rattle.text.specs.Line
 use Rattle.text.specs.Bytes
-use Rattle.log.specs.Opening
-use Rattle.log.specs.Opened
-use Rattle.log.specs.Log
-use Rattle.log.specs.Log.{Wal, with_tried, retry_written, retried_at}
-use Rattle.log.specs.Recovery
-use Rattle.log.specs.RowEnds
-use Rattle.log.specs.RowEnds.{all_true}
-use Rattle.log.specs.Retries
-use Rattle.log.specs.Retries.{RetryAsAsked, retry_asked, retry_files, retry_calls}
+use Rattle.message_log.specs.Opening
+use Rattle.message_log.specs.Opened
+use Rattle.message_log.specs.Log
+use Rattle.message_log.specs.Log.{Wal, with_tried, retry_written, retried_at}
+use Rattle.message_log.specs.Recovery
+use Rattle.message_log.specs.RowEnds
+use Rattle.message_log.specs.RowEnds.{all_true}
+use Rattle.message_log.specs.Retries
+use Rattle.message_log.specs.Retries.{RetryAsAsked, retry_asked, retry_files, retry_calls}
 
 pub retry_as_asked : RetryAsAsked
 unfolding retried_at retry_asked retry_written with_tried

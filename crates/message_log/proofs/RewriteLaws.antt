@@ -14,10 +14,10 @@ use Rattle.text.specs.Format.{attempts_line, retry_line}
 use Rattle.text.specs.declared.escape.Measure.TheVariants.{Len, Over}
 use Rattle.text.proofs.WriteLaws.{write_none, write_one, write_write, write_cons, length_write, length_part}
 use Rattle.text.proofs.WriteLaws.{take_write, take_written, drop_write, part_below}
-use Rattle.log.specs.Log.{row, row_id, row_at, row_len, row_tried, row_tries, row_span, rewritable, rows_image}
-use Rattle.log.specs.Log.{rows_placed, Rewritten, rewrite}
-use Rattle.log.specs.Rewrite.{rows_span, image_len, Packable, packed, rows_packed, NoHigher}
-use Rattle.log.proofs.TableLaws.{next_row, last_row}
+use Rattle.message_log.specs.Log.{row, row_id, row_at, row_len, row_tried, row_tries, row_span, rewritable, rows_image}
+use Rattle.message_log.specs.Log.{rows_placed, Rewritten, rewrite}
+use Rattle.message_log.specs.Rewrite.{rows_span, image_len, Packable, packed, rows_packed, NoHigher}
+use Rattle.message_log.proofs.TableLaws.{next_row, last_row}
 
 sum_less : (a b : ℕ) → a + b - a ≡ b
 sum_less a b = omega arith

@@ -17,9 +17,9 @@ use Rattle.text.specs.Bytes.{Free}
 use Rattle.text.specs.Line.{Line, put, done, retry, other, put_of, done_of, attempts_of, read_fields, read_line}
 use Rattle.text.proofs.FormatLaws.{split_some}
 use Rattle.text.proofs.Spelling.{read_id_length, line_spelled, two_put}
-use Rattle.log.specs.Opening.{insert, remove, tried_times, retried, Rising, Read, take_in, read_lines, nothing_read}
-use Rattle.log.specs.Opening.{read_file, image}
-use Rattle.log.proofs.OpeningLaws.{InOrder, take_in_in_order, retried_above, untried_lines}
+use Rattle.message_log.specs.Opening.{insert, remove, tried_times, retried, Rising, Read, take_in, read_lines, nothing_read}
+use Rattle.message_log.specs.Opening.{read_file, image}
+use Rattle.message_log.proofs.OpeningLaws.{InOrder, take_in_in_order, retried_above, untried_lines}
 
 -- escaped bytes
 escape_byte_two : (b : ℕ) → length (escape_byte b) ≤ 2

@@ -1,14 +1,14 @@
 -- The row ends, the refusals' examples and the spellings of ids, computed.
 use mathlib.Core.Path.{◌≡◌, refl}
 use mathlib.Core.Bool.{true}
-use Rattle.log.specs.RowEnds.{row_ends, refusals, spellings, all_true}
+use Rattle.message_log.specs.RowEnds.{row_ends, refusals, spellings, all_true}
 use Rattle.text.specs.Format
 use Rattle.text.specs.Line
 use Rattle.text.specs.Bytes
-use Rattle.log.specs.Opening
-use Rattle.log.specs.Log
-use Rattle.log.specs.Recovery
-use Rattle.log.specs.RowEnds
+use Rattle.message_log.specs.Opening
+use Rattle.message_log.specs.Log
+use Rattle.message_log.specs.Recovery
+use Rattle.message_log.specs.RowEnds
 
 pub row_ends_lem : all_true row_ends ≡ true
 unfolding RowEnds.all_true RowEnds.row_ends RowEnds.same_bytes RowEnds.ids RowEnds.leaves RowEnds.message RowEnds.row_name

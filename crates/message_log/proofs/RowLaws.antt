@@ -12,15 +12,15 @@ use lib.Seq.{take_all, take-suc, take-append-le, drop-append-le, length-take-le,
 use lib.Seq.{drop-cons}
 use Rattle.text.specs.Line.{Line}
 use Rattle.text.specs.Bytes.{write, part}
-use Rattle.log.specs.declared.opening.Pass.{Pass}
-use Rattle.log.specs.declared.opening.Taken.{Taken}
-use Rattle.log.specs.declared.opening.Taken.TheVariants.{Next, Over}
-use Rattle.log.specs.Log.{row, row_id, row_at, row_len, find_row}
-use Rattle.log.specs.Scan.{RowsRise, insert_row, remove_row, PlaceOf, holds, TookNext, TookLine, LastId, Passed}
-use Rattle.log.specs.Scan.{retry_row, Scanned}
-use Rattle.log.specs.Opening.{read_file}
-use Rattle.log.proofs.OpeningLaws.{and_left, and_right}
-use Rattle.log.proofs.TableLaws.{taken_out, put_in}
+use Rattle.message_log.specs.declared.opening.Pass.{Pass}
+use Rattle.message_log.specs.declared.opening.Taken.{Taken}
+use Rattle.message_log.specs.declared.opening.Taken.TheVariants.{Next, Over}
+use Rattle.message_log.specs.Log.{row, row_id, row_at, row_len, find_row}
+use Rattle.message_log.specs.Scan.{RowsRise, insert_row, remove_row, PlaceOf, holds, TookNext, TookLine, LastId, Passed}
+use Rattle.message_log.specs.Scan.{retry_row, Scanned}
+use Rattle.message_log.specs.Opening.{read_file}
+use Rattle.message_log.proofs.OpeningLaws.{and_left, and_right}
+use Rattle.message_log.proofs.TableLaws.{taken_out, put_in}
 
 row_step : (e x : List ℕ) (xs : List (List ℕ)) → row_id x < row_id e → insert_row e (x ∷ xs) ≡ x ∷ insert_row e xs
 unfolding insert_row

@@ -10,15 +10,15 @@ use lib.ListN.{length, drop}
 use Rattle.text.specs.Format.{Message, lines}
 use Rattle.text.specs.Line.{Line, put, done, retry, other, read_line, first_text, line_at}
 use Rattle.text.proofs.Spelling.{line_spelled}
-use Rattle.log.specs.declared.opening.Pass.{Pass}
-use Rattle.log.specs.Opening.{insert, remove, tried_times, retried, Rising, Read, read_lines, read_file, take_in}
-use Rattle.log.specs.Opening.{nothing_read}
-use Rattle.log.specs.Log.{row, row_id}
-use Rattle.log.specs.Scan.{row_message, row_messages, RowsRise, insert_row, remove_row, retry_row}
-use Rattle.log.specs.Scan.{Took, beneath, beyond}
-use Rattle.log.specs.Scan.{set_in, evicted, pass_rows, TookNext, LastId, Window}
-use Rattle.log.proofs.OpeningLaws.{Rising-low, Rising-le, Rising-insert, Rising-remove, Rising-retried}
-use Rattle.log.proofs.OpeningLaws.{retried_append}
+use Rattle.message_log.specs.declared.opening.Pass.{Pass}
+use Rattle.message_log.specs.Opening.{insert, remove, tried_times, retried, Rising, Read, read_lines, read_file, take_in}
+use Rattle.message_log.specs.Opening.{nothing_read}
+use Rattle.message_log.specs.Log.{row, row_id}
+use Rattle.message_log.specs.Scan.{row_message, row_messages, RowsRise, insert_row, remove_row, retry_row}
+use Rattle.message_log.specs.Scan.{Took, beneath, beyond}
+use Rattle.message_log.specs.Scan.{set_in, evicted, pass_rows, TookNext, LastId, Window}
+use Rattle.message_log.proofs.OpeningLaws.{Rising-low, Rising-le, Rising-insert, Rising-remove, Rising-retried}
+use Rattle.message_log.proofs.OpeningLaws.{retried_append}
 
 pub rows_rise : (file : List ℕ) (rs : List (List ℕ)) (low high : ℕ) → Rising low (row_messages file rs) high
     → RowsRise low rs high

@@ -11,11 +11,11 @@ use lib.Dec.{eqb, ltb}
 use lib.ListN.{length, take, get_or, length-take}
 use lib.Seq.{get_or-take}
 use Rattle.text.specs.Format.{Message, record_line}
-use Rattle.log.specs.Opening.{Rising}
-use Rattle.log.specs.Log.{row_id, row_at, Wal, open_rows, find_row, middle, halved, search_row}
-use Rattle.log.specs.Scan.{RowsRise}
-use Rattle.log.specs.Stands.{Stands, Tabled}
-use Rattle.log.proofs.RowLaws.{rise_at}
+use Rattle.message_log.specs.Opening.{Rising}
+use Rattle.message_log.specs.Log.{row_id, row_at, Wal, open_rows, find_row, middle, halved, search_row}
+use Rattle.message_log.specs.Scan.{RowsRise}
+use Rattle.message_log.specs.Stands.{Stands, Tabled}
+use Rattle.message_log.proofs.RowLaws.{rise_at}
 
 -- ---- on any rows
 

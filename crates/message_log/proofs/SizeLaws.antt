@@ -4,7 +4,7 @@ use mathlib.Core.Bool.{false}
 use Prim.Native.Nat.{ℕ, ◌≤◌, ◌<◌}
 use borrow.Author.Tests.{le-leb, lt-leb, eq-eqb, ne_eqb}
 use lib.Dec.{eqb}
-use Rattle.log.specs.Opened.{sized}
+use Rattle.message_log.specs.Opened.{sized}
 
 module _ (log n store table left : ℕ) where
   pub short_log : log < 16 → sized log n store table left ≡ false

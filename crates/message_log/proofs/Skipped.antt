@@ -4,8 +4,8 @@ use mathlib.Core.List.{List, [], ◌∷◌, ◌++◌}
 use Prim.Native.Nat.{ℕ}
 use Rattle.text.specs.Line.{other, read_line}
 use Rattle.text.proofs.Spelling.{unspelled}
-use Rattle.log.specs.Opening.{Read, take_in, read_lines, nothing_read, read_file, judge, opening}
-use Rattle.log.specs.Skipped.{SkippedIsAbsent}
+use Rattle.message_log.specs.Opening.{Read, take_in, read_lines, nothing_read, read_file, judge, opening}
+use Rattle.message_log.specs.Skipped.{SkippedIsAbsent}
 
 -- wherever it stands, reading goes on from it as from before it
 silent : (r : Read) (before after : List (List ℕ)) (text : List ℕ) → read_line text ≡ other

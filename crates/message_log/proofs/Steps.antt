@@ -13,20 +13,20 @@ use lib.Seq.{take-suc-set, length-take-le, get_or-take, take-set-lt}
 use Rattle.text.specs.Format.{ATTEMPTS, Message, record_text, record_line, retry_line, attempts_line, message_lines}
 use Rattle.text.specs.Bytes.{write, part}
 use Rattle.text.proofs.WriteLaws.{length_write, take_written, part_written, length_part}
-use Rattle.log.specs.Stands.{Small, Tries, Stands, Tabled}
-use Rattle.log.specs.Opening.{Rising, remove, tried_times, retried, fits, image, RECORDS}
-use Rattle.log.specs.Log.{row, row_id, row_at, row_len, row_tried, row_tries, row_span, Wal, open_rows, extended}
-use Rattle.log.specs.Log.{rewritable, rewrite, compacted, with_record, logged, find_row, without_row, with_tried}
-use Rattle.log.specs.Opened.{rows_from}
-use Rattle.log.specs.Scan.{retry_row}
-use Rattle.log.proofs.TableLaws.{taken_out}
-use Rattle.log.proofs.RowLaws.{retry_found_lem}
-use Rattle.log.proofs.SearchLaws.{tabled_rise}
-use Rattle.log.proofs.OpeningLaws.{Rising-low, Rising-snoc, Rising-remove, Rising-le, Small-remove, Small-snoc}
-use Rattle.log.proofs.OpeningLaws.{Tries-remove, Tries-snoc, Tries-retried, Rising-retried, Small-retried}
-use Rattle.log.proofs.OpeningLaws.{length_retried, retried_above, image_snoc, untried_lines}
-use Rattle.log.proofs.TabledLaws.{small_few, tabled_start, tabled_behind, tabled_snoc, tabled_retried, span_is}
-use Rattle.log.proofs.TabledLaws.{tabled_image, rows_from_lem, rows_image_lem, rows_placed_lem, rows_rewritable}
+use Rattle.message_log.specs.Stands.{Small, Tries, Stands, Tabled}
+use Rattle.message_log.specs.Opening.{Rising, remove, tried_times, retried, fits, image, RECORDS}
+use Rattle.message_log.specs.Log.{row, row_id, row_at, row_len, row_tried, row_tries, row_span, Wal, open_rows, extended}
+use Rattle.message_log.specs.Log.{rewritable, rewrite, compacted, with_record, logged, find_row, without_row, with_tried}
+use Rattle.message_log.specs.Opened.{rows_from}
+use Rattle.message_log.specs.Scan.{retry_row}
+use Rattle.message_log.proofs.TableLaws.{taken_out}
+use Rattle.message_log.proofs.RowLaws.{retry_found_lem}
+use Rattle.message_log.proofs.SearchLaws.{tabled_rise}
+use Rattle.message_log.proofs.OpeningLaws.{Rising-low, Rising-snoc, Rising-remove, Rising-le, Small-remove, Small-snoc}
+use Rattle.message_log.proofs.OpeningLaws.{Tries-remove, Tries-snoc, Tries-retried, Rising-retried, Small-retried}
+use Rattle.message_log.proofs.OpeningLaws.{length_retried, retried_above, image_snoc, untried_lines}
+use Rattle.message_log.proofs.TabledLaws.{small_few, tabled_start, tabled_behind, tabled_snoc, tabled_retried, span_is}
+use Rattle.message_log.proofs.TabledLaws.{tabled_image, rows_from_lem, rows_image_lem, rows_placed_lem, rows_rewritable}
 
 -- the state stands for these messages, but for how much room the file has for them
 pub record Laid (w : Wal) (ms : List Message) : Type 0 where

@@ -17,11 +17,11 @@ use Rattle.text.specs.Answers.{Filled, filled}
 use Rattle.text.specs.declared.escape.Measure.{Measure}
 use Rattle.text.proofs.WriteLaws.{write_none, write_cons, length_write, take_write, take_written, write_write}
 use Rattle.text.proofs.AnswerLaws.{filled_part, filled_answer}
-use Rattle.log.specs.Opening.{fits, all_fit, image}
-use Rattle.log.specs.Log.{row, row_at}
-use Rattle.log.specs.Opened.{stored_at, stored, left_row, rows_from}
-use Rattle.log.specs.Scan.{row_message, row_messages, fit_line, fit_left, from_store, Imaged, imaged, measured_len}
-use Rattle.log.proofs.OpeningLaws.{and_left, and_right}
+use Rattle.message_log.specs.Opening.{fits, all_fit, image}
+use Rattle.message_log.specs.Log.{row, row_at}
+use Rattle.message_log.specs.Opened.{stored_at, stored, left_row, rows_from}
+use Rattle.message_log.specs.Scan.{row_message, row_messages, fit_line, fit_left, from_store, Imaged, imaged, measured_len}
+use Rattle.message_log.proofs.OpeningLaws.{and_left, and_right}
 
 -- the limits, row by row
 module _ (file : List ℕ) (rs : List (List ℕ)) where

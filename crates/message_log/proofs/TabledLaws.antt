@@ -10,13 +10,13 @@ use lib.ListN.{length, length-append}
 use Rattle.text.specs.Format.{Message, record_text, record_line, attempts_line, message_lines}
 use Rattle.text.specs.Bytes.{write, part}
 use Rattle.text.proofs.WriteLaws.{length_write, write_write, part_below, part_above, part_written}
-use Rattle.log.specs.Stands.{Small, Tabled}
-use Rattle.log.specs.Opening.{retried, image}
-use Rattle.log.specs.Log.{row, row_id, row_at, row_len, row_tried, row_tries, row_span, rewritable, rows_image}
-use Rattle.log.specs.Log.{rows_placed}
-use Rattle.log.specs.Scan.{retry_row}
-use Rattle.log.specs.Opened.{rows_from}
-use Rattle.log.proofs.OpeningLaws.{and_left}
+use Rattle.message_log.specs.Stands.{Small, Tabled}
+use Rattle.message_log.specs.Opening.{retried, image}
+use Rattle.message_log.specs.Log.{row, row_id, row_at, row_len, row_tried, row_tries, row_span, rewritable, rows_image}
+use Rattle.message_log.specs.Log.{rows_placed}
+use Rattle.message_log.specs.Scan.{retry_row}
+use Rattle.message_log.specs.Opened.{rows_from}
+use Rattle.message_log.proofs.OpeningLaws.{and_left}
 
 pub small_few : (ms : List Message) → Small ms → length ms ≤ 256
 small_few ms s = leb-true (length ms) 256 (and_left (leb (length ms) 256) _ s)

@@ -10,21 +10,21 @@ use lib.Dec.{leb, ltb}
 use lib.ListN.{length, take, set, get_or}
 use Rattle.text.specs.Format.{ATTEMPTS, Message, record_line, done_line, retry_line}
 use Rattle.text.specs.Bytes.{write}
-use Rattle.log.specs.declared.Counters.{Counters}
-use Rattle.log.specs.declared.Order.TheVariants.{Append, Replace, Flush}
-use Rattle.log.specs.declared.Refusal.TheVariants.{TooLong, Full, NoId, NoRoom}
-use Rattle.log.specs.declared.Answer.TheVariants.{Ordered}
-use Rattle.log.specs.declared.Due.TheVariants as due
-use Rattle.log.specs.declared.AnsweredDue.{AnsweredDue}
-use Rattle.log.specs.declared.table.Found.TheVariants.{At, Missing}
-use Rattle.log.specs.Log.{row, Wal, state, open_rows, DidAppend, DidMark, turned_away, extended, Rewritten}
-use Rattle.log.specs.Log.{rewrite, row_at, row_len, row_tries, nothing_due, with_tried, retry_written, retried_at}
-use Rattle.log.specs.Log.{retry_found, counts_tries, retry_of}
-use Rattle.log.specs.Log.{compacted, with_record, logged, new_message, append_refusal, appended, append_of}
-use Rattle.log.specs.Log.{search_row, without_row, keeps, grown, line_behind, all_anew, marked_done, mark_of, sync_log}
-use Rattle.log.specs.Table.{found_of}
-use Rattle.log.specs.Opening.{fits}
-use Rattle.log.proofs.OpeningLaws.{and_left}
+use Rattle.message_log.specs.declared.Counters.{Counters}
+use Rattle.message_log.specs.declared.Order.TheVariants.{Append, Replace, Flush}
+use Rattle.message_log.specs.declared.Refusal.TheVariants.{TooLong, Full, NoId, NoRoom}
+use Rattle.message_log.specs.declared.Answer.TheVariants.{Ordered}
+use Rattle.message_log.specs.declared.Due.TheVariants as due
+use Rattle.message_log.specs.declared.AnsweredDue.{AnsweredDue}
+use Rattle.message_log.specs.declared.table.Found.TheVariants.{At, Missing}
+use Rattle.message_log.specs.Log.{row, Wal, state, open_rows, DidAppend, DidMark, turned_away, extended, Rewritten}
+use Rattle.message_log.specs.Log.{rewrite, row_at, row_len, row_tries, nothing_due, with_tried, retry_written, retried_at}
+use Rattle.message_log.specs.Log.{retry_found, counts_tries, retry_of}
+use Rattle.message_log.specs.Log.{compacted, with_record, logged, new_message, append_refusal, appended, append_of}
+use Rattle.message_log.specs.Log.{search_row, without_row, keeps, grown, line_behind, all_anew, marked_done, mark_of, sync_log}
+use Rattle.message_log.specs.Table.{found_of}
+use Rattle.message_log.specs.Opening.{fits}
+use Rattle.message_log.proofs.OpeningLaws.{and_left}
 
 -- whether a done line is appended
 module _ (limit long live to : ℕ) where

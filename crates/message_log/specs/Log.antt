@@ -4,16 +4,16 @@ use Rattle.std.specs.Prelude.{Bool, true, false, ◌&&◌, List, [], ◌∷◌, 
 use Rattle.std.proofs.Math.Option.{Option, none, some}
 use Rattle.text.specs.Format.{Message, ATTEMPTS, untried, record_line, done_line, retry_line, attempts_line}
 use Rattle.text.specs.Bytes.{write, part}
-use Rattle.log.specs.declared.Counters.{Counters}
-use Rattle.log.specs.declared.Order.TheVariants.{Append, Replace, Flush}
-use Rattle.log.specs.declared.Refusal.{Refusal}
-use Rattle.log.specs.declared.Refusal.TheVariants.{Sizes, LastId, TooMuch, TooLong, Full, NoId, NoRoom}
-use Rattle.log.specs.declared.Answer.{Answer}
-use Rattle.log.specs.declared.Answer.TheVariants.{Ordered, Refused}
-use Rattle.log.specs.declared.Due.{Due}
-use Rattle.log.specs.declared.Due.TheVariants as due
-use Rattle.log.specs.declared.AnsweredDue.{AnsweredDue}
-use Rattle.log.specs.Opening.{fits}
+use Rattle.message_log.specs.declared.Counters.{Counters}
+use Rattle.message_log.specs.declared.Order.TheVariants.{Append, Replace, Flush}
+use Rattle.message_log.specs.declared.Refusal.{Refusal}
+use Rattle.message_log.specs.declared.Refusal.TheVariants.{Sizes, LastId, TooMuch, TooLong, Full, NoId, NoRoom}
+use Rattle.message_log.specs.declared.Answer.{Answer}
+use Rattle.message_log.specs.declared.Answer.TheVariants.{Ordered, Refused}
+use Rattle.message_log.specs.declared.Due.{Due}
+use Rattle.message_log.specs.declared.Due.TheVariants as due
+use Rattle.message_log.specs.declared.AnsweredDue.{AnsweredDue}
+use Rattle.message_log.specs.Opening.{fits}
 
 -- the number of each refusal (docs/RULES.md, 8; a full table: 256 messages are logged and live)
 abbrev pub log_number_of : Refusal → ℕ

@@ -2,14 +2,14 @@
 use Rattle.std.specs.Prelude.{Bool, true, false, ◌&&◌, List, [], ◌∷◌, map, ℕ, suc, ◌+◌, ◌*◌, eqb, leb, length, take}
 use Rattle.text.specs.Format.{Message, record_line, message_lines}
 use Rattle.text.specs.Bytes.{write}
-use Rattle.log.specs.declared.Counters.{Counters}
-use Rattle.log.specs.declared.Order.TheVariants.{Replace}
-use Rattle.log.specs.declared.Refusal.{Refusal}
-use Rattle.log.specs.declared.Refusal.TheVariants.{Sizes}
-use Rattle.log.specs.declared.Answer.TheVariants.{Ordered, Refused}
-use Rattle.log.specs.declared.Answered.{Answered}
-use Rattle.log.specs.Opening.{Read, Opening, refused, opened, opening, image, RECORDS, NAME, ENTRY, STORE}
-use Rattle.log.specs.Log.{row}
+use Rattle.message_log.specs.declared.Counters.{Counters}
+use Rattle.message_log.specs.declared.Order.TheVariants.{Replace}
+use Rattle.message_log.specs.declared.Refusal.{Refusal}
+use Rattle.message_log.specs.declared.Refusal.TheVariants.{Sizes}
+use Rattle.message_log.specs.declared.Answer.TheVariants.{Ordered, Refused}
+use Rattle.message_log.specs.declared.Answered.{Answered}
+use Rattle.message_log.specs.Opening.{Read, Opening, refused, opened, opening, image, RECORDS, NAME, ENTRY, STORE}
+use Rattle.message_log.specs.Log.{row}
 
 -- the log, the body store, the table of open records and the table of messages left, after the call; and its answer
 pub record Opened : Type 0 where

@@ -3,8 +3,8 @@
 use Rattle.std.specs.Prelude.{Bool, true, false, ◌&&◌, List, [], ◌∷◌, ◌++◌, ℕ, suc, ◌^◌, ◌≤◌, max, eqb, leb, ltb, length}
 use Rattle.text.specs.Format.{Message, lines, message_lines}
 use Rattle.text.specs.Line.{Line, put, done, retry, other, read_line}
-use Rattle.log.specs.declared.Refusal.{Refusal}
-use Rattle.log.specs.declared.Refusal.TheVariants.{LastId, TooMuch}
+use Rattle.message_log.specs.declared.Refusal.{Refusal}
+use Rattle.message_log.specs.declared.Refusal.TheVariants.{LastId, TooMuch}
 
 -- the most messages that a log may leave: the rows of its tables
 abbrev pub RECORDS : ℕ

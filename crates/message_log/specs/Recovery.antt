@@ -5,16 +5,16 @@ use Rattle.std.proofs.Math.Option.{Option, none, some}
 use mathlib.Core.List.{List, [], ◌∷◌, ◌++◌, Memᴰ}
 use Rattle.text.specs.Format.{Message}
 use Rattle.text.specs.Bytes.{part}
-use Rattle.log.specs.declared.Order.{Order}
-use Rattle.log.specs.declared.Order.TheVariants.{Append, Replace, Flush}
-use Rattle.log.specs.declared.Answer.{Answer}
-use Rattle.log.specs.declared.Answer.TheVariants.{Ordered, Refused}
-use Rattle.log.specs.declared.Due.{Due}
-use Rattle.log.specs.declared.Due.TheVariants as due
-use Rattle.log.specs.declared.AnsweredDue.{AnsweredDue}
-use Rattle.log.specs.Opening.{Read, remove, retried, RECORDS, STORE}
-use Rattle.log.specs.Log.{Wal, DidAppend, DidMark, new_message, append_of, mark_of, retry_of, sync_log}
-use Rattle.log.specs.Opened.{Opened, opened_log_by, open_log}
+use Rattle.message_log.specs.declared.Order.{Order}
+use Rattle.message_log.specs.declared.Order.TheVariants.{Append, Replace, Flush}
+use Rattle.message_log.specs.declared.Answer.{Answer}
+use Rattle.message_log.specs.declared.Answer.TheVariants.{Ordered, Refused}
+use Rattle.message_log.specs.declared.Due.{Due}
+use Rattle.message_log.specs.declared.Due.TheVariants as due
+use Rattle.message_log.specs.declared.AnsweredDue.{AnsweredDue}
+use Rattle.message_log.specs.Opening.{Read, remove, retried, RECORDS, STORE}
+use Rattle.message_log.specs.Log.{Wal, DidAppend, DidMark, new_message, append_of, mark_of, retry_of, sync_log}
+use Rattle.message_log.specs.Opened.{Opened, opened_log_by, open_log}
 
 -- the calls: log a message, mark an id done, write an id's attempts, sync
 pub data LogCall : Type 0 where

@@ -4,13 +4,13 @@ use Rattle.std.specs.Prelude.{◌≡◌, Bool, true, false, ◌&&◌, List, [], 
 use Rattle.std.proofs.Math.Option.{Option, none, some}
 use Rattle.text.specs.Format.{TAB, Message, line, retry_line}
 use Rattle.text.specs.Bytes.{part}
-use Rattle.log.specs.declared.Order.{Order}
-use Rattle.log.specs.declared.Order.TheVariants.{Append, Replace, Flush}
-use Rattle.log.specs.Opening.{Opening, refused, opened, opening}
-use Rattle.log.specs.Log.{Wal, DidMark, nothing_due, line_behind, all_anew, with_tried, retried_at}
-use Rattle.log.specs.Opened.{opened_log_by}
-use Rattle.log.specs.Recovery.{LogCall, mark, retry, did_call, opened_wal}
-use Rattle.log.specs.RowEnds.{same_bytes, leaves, row_name, empty_log, wal_after, two, respelled, last_id}
+use Rattle.message_log.specs.declared.Order.{Order}
+use Rattle.message_log.specs.declared.Order.TheVariants.{Append, Replace, Flush}
+use Rattle.message_log.specs.Opening.{Opening, refused, opened, opening}
+use Rattle.message_log.specs.Log.{Wal, DidMark, nothing_due, line_behind, all_anew, with_tried, retried_at}
+use Rattle.message_log.specs.Opened.{opened_log_by}
+use Rattle.message_log.specs.Recovery.{LogCall, mark, retry, did_call, opened_wal}
+use Rattle.message_log.specs.RowEnds.{same_bytes, leaves, row_name, empty_log, wal_after, two, respelled, last_id}
 
 -- ---- the rule, test by test
 

@@ -4,7 +4,7 @@ use Rattle.std.specs.Prelude.{true, false, List, [], ◌∷◌, ◌++◌, ℕ, �
 use Rattle.text.specs.Bytes.{part}
 use Rattle.text.specs.declared.escape.Measure.{Measure}
 use Rattle.text.specs.declared.escape.Measure.TheVariants.{Len, Over}
-use Rattle.log.specs.Log.{row, row_id, row_at, row_len, row_tried, row_span, rewritable}
+use Rattle.message_log.specs.Log.{row, row_id, row_at, row_len, row_tried, row_span, rewritable}
 
 -- how long the rows' records and retry lines are together
 unfoldable pub rows_span : List (List ℕ) → ℕ

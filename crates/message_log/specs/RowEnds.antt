@@ -2,11 +2,11 @@
 -- as another; and files that have ids in other spellings, as a third.
 use Rattle.std.specs.Prelude.{Bool, true, false, ◌&&◌, List, [], ◌∷◌, ◌++◌, ℕ, zero, suc, eqb, length, replicate}
 use Rattle.text.specs.Format.{TAB, Message, untried, record_line, line, unescape}
-use Rattle.log.specs.declared.Answer.{Answer}
-use Rattle.log.specs.declared.Answer.TheVariants.{Ordered, Refused}
-use Rattle.log.specs.Opening.{Opening, refused, opened, opening, image}
-use Rattle.log.specs.Log.{Wal, log_number_of, append_of}
-use Rattle.log.specs.Recovery.{LogCall, append, mark, did_call}
+use Rattle.message_log.specs.declared.Answer.{Answer}
+use Rattle.message_log.specs.declared.Answer.TheVariants.{Ordered, Refused}
+use Rattle.message_log.specs.Opening.{Opening, refused, opened, opening, image}
+use Rattle.message_log.specs.Log.{Wal, log_number_of, append_of}
+use Rattle.message_log.specs.Recovery.{LogCall, append, mark, did_call}
 
 -- two texts (or lists of ids) are the same: equally long, and equal at every place
 unfoldable pub same_bytes : List ℕ → List ℕ → Bool

@@ -5,21 +5,21 @@ use Rattle.text.specs.Format.{Message}
 use Rattle.text.specs.Line.{Line, read_line, put, done, retry, other, name_of, body_of, line_at}
 use Rattle.text.specs.Bytes.{write, part}
 use Rattle.text.specs.declared.escape.Measure.{Measure}
-use Rattle.log.specs.declared.opening.Lengths.{Lengths}
-use Rattle.log.specs.declared.opening.Pass.{Pass}
-use Rattle.log.specs.declared.opening.Taken.{Taken}
-use Rattle.log.specs.declared.opening.Taken.TheVariants.{Next, Over}
-use Rattle.log.specs.declared.opening.Passing.{Passing}
+use Rattle.message_log.specs.declared.opening.Lengths.{Lengths}
+use Rattle.message_log.specs.declared.opening.Pass.{Pass}
+use Rattle.message_log.specs.declared.opening.Taken.{Taken}
+use Rattle.message_log.specs.declared.opening.Taken.TheVariants.{Next, Over}
+use Rattle.message_log.specs.declared.opening.Passing.{Passing}
 use Rattle.text.specs.declared.lines.Line as reader
 use Rattle.text.specs.declared.lines.Line.TheVariants.{At, End}
-use Rattle.log.specs.declared.opening.LeftRows.{LeftRows}
-use Rattle.log.specs.declared.opening.LeftRows.TheVariants.{NoNext, Many, Rows}
-use Rattle.log.specs.declared.opening.Decision.{Decision}
-use Rattle.log.specs.declared.opening.Decision.TheVariants.{Refuse, Accept}
-use Rattle.log.specs.Opening.{read_file, all_fit, Rising, refused, opened, opening, image, RECORDS, NAME, BODY}
-use Rattle.log.specs.Opening.{ENTRY}
-use Rattle.log.specs.Log.{row, row_id, row_at, row_len, row_tried}
-use Rattle.log.specs.Opened.{rows_from}
+use Rattle.message_log.specs.declared.opening.LeftRows.{LeftRows}
+use Rattle.message_log.specs.declared.opening.LeftRows.TheVariants.{NoNext, Many, Rows}
+use Rattle.message_log.specs.declared.opening.Decision.{Decision}
+use Rattle.message_log.specs.declared.opening.Decision.TheVariants.{Refuse, Accept}
+use Rattle.message_log.specs.Opening.{read_file, all_fit, Rising, refused, opened, opening, image, RECORDS, NAME, BODY}
+use Rattle.message_log.specs.Opening.{ENTRY}
+use Rattle.message_log.specs.Log.{row, row_id, row_at, row_len, row_tried}
+use Rattle.message_log.specs.Opened.{rows_from}
 use Rattle.text.specs.declared.escape.Measure.TheVariants as measure
 
 -- the message of a row: its id and its attempts, with the name and body of the line where it begins

@@ -2,7 +2,7 @@
 use Rattle.std.specs.Prelude.{◌≡◌, List, ◌∷◌, ◌++◌, ℕ}
 use Rattle.text.specs.Format.{lines}
 use Rattle.text.specs.Line.{Unspelled}
-use Rattle.log.specs.Opening.{opening}
+use Rattle.message_log.specs.Opening.{opening}
 
 -- a file with one more line, whose first field is the spelling of no id, opens as the file without it: the same
 -- messages left, the same next id, the same refusal

@@ -2,9 +2,9 @@
 use Rattle.std.specs.Prelude.{◌≡◌, true, ◌&&◌, List, [], ◌∷◌, ℕ, ◌+◌, ◌^◌, ◌≤◌, ◌<◌, leb, length}
 use Rattle.text.specs.Format.{Message, ATTEMPTS, record_line}
 use Rattle.text.specs.Bytes.{part}
-use Rattle.log.specs.Opening.{all_fit, Rising, image, RECORDS}
-use Rattle.log.specs.Log.{row, row_at, Wal, open_rows}
-use Rattle.log.specs.Recovery.{LogWorld}
+use Rattle.message_log.specs.Opening.{all_fit, Rising, image, RECORDS}
+use Rattle.message_log.specs.Log.{row, row_at, Wal, open_rows}
+use Rattle.message_log.specs.Recovery.{LogWorld}
 
 -- few enough and short enough
 abbrev pub Small : List Message → Type 0

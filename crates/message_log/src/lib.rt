@@ -10,7 +10,7 @@
 // (proofs/Recovery): after any list of calls with any arguments, wherever the power fails, the next opening hands back
 // exactly the messages of one moment no earlier than the last confirmed flush or replace.
 ghost use Rattle.std.specs.Prelude.{◌≡◌};
-ghost use Rattle.log.specs.Log.{log_number_of};
+ghost use Rattle.message_log.specs.Log.{log_number_of};
 
 pub mod opening; // opening.rt: a file read, decided on and written anew
 pub mod rewrite; // rewrite.rt: the log rewritten to its open records and their retry lines

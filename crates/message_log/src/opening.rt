@@ -3,14 +3,14 @@
 ghost use Rattle.std.specs.Prelude.{◌≡◌, true, map, suc, ◌+◌, ◌-◌, ◌^◌, ◌≤◌, ◌<◌, max, length, take};
 ghost use Rattle.text.specs.Bytes.{write};
 ghost use Rattle.text.specs.Line.{read_line, name_of, body_of, line_at};
-ghost use Rattle.log.specs.Opening.{read_file, all_fit, image};
-ghost use Rattle.log.specs.Opened.{sized, stored, left_row, no_counters, opened_log_by, open_log};
-ghost use Rattle.log.specs.Scan.{row_messages, RowsRise, PlaceOf, holds, measured_len, Took, pass_rows, remove_row};
-ghost use Rattle.log.specs.Scan.{retry_row, TookLine, CanTake, TookNextLine, going, pass_begun, Scanned};
-ghost use Rattle.log.specs.Scan.{LeftIn, Accepted};
-ghost use Rattle.log.specs.Scan.{Decided, fit_line, fit_left, from_store, imaged, lengths_of};
-ghost use Rattle.log.specs.Log.{row};
-ghost use Rattle.log.specs.declared.Answer.TheVariants.{Refused};
+ghost use Rattle.message_log.specs.Opening.{read_file, all_fit, image};
+ghost use Rattle.message_log.specs.Opened.{sized, stored, left_row, no_counters, opened_log_by, open_log};
+ghost use Rattle.message_log.specs.Scan.{row_messages, RowsRise, PlaceOf, holds, measured_len, Took, pass_rows, remove_row};
+ghost use Rattle.message_log.specs.Scan.{retry_row, TookLine, CanTake, TookNextLine, going, pass_begun, Scanned};
+ghost use Rattle.message_log.specs.Scan.{LeftIn, Accepted};
+ghost use Rattle.message_log.specs.Scan.{Decided, fit_line, fit_left, from_store, imaged, lengths_of};
+ghost use Rattle.message_log.specs.Log.{row};
+ghost use Rattle.message_log.specs.declared.Answer.TheVariants.{Refused};
 
 use crate::rewrite::put_tries;
 use crate::table::{Found, close_row, open_row, search_row, set_row};

@@ -4,8 +4,8 @@
 ghost use Rattle.std.specs.Prelude.{◌≡◌, ◌+◌, ◌≤◌, leb, length, take};
 ghost use Rattle.text.specs.Format.{attempts_line};
 ghost use Rattle.text.specs.Bytes.{write, part, Wrote};
-ghost use Rattle.log.specs.Log.{rows_image, rows_placed, rewrite};
-ghost use Rattle.log.specs.Rewrite.{image_len, packed, rows_packed, Packable, NoHigher, rows_span};
+ghost use Rattle.message_log.specs.Log.{rows_image, rows_placed, rewrite};
+ghost use Rattle.message_log.specs.Rewrite.{image_len, packed, rows_packed, Packable, NoHigher, rows_span};
 
 use crate::RecordRow;
 use text::escape::Measure;

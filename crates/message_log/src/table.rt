@@ -2,8 +2,8 @@
 // `count` rows are in use.
 ghost use Rattle.std.specs.Prelude.{◌≡◌, ◌∷◌, ◌+◌, ◌≤◌, ◌<◌, length, take, set};
 ghost use Rattle.text.specs.Bytes.{write, part};
-ghost use Rattle.log.specs.Log.{row, search_row};
-ghost use Rattle.log.specs.Table.{found_of};
+ghost use Rattle.message_log.specs.Log.{row, search_row};
+ghost use Rattle.message_log.specs.Table.{found_of};
 
 use crate::RecordRow;
 

@@ -3,10 +3,10 @@
 // (tools/stepped.py). The work is in `append_step`, `mark_step`, `retry_step` and `sync_step`, by value.
 ghost use Rattle.std.specs.Prelude.{◌≡◌, [], ◌+◌, ◌-◌, ◌^◌, ◌≤◌, ◌<◌, length, get_or, set};
 ghost use Rattle.text.specs.Format.{untried};
-ghost use Rattle.log.specs.Log.{state, row, row_at, row_len, row_tries, row_span, CanAppend, new_message, logged};
-ghost use Rattle.log.specs.Log.{appended, append_of, without_row, keeps, grown, all_anew, marked_done, mark_of};
-ghost use Rattle.log.specs.Log.{retry_written, retried_at, counts_tries, retry_of, sync_log};
-ghost use Rattle.log.specs.declared.Answer.TheVariants.{Refused};
+ghost use Rattle.message_log.specs.Log.{state, row, row_at, row_len, row_tries, row_span, CanAppend, new_message, logged};
+ghost use Rattle.message_log.specs.Log.{appended, append_of, without_row, keeps, grown, all_anew, marked_done, mark_of};
+ghost use Rattle.message_log.specs.Log.{retry_written, retried_at, counts_tries, retry_of, sync_log};
+ghost use Rattle.message_log.specs.declared.Answer.TheVariants.{Refused};
 
 use crate::rewrite::{compact, fits_behind, tries_len};
 use crate::table::{Found, close_row, search_row, set_row};

@@ -10,12 +10,12 @@ use lib.ListN.{length}
 use borrow.Author.Tests.{ltb-false, le-leb}
 use Rattle.lists.specs.Links.{INBOX}
 use Rattle.text.specs.Format.{record_line}
-use Rattle.log.specs.declared.Due.{Due}
-use Rattle.log.specs.declared.Due.TheVariants as due
-use Rattle.log.specs.declared.Refusal as of-log
-use Rattle.log.specs.declared.Refusal.TheVariants as logged
-use Rattle.log.specs.Opening.{fits}
-use Rattle.log.specs.Log.{DidAppend, new_message, append_refusal, append_judged, append_of}
+use Rattle.message_log.specs.declared.Due.{Due}
+use Rattle.message_log.specs.declared.Due.TheVariants as due
+use Rattle.message_log.specs.declared.Refusal as of-log
+use Rattle.message_log.specs.declared.Refusal.TheVariants as logged
+use Rattle.message_log.specs.Opening.{fits}
+use Rattle.message_log.specs.Log.{DidAppend, new_message, append_refusal, append_judged, append_of}
 use Rattle.actor.specs.declared.message.Caller.{Caller}
 use Rattle.actor.specs.declared.message.Caller.TheVariants as caller
 use Rattle.actor.specs.declared.message.CallerId.{CallerId}

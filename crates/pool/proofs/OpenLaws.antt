@@ -7,12 +7,12 @@ use lib.Dec.{ltb, leb}
 use lib.ListN.{length, replicate}
 use Rattle.lists.specs.Links.{Table, start_from}
 use Rattle.lists.specs.KeyLists.{blank_row}
-use Rattle.log.specs.declared.Order.{Order}
-use Rattle.log.specs.declared.Refusal as of-log
-use Rattle.log.specs.declared.Refusal.TheVariants as logged
-use Rattle.log.specs.Opening as of-file
-use Rattle.log.specs.Opening.{read_file, all_fit, judge, opening}
-use Rattle.log.specs.Opened as log
+use Rattle.message_log.specs.declared.Order.{Order}
+use Rattle.message_log.specs.declared.Refusal as of-log
+use Rattle.message_log.specs.declared.Refusal.TheVariants as logged
+use Rattle.message_log.specs.Opening as of-file
+use Rattle.message_log.specs.Opening.{read_file, all_fit, judge, opening}
+use Rattle.message_log.specs.Opened as log
 use Rattle.actor.specs.declared.question.Question.TheVariants as question
 use Rattle.actor.specs.declared.question.Asked.TheVariants as asked
 use Rattle.points.specs.declared.at.At.{At}

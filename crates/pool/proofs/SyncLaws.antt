@@ -1,11 +1,11 @@
 -- A sync by what the log had due: its order waits, or the pool is as it was.
 use mathlib.Core.Path.{◌≡◌, refl, sym, ap, ◌∙◌}
 use mathlib.Core.Bool.{true, false, false≢true}
-use Rattle.log.specs.declared.Counters.{Counters}
-use Rattle.log.specs.declared.Due.{Due}
-use Rattle.log.specs.declared.Due.TheVariants as due
-use Rattle.log.specs.declared.AnsweredDue.{AnsweredDue}
-use Rattle.log.specs.Log as log
+use Rattle.message_log.specs.declared.Counters.{Counters}
+use Rattle.message_log.specs.declared.Due.{Due}
+use Rattle.message_log.specs.declared.Due.TheVariants as due
+use Rattle.message_log.specs.declared.AnsweredDue.{AnsweredDue}
+use Rattle.message_log.specs.Log as log
 use Rattle.turn.specs.declared.state.OrderFor.TheVariants as orderFor
 use Rattle.turn.specs.State.{Pool, State, with_pool, with_disk, disk_for}
 use Rattle.turn.specs.Words.{is_due}

@@ -2,12 +2,12 @@
 -- caller waits for its outcome, and queued in the inbox.
 use Rattle.std.specs.Prelude.{List, ℕ}
 use Rattle.lists.specs.Links.{INBOX}
-use Rattle.log.specs.declared.LogId.{LogId}
-use Rattle.log.specs.declared.Answer as of-log
-use Rattle.log.specs.declared.Answer.TheVariants as logged
-use Rattle.log.specs.declared.Order.{Order}
-use Rattle.log.specs.Log as log
-use Rattle.log.specs.Log.{append_of}
+use Rattle.message_log.specs.declared.LogId.{LogId}
+use Rattle.message_log.specs.declared.Answer as of-log
+use Rattle.message_log.specs.declared.Answer.TheVariants as logged
+use Rattle.message_log.specs.declared.Order.{Order}
+use Rattle.message_log.specs.Log as log
+use Rattle.message_log.specs.Log.{append_of}
 use Rattle.actor.specs.declared.message.Caller.{Caller}
 use Rattle.actor.specs.declared.message.Caller.TheVariants as caller
 use Rattle.actor.specs.declared.message.CallerId.{CallerId}

@@ -1,10 +1,10 @@
 -- Turn, reply, sync and close: refused by its table (crates/answers/specs/Refusals), or with its effect.
 use Rattle.std.specs.Prelude.{Bool, true, false, List, ℕ}
 use Rattle.lists.specs.Links.{pick, PENDING, ENTRIES}
-use Rattle.log.specs.declared.Due.{Due}
-use Rattle.log.specs.declared.Due.TheVariants as due
-use Rattle.log.specs.declared.AnsweredDue.{AnsweredDue}
-use Rattle.log.specs.Log as log
+use Rattle.message_log.specs.declared.Due.{Due}
+use Rattle.message_log.specs.declared.Due.TheVariants as due
+use Rattle.message_log.specs.declared.AnsweredDue.{AnsweredDue}
+use Rattle.message_log.specs.Log as log
 use Rattle.actor.specs.declared.message.Caller.TheVariants as caller
 use Rattle.actor.specs.declared.message.Logged.TheVariants as id
 use Rattle.actor.specs.declared.question.Reply.{Reply}

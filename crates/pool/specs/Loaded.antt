@@ -1,7 +1,7 @@
 -- What an admission and the routing of its message have in common: they mean one group. The theorem is `one_group`, in
 -- proofs/Names.antt; crates/theorem/specs/Rail says of every admission that it goes by this.
 use Rattle.std.specs.Prelude.{◌≡◌, List, ℕ, ◌≤◌, ◌<◌, length}
-use Rattle.log.specs.Opening.{NAME, STORE}
+use Rattle.message_log.specs.Opening.{NAME, STORE}
 use Rattle.lists.specs.Links.{Table, ENTRIES}
 use Rattle.actor.specs.Messages.{message_at}
 use Rattle.group.specs.declared.settings.Named.TheVariants.{Group}

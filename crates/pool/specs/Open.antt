@@ -3,12 +3,12 @@
 use Rattle.std.specs.Prelude.{[], ◌∷◌, ℕ, length, replicate}
 use Rattle.lists.specs.Links.{Table, start_from}
 use Rattle.lists.specs.KeyLists.{blank_row}
-use Rattle.log.specs.declared.Counters.{Counters}
-use Rattle.log.specs.declared.Order.{Order}
-use Rattle.log.specs.declared.Answer as of-log
-use Rattle.log.specs.declared.Answer.TheVariants as logged
-use Rattle.log.specs.Opened as log
-use Rattle.log.specs.Opening.{RECORDS}
+use Rattle.message_log.specs.declared.Counters.{Counters}
+use Rattle.message_log.specs.declared.Order.{Order}
+use Rattle.message_log.specs.declared.Answer as of-log
+use Rattle.message_log.specs.declared.Answer.TheVariants as logged
+use Rattle.message_log.specs.Opened as log
+use Rattle.message_log.specs.Opening.{RECORDS}
 use Rattle.actor.specs.declared.question.Question.TheVariants as question
 use Rattle.actor.specs.declared.question.Asked.TheVariants as asked
 use Rattle.settings.specs.declared.ranges.Settings.{Settings}

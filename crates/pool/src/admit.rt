@@ -13,7 +13,7 @@ use answers::refusals::Check;
 use answers::{answer, refusals};
 use group::settings::GroupRow;
 use lists::LinkRow;
-use log::{LogId, RecordRow};
+use message_log::{LogId, RecordRow};
 use turn::state::PoolCells;
 use turn::{logged, state};
 

@@ -20,7 +20,7 @@ use answers::{answer, refusals};
 use group::settings::GroupRow;
 use lists::LinkRow;
 use lists::keys::KeyRow;
-use log::RecordRow;
+use message_log::RecordRow;
 use points::words;
 use points::words::{AtKind, Where};
 use turn::state::PoolCells;

@@ -12,8 +12,8 @@ use answers::{answer, refusals};
 use group::settings::GroupRow;
 use lists::LinkRow;
 use lists::keys::KeyRow;
-use log::opening::LeftRow;
-use log::{Counters, Order, RECORDS, RecordRow, opening};
+use message_log::opening::LeftRow;
+use message_log::{Counters, Order, RECORDS, RecordRow, opening};
 use settings::ranges::Settings;
 use settings::{ranges, tables};
 use turn::state;
@@ -150,10 +150,10 @@ pub fn open(
             let counters = s.counters;
             let answer = s.answer;
             match answer {
-                log::Answer::Ordered(order) => open_pool(
+                message_log::Answer::Ordered(order) => open_pool(
                     pool, settings, given, &left, counters, order, groups, links, rows, keys,
                 ),
-                log::Answer::Refused(r) => {
+                message_log::Answer::Refused(r) => {
                     no_pool(pool);
                     answer::refused(answer::log_refusal(r))
                 }

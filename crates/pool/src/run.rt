@@ -13,7 +13,7 @@ use group::roster;
 use group::settings::GroupRow;
 use lists::keys::KeyRow;
 use lists::{LinkRow, keys};
-use log::RecordRow;
+use message_log::RecordRow;
 use turn::state::PoolCells;
 use turn::{state, step};
 

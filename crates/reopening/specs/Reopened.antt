@@ -1,13 +1,13 @@
 -- What the log reader makes of a log.
 use Rattle.std.specs.Prelude.{◌≡◌, List, [], ◌∷◌, ℕ, length, replicate}
-use Rattle.log.specs.Log.{log_number_of}
-use Rattle.log.specs.Opened.{Opened, open_log}
-use Rattle.log.specs.declared.Order.TheVariants.{Append, Replace, Flush}
-use Rattle.log.specs.declared.Answer.{Answer}
+use Rattle.message_log.specs.Log.{log_number_of}
+use Rattle.message_log.specs.Opened.{Opened, open_log}
+use Rattle.message_log.specs.declared.Order.TheVariants.{Append, Replace, Flush}
+use Rattle.message_log.specs.declared.Answer.{Answer}
 use Rattle.reopening.specs.declared.Reopened.{Reopened}
 use Rattle.reopening.specs.declared.Reopened.TheVariants.{Log, Refused}
-use Rattle.log.specs.declared.Answer.TheVariants as answer
-use Rattle.log.specs.Opening.{RECORDS, STORE}
+use Rattle.message_log.specs.declared.Answer.TheVariants as answer
+use Rattle.message_log.specs.Opening.{RECORDS, STORE}
 
 -- the length of the new log, or the number of the refusal; opening orders nothing but a replace
 abbrev pub reopened_by : Answer → Reopened

@@ -5,7 +5,7 @@ ghost use Rattle.std.specs.Prelude.{◌≡◌, length};
 ghost use Rattle.reopening.specs.Reopened.{reopen_of, reopened_by, OfSomeFile};
 
 use libc::STDOUT_FILENO;
-use log::{Answer, Order, RECORDS, STORE};
+use message_log::{Answer, Order, RECORDS, STORE};
 
 #[derive(Drop)]
 pub enum Reopened {
@@ -24,7 +24,7 @@ fn answered(a: Answer) -> Reopened
             Order::Replace(n) => Reopened::Log(n),
             Order::Flush => Reopened::Log(0),
         },
-        Answer::Refused(r) => Reopened::Refused(log::number(r)),
+        Answer::Refused(r) => Reopened::Refused(message_log::number(r)),
     }
 }
 
@@ -35,7 +35,7 @@ pub fn reopen(log: &mut [u8], n: usize) -> Reopened
     let mut store = [0u8; STORE];
     let mut records = [[0u64; 4]; RECORDS];
     let mut left = [[0u64; 4]; RECORDS];
-    let opened = log::opening::open_log(log, n, &mut store, &mut records, &mut left);
+    let opened = message_log::opening::open_log(log, n, &mut store, &mut records, &mut left);
     let answer = opened.answer;
     answered(answer)
 }

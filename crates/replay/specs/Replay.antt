@@ -2,7 +2,7 @@
 -- definitions run over them one after the other, each with what the one before left (`call_of`,
 -- crates/theorem/specs/Rail), and an entry written for each.
 use Rattle.std.specs.Prelude.{List, [], ◌∷◌, ℕ, zero, suc, ◌+◌, ◌-◌, eqb, ltb, length, take, replicate}
-use Rattle.log.specs.Opening.{RECORDS}
+use Rattle.message_log.specs.Opening.{RECORDS}
 use Rattle.group.specs.Roster.{ROWS}
 use Rattle.text.specs.Bytes.{part}
 use Rattle.lists.specs.Links.{pick, Table, LISTS, ENTRIES, SLOTS, GROUPS}

@@ -25,7 +25,7 @@ use answers::{answer, numbers};
 use group::settings::GroupRow;
 use lists::keys::KeyRow;
 use lists::{Found, LinkRow};
-use log::RecordRow;
+use message_log::RecordRow;
 use turn::state;
 use turn::state::PoolCells;
 use wire::output;

@@ -7,7 +7,7 @@ ghost use Rattle.std.specs.Prelude.{◌≡◌};
 ghost use Rattle.replay.specs.Replay.{replay_of};
 
 use group::roster;
-use log::RECORDS;
+use message_log::RECORDS;
 use wire::output;
 use wire::output::Done;
 

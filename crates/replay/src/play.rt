@@ -15,7 +15,7 @@ use answers::answer::{AnswerKind, Called};
 use group::settings::GroupRow;
 use lists::LinkRow;
 use lists::keys::KeyRow;
-use log::RecordRow;
+use message_log::RecordRow;
 use pool::{admit, calls, open};
 use settings::ranges::Settings;
 use turn::state::PoolCells;

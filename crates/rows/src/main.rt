@@ -4,7 +4,7 @@
 ghost use Rattle.std.specs.Prelude.{◌≤◌, length};
 
 use libc::{STDIN_FILENO, STDOUT_FILENO};
-use log::STORE;
+use message_log::STORE;
 use replay::replay;
 use wire::number::number_at;
 

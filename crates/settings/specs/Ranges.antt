@@ -1,6 +1,6 @@
 -- Settings: their ranges, and the groups' rows that a pool works with.
 use Rattle.std.specs.Prelude.{Bool, true, false, ◌&&◌, List, [], ◌∷◌, ℕ, eqb, ltb, leb, length, get_or, set, drop}
-use Rattle.log.specs.Opening.{NAME}
+use Rattle.message_log.specs.Opening.{NAME}
 use Rattle.lists.specs.Links.{pick, Table, ENTRIES, GROUPS, KEYS}
 use Rattle.settings.specs.declared.ranges.Settings.{Settings}
 

@@ -8,8 +8,8 @@ use actor::message;
 use actor::message::{Caller, Logged, MessageRow};
 use lists::LinkRow;
 use lists::keys::KeyRow;
-use log::LogId;
-use log::opening::LeftRow;
+use message_log::LogId;
+use message_log::opening::LeftRow;
 
 // Every list of keys is empty.
 pub fn blank_keys(keys: &mut [KeyRow])

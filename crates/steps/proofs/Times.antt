@@ -19,9 +19,9 @@ use Rattle.actor.specs.Actors.{actor_of, actor_onto, actor_at, put_actor, deadli
 use Rattle.steps.specs.Steps.{caller_first}
 use Rattle.steps.specs.StepEval.{deadline_from, eval_tell, eval_finish, eval_clocked, eval_started, eval_clock_reply}
 use Rattle.steps.specs.StepEval.{start_reply, step_eval}
-use Rattle.log.specs.RowEnds.{all_true}
-use Rattle.log.specs.RowEnds as Log
-use Rattle.log.proofs.RowEnds.{row_ends_lem}
+use Rattle.message_log.specs.RowEnds.{all_true}
+use Rattle.message_log.specs.RowEnds as Log
+use Rattle.message_log.proofs.RowEnds.{row_ends_lem}
 use Rattle.steps.specs.RowEnds.{begun, asked, deadlines, starred}
 use Rattle.steps.specs.Steps.{step_tables}
 

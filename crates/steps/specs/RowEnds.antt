@@ -2,7 +2,7 @@
 -- the deadline is 900,000,100; at it the run ends, one earlier it is resumed. Each test is a truth value that the
 -- definitions compute; proofs/Times.antt proves all of them as one conjunction.
 use Rattle.std.specs.Prelude.{Bool, true, false, List, [], ◌∷◌, ◌++◌, ℕ, eqb}
-use Rattle.log.specs.RowEnds as Log
+use Rattle.message_log.specs.RowEnds as Log
 use Rattle.lists.specs.Links.{pick, LISTS, Table, move_first, start_from, FREE, HAND}
 use Rattle.actor.specs.declared.message.Caller.TheVariants as caller
 use Rattle.actor.specs.declared.message.Logged.TheVariants as logged

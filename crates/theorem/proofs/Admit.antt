@@ -15,13 +15,13 @@ use Rattle.lists.specs.Links.{pick, Table, FREE, head_of, len_of, move_first, IN
 use Rattle.lists.specs.Family.{count, Moved}
 use Rattle.lists.proofs.Family.{length_view}
 use Rattle.lists.proofs.Moves.{move_first_lem}
-use Rattle.log.specs.declared.Order.{Order}
-use Rattle.log.specs.declared.Answer.TheVariants as logged
-use Rattle.log.specs.Log as log
-use Rattle.log.specs.Stands.{Stands}
-use Rattle.log.specs.Recovery as disk
-use Rattle.log.proofs.RecoveryLaws as sound
-use Rattle.log.proofs.Recovery.{call_tail}
+use Rattle.message_log.specs.declared.Order.{Order}
+use Rattle.message_log.specs.declared.Answer.TheVariants as logged
+use Rattle.message_log.specs.Log as log
+use Rattle.message_log.specs.Stands.{Stands}
+use Rattle.message_log.specs.Recovery as disk
+use Rattle.message_log.proofs.RecoveryLaws as sound
+use Rattle.message_log.proofs.Recovery.{call_tail}
 use Rattle.actor.specs.declared.message.Caller.{Caller}
 use Rattle.actor.specs.declared.message.Caller.TheVariants as caller
 use Rattle.actor.specs.declared.message.CallerId.{CallerId}

@@ -12,14 +12,14 @@ use borrow.Author.Tests.{eq-eqb, ne_eqb, not-false}
 use lib.ListN.{length, drop}
 use Rattle.text.specs.Format.{Message}
 use Rattle.lists.specs.Family.{count}
-use Rattle.log.specs.Opening.{remove, retried}
-use Rattle.log.specs.declared.Order.{Order}
+use Rattle.message_log.specs.Opening.{remove, retried}
+use Rattle.message_log.specs.declared.Order.{Order}
 use Rattle.actor.specs.Messages.{logged_number, message_at}
 use Rattle.actor.specs.declared.question.Reply.{Reply}
 use Rattle.turn.specs.declared.state.Disk.{Disk}
 use Rattle.turn.specs.declared.state.Disk.TheVariants as order
-use Rattle.log.specs.Recovery as disk
-use Rattle.log.proofs.RecoveryLaws as sound
+use Rattle.message_log.specs.Recovery as disk
+use Rattle.message_log.proofs.RecoveryLaws as sound
 use Rattle.theorem.specs.Handing.{ids_of}
 use Rattle.theorem.proofs.Steps.{pick_rule}
 use Rattle.turn.specs.declared.state.Limits.{Limits}

@@ -6,9 +6,9 @@ use mathlib.Core.List.{List, [], ◌∷◌}
 use Prim.Native.Nat.{ℕ}
 use native.Mathlib.Omega.{arith}
 use lib.ListN.{drop}
-use Rattle.log.specs.Log.{Wal}
-use Rattle.log.specs.Recovery as disk
-use Rattle.log.proofs.RecoveryLaws as log
+use Rattle.message_log.specs.Log.{Wal}
+use Rattle.message_log.specs.Recovery as disk
+use Rattle.message_log.proofs.RecoveryLaws as log
 use Rattle.turn.specs.declared.state.Limits.{Limits}
 use Rattle.answers.specs.Answers.{Did}
 use Rattle.theorem.specs.Rail.{Call, admit, turn, reply, sync, close, call_of, World, step, run}

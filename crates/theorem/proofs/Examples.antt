@@ -1,7 +1,7 @@
 -- The examples hold. Assumes nothing.
 use mathlib.Core.Path.{◌≡◌, refl}
 use mathlib.Core.Bool.{true}
-use Rattle.log.specs.RowEnds.{all_true, same_bytes}
+use Rattle.message_log.specs.RowEnds.{all_true, same_bytes}
 use Rattle.lists.specs.Links as links
 use Rattle.lists.specs.Family as family
 use Rattle.actor.specs.Messages as messages

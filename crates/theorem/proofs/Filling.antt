@@ -8,7 +8,7 @@ use native.Mathlib.Omega.{arith}
 use lib.ListN.{length, get_or, drop, length-set}
 use lib.Seq.{get_or-drop, drop-drop}
 use Rattle.text.specs.Format.{Message}
-use Rattle.log.specs.Opened.{left_row}
+use Rattle.message_log.specs.Opened.{left_row}
 use Rattle.lists.specs.Links.{LISTS, ENTRIES, FREE, Table, start_from, move_first, PENDING}
 use Rattle.lists.specs.Family.{up_from, view, Good, Moved}
 use Rattle.lists.proofs.Counts.{put, put_one, total_empty, total_single}

@@ -14,12 +14,12 @@ use Rattle.lists.specs.declared.keys.Key.{Key}
 use Rattle.lists.specs.declared.keys.Key.TheVariants as key
 use Rattle.lists.specs.Links.{pick, Table, GROUPS, KEYS, HAND, capped, first_of, hand_of}
 use Rattle.lists.specs.KeyLists.{keys_at, front_of}
-use Rattle.log.specs.Opening.{NAME}
-use Rattle.log.specs.declared.AnsweredDue.{AnsweredDue}
-use Rattle.log.specs.declared.Due.{Due}
-use Rattle.log.specs.declared.Due.TheVariants as due
-use Rattle.log.specs.Log as log
-use Rattle.log.proofs.OpeningLaws.{and_left, and_right}
+use Rattle.message_log.specs.Opening.{NAME}
+use Rattle.message_log.specs.declared.AnsweredDue.{AnsweredDue}
+use Rattle.message_log.specs.declared.Due.{Due}
+use Rattle.message_log.specs.declared.Due.TheVariants as due
+use Rattle.message_log.specs.Log as log
+use Rattle.message_log.proofs.OpeningLaws.{and_left, and_right}
 use Rattle.actor.specs.declared.question.Reply.{Reply}
 use Rattle.actor.specs.Messages.{message_at}
 use Rattle.points.specs.declared.at.At.{At}

@@ -7,9 +7,9 @@ use Prim.Native.Nat.{ℕ, suc, ◌+◌, ◌≤◌}
 use native.Mathlib.Omega.{arith}
 use lib.ListN.{length}
 use Rattle.text.specs.Format.{Message}
-use Rattle.log.specs.Opened.{stored}
-use Rattle.log.specs.Opening.{all_fit}
-use Rattle.log.proofs.StoreLaws.{fit_first}
+use Rattle.message_log.specs.Opened.{stored}
+use Rattle.message_log.specs.Opening.{all_fit}
+use Rattle.message_log.proofs.StoreLaws.{fit_first}
 use Rattle.lists.specs.declared.Found.TheVariants.{Entry}
 use Rattle.lists.specs.Links.{Table}
 use Rattle.lists.specs.Family.{up_from, view}

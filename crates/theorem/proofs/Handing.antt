@@ -7,10 +7,10 @@ use native.Mathlib.Omega.{arith}
 use lib.ListN.{length, replicate, drop}
 use Rattle.text.specs.Format.{Message}
 use Rattle.text.specs.Bytes.{write}
-use Rattle.log.specs.Opened.{stored, left_row}
-use Rattle.log.specs.Opening.{all_fit}
-use Rattle.log.specs.Scan.{from_store}
-use Rattle.log.proofs.StoreLaws.{read_back}
+use Rattle.message_log.specs.Opened.{stored, left_row}
+use Rattle.message_log.specs.Opening.{all_fit}
+use Rattle.message_log.specs.Scan.{from_store}
+use Rattle.message_log.proofs.StoreLaws.{read_back}
 use Rattle.lists.specs.Links.{Table, start_from}
 use Rattle.lists.specs.Family.{count, up_from}
 use Rattle.theorem.specs.Places.{id_count}

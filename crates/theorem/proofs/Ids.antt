@@ -14,8 +14,8 @@ use Rattle.lists.specs.Links.{pick}
 use Rattle.lists.specs.Family.{count}
 use Rattle.lists.proofs.Counts.{count_same, count_other, count_append}
 use Rattle.lists.proofs.Family.{count_none}
-use Rattle.log.specs.Opening.{Rising, remove, retried}
-use Rattle.log.proofs.OpeningLaws.{Rising-le}
+use Rattle.message_log.specs.Opening.{Rising, remove, retried}
+use Rattle.message_log.proofs.OpeningLaws.{Rising-le}
 use Rattle.theorem.specs.Handing.{ids_of}
 
 -- ---- ids that rise

@@ -7,8 +7,8 @@ use native.Mathlib.Omega.{arith}
 use lib.ListN.{length, take, replicate, length-replicate}
 use Rattle.text.specs.Format.{lines, all_but_last, split}
 use Rattle.lists.specs.Links.{Table}
-use Rattle.log.specs.Opening.{all_fit, Read, opening, opened, nothing_read, read_file, read_lines, judge}
-use Rattle.log.proofs.OpenLaws.{sized_true}
+use Rattle.message_log.specs.Opening.{all_fit, Read, opening, opened, nothing_read, read_file, read_lines, judge}
+use Rattle.message_log.proofs.OpenLaws.{sized_true}
 use Rattle.settings.specs.Ranges.{settings_fit, numbers_fit, within, rows_fit, row_fits, all_bytes}
 use Rattle.answers.specs.Refusals.{Lent}
 use Rattle.theorem.specs.Rail.{Accepts}

@@ -3,11 +3,11 @@ use mathlib.Core.Path.{◌≡◌}
 use mathlib.Core.List.{List}
 use Prim.Native.Nat.{ℕ, ◌+◌, ◌≤◌, ◌<◌}
 use Rattle.lists.specs.Family.{count}
-use Rattle.log.specs.declared.LogId.{LogId}
-use Rattle.log.specs.declared.Order.{Order}
-use Rattle.log.specs.Opening.{remove, retried}
-use Rattle.log.specs.Recovery as disk
-use Rattle.log.proofs.RecoveryLaws as log
+use Rattle.message_log.specs.declared.LogId.{LogId}
+use Rattle.message_log.specs.declared.Order.{Order}
+use Rattle.message_log.specs.Opening.{remove, retried}
+use Rattle.message_log.specs.Recovery as disk
+use Rattle.message_log.proofs.RecoveryLaws as log
 use Rattle.actor.specs.Messages.{message_at}
 use Rattle.turn.specs.declared.state.OrderFor.{OrderFor}
 use Rattle.turn.specs.declared.state.OrderFor.TheVariants as orderFor

@@ -12,7 +12,7 @@ use lib.ListN.{length, length-map, replicate}
 use Rattle.text.specs.Format.{Message}
 use Rattle.lists.specs.Family.{count}
 use Rattle.lists.proofs.Counts.{count_same, count_other}
-use Rattle.log.specs.Opening.{remove, retried}
+use Rattle.message_log.specs.Opening.{remove, retried}
 use Rattle.theorem.specs.Places.{stands}
 use Rattle.theorem.specs.Handing.{ids_of}
 use Rattle.turn.specs.State.{State}

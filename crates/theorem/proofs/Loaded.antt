@@ -14,9 +14,9 @@ use Rattle.lists.specs.Links.{Table, FREE, len_of, first_of, move_first, INBOX, 
 use Rattle.lists.specs.Family.{view, first_in, Moved}
 use Rattle.lists.proofs.Family.{length_view, first_is, count_at, entry}
 use Rattle.lists.proofs.Moves.{move_first_lem}
-use Rattle.log.specs.declared.Order.{Order}
-use Rattle.log.specs.Log as log
-use Rattle.log.specs.Recovery as disk
+use Rattle.message_log.specs.declared.Order.{Order}
+use Rattle.message_log.specs.Log as log
+use Rattle.message_log.specs.Recovery as disk
 use Rattle.actor.specs.declared.message.Caller.{Caller}
 use Rattle.actor.specs.declared.message.Caller.TheVariants as caller
 use Rattle.actor.specs.declared.message.Logged.{Logged}

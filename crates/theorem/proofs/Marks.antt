@@ -13,17 +13,17 @@ use lib.ListN.{length, drop}
 use Rattle.text.specs.Format.{Message, record_line, done_line}
 use Rattle.lists.specs.Links.{pick}
 use Rattle.lists.specs.Family.{count}
-use Rattle.log.specs.declared.Order.{Order}
-use Rattle.log.specs.declared.Due.TheVariants.{Ordered}
-use Rattle.log.specs.Opening.{Rising, remove}
-use Rattle.log.specs.Log.{Wal, DidMark, row_id, row_at, open_rows, extended, compacted, find_row, without_row, keeps}
-use Rattle.log.specs.Log.{marked_done, mark_of}
-use Rattle.log.specs.Stands.{Stands, Tabled}
-use Rattle.log.specs.Recovery as disk
-use Rattle.log.proofs.WalLaws.{mark_known}
-use Rattle.log.proofs.SearchLaws.{open_finds}
-use Rattle.log.proofs.RecoveryLaws as log
-use Rattle.log.proofs.Recovery.{call_tail}
+use Rattle.message_log.specs.declared.Order.{Order}
+use Rattle.message_log.specs.declared.Due.TheVariants.{Ordered}
+use Rattle.message_log.specs.Opening.{Rising, remove}
+use Rattle.message_log.specs.Log.{Wal, DidMark, row_id, row_at, open_rows, extended, compacted, find_row, without_row, keeps}
+use Rattle.message_log.specs.Log.{marked_done, mark_of}
+use Rattle.message_log.specs.Stands.{Stands, Tabled}
+use Rattle.message_log.specs.Recovery as disk
+use Rattle.message_log.proofs.WalLaws.{mark_known}
+use Rattle.message_log.proofs.SearchLaws.{open_finds}
+use Rattle.message_log.proofs.RecoveryLaws as log
+use Rattle.message_log.proofs.Recovery.{call_tail}
 use Rattle.theorem.specs.Handing.{ids_of}
 use Rattle.theorem.proofs.Ids.{rising_once, gone_same, gone_other}
 

@@ -12,14 +12,14 @@ use lib.Dec.{eqb}
 use lib.ListN.{length, take}
 use lib.Seq.{take-nil, length-take-le}
 use Rattle.lists.specs.Links.{Table, start_from}
-use Rattle.log.specs.declared.Order.TheVariants.{Replace}
-use Rattle.log.specs.Opening.{Read, opened, opening, image}
-use Rattle.log.specs.Opened as log
-use Rattle.log.specs.Recovery as disk
-use Rattle.log.proofs.OpeningLaws.{and_left, and_right}
-use Rattle.log.proofs.OpenLaws.{sized_all, image_fits, opened_long, opened_stands, opened_sent}
-use Rattle.log.specs.Stands.{Stands}
-use Rattle.log.proofs.RecoveryLaws.{ReadBack, stands_fit, stored_replace, whole_image, Sound, waiting}
+use Rattle.message_log.specs.declared.Order.TheVariants.{Replace}
+use Rattle.message_log.specs.Opening.{Read, opened, opening, image}
+use Rattle.message_log.specs.Opened as log
+use Rattle.message_log.specs.Recovery as disk
+use Rattle.message_log.proofs.OpeningLaws.{and_left, and_right}
+use Rattle.message_log.proofs.OpenLaws.{sized_all, image_fits, opened_long, opened_stands, opened_sent}
+use Rattle.message_log.specs.Stands.{Stands}
+use Rattle.message_log.proofs.RecoveryLaws.{ReadBack, stands_fit, stored_replace, whole_image, Sound, waiting}
 use Rattle.theorem.specs.Handing.{put_messages}
 use Rattle.settings.specs.Tables.{LeftPlaced, put_left}
 use Rattle.answers.specs.declared.refusals.Check.{Check}

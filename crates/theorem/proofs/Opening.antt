@@ -16,17 +16,17 @@ use Rattle.lists.proofs.Slabs.{sound_blank}
 use Rattle.settings.specs.Tables.{put_left}
 use Rattle.theorem.specs.Living.{step_hand, Lives}
 use Rattle.theorem.proofs.Living.{Less, less_same, less_then, less_at, first_less}
-use Rattle.log.specs.Opening.{all_fit, opening, opened, Read, Rising, read_file, nothing_read, image}
-use Rattle.log.specs.declared.Order.TheVariants.{Replace}
-use Rattle.log.specs.Opened as log
-use Rattle.log.specs.Recovery as disk
-use Rattle.log.specs.Stands.{Stands}
-use Rattle.log.proofs.OpeningLaws.{and_right, judge_opened, read_lines_in_order}
-use Rattle.log.proofs.TabledLaws.{small_few}
-use Rattle.log.proofs.StoreLaws.{stored_long}
-use Rattle.log.proofs.OpenLaws.{Sized, sized_all, sized_true, opened_stands}
-use Rattle.log.proofs.Recovery.{open_tail}
-use Rattle.log.proofs.RecoveryLaws.{ReadBack, sound_reads}
+use Rattle.message_log.specs.Opening.{all_fit, opening, opened, Read, Rising, read_file, nothing_read, image}
+use Rattle.message_log.specs.declared.Order.TheVariants.{Replace}
+use Rattle.message_log.specs.Opened as log
+use Rattle.message_log.specs.Recovery as disk
+use Rattle.message_log.specs.Stands.{Stands}
+use Rattle.message_log.proofs.OpeningLaws.{and_right, judge_opened, read_lines_in_order}
+use Rattle.message_log.proofs.TabledLaws.{small_few}
+use Rattle.message_log.proofs.StoreLaws.{stored_long}
+use Rattle.message_log.proofs.OpenLaws.{Sized, sized_all, sized_true, opened_stands}
+use Rattle.message_log.proofs.Recovery.{open_tail}
+use Rattle.message_log.proofs.RecoveryLaws.{ReadBack, sound_reads}
 use Rattle.theorem.specs.Handing.{ids_of, Hands}
 use Rattle.theorem.proofs.Handing.{hands}
 use Rattle.settings.specs.declared.ranges.Settings.{Settings}

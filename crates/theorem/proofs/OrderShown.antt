@@ -14,10 +14,10 @@ use Rattle.lists.specs.declared.keys.Key.{Key}
 use Rattle.lists.specs.declared.keys.Key.TheVariants as key
 use Rattle.lists.specs.Links.{Table, first_of, HAND}
 use Rattle.lists.specs.KeyLists.{keys_at, front_of}
-use Rattle.log.specs.declared.Answer as of-log
-use Rattle.log.specs.declared.Answer.TheVariants as logged
-use Rattle.log.specs.declared.Order.{Order}
-use Rattle.log.specs.Log as log
+use Rattle.message_log.specs.declared.Answer as of-log
+use Rattle.message_log.specs.declared.Answer.TheVariants as logged
+use Rattle.message_log.specs.declared.Order.{Order}
+use Rattle.message_log.specs.Log as log
 use Rattle.actor.specs.declared.message.Caller.{Caller}
 use Rattle.actor.specs.declared.message.Caller.TheVariants as caller
 use Rattle.actor.specs.declared.question.Who.{Who}

@@ -11,7 +11,7 @@ use lib.ListN.{length, drop}
 use Rattle.lists.specs.Family.{count}
 use Rattle.lists.specs.Links.{Table}
 use Rattle.turn.specs.declared.state.Limits.{Limits}
-use Rattle.log.specs.Recovery as disk
+use Rattle.message_log.specs.Recovery as disk
 use Rattle.theorem.specs.Places.{stands}
 use Rattle.theorem.specs.Handing.{ids_of}
 use Rattle.lists.proofs.Family.{length_view}

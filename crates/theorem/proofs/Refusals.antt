@@ -11,15 +11,15 @@ use lib.Dec.{eqb, leb}
 use lib.ListN.{length}
 use Rattle.text.specs.Format.{Message, record_line}
 use Rattle.lists.specs.Links.{pick}
-use Rattle.log.specs.declared.Order.{Order}
-use Rattle.log.specs.declared.Answer.TheVariants as logged
-use Rattle.log.specs.Opening.{Read, opening, opened, read_file}
-use Rattle.log.specs.Opened as log
-use Rattle.log.specs.Log.{Wal, extended, compacted, with_record, new_message, appended, append_of}
-use Rattle.log.specs.Log as wal
-use Rattle.log.proofs.OpeningLaws.{judge_good, judge_opened}
-use Rattle.log.proofs.OpenLaws.{open_accepts}
-use Rattle.log.proofs.WalLaws.{append_goes}
+use Rattle.message_log.specs.declared.Order.{Order}
+use Rattle.message_log.specs.declared.Answer.TheVariants as logged
+use Rattle.message_log.specs.Opening.{Read, opening, opened, read_file}
+use Rattle.message_log.specs.Opened as log
+use Rattle.message_log.specs.Log.{Wal, extended, compacted, with_record, new_message, appended, append_of}
+use Rattle.message_log.specs.Log as wal
+use Rattle.message_log.proofs.OpeningLaws.{judge_good, judge_opened}
+use Rattle.message_log.proofs.OpenLaws.{open_accepts}
+use Rattle.message_log.proofs.WalLaws.{append_goes}
 use Rattle.actor.specs.declared.message.Caller.{Caller}
 use Rattle.actor.specs.declared.message.Caller.TheVariants as caller
 use Rattle.actor.specs.declared.question.Reply.{Reply}

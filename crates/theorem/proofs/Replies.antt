@@ -8,13 +8,13 @@ use Prim.Native.Nat.{ℕ, ◌≤◌}
 use native.Mathlib.Omega.{arith}
 use lib.ListN.{drop}
 use Rattle.lists.specs.Links.{Table, PENDING}
-use Rattle.log.specs.declared.Counters.{Counters}
-use Rattle.log.specs.declared.Order.TheVariants.{Flush}
-use Rattle.log.specs.declared.Due.TheVariants as due
-use Rattle.log.specs.declared.AnsweredDue.{AnsweredDue}
-use Rattle.log.specs.Log as log
-use Rattle.log.specs.Recovery as disk
-use Rattle.log.proofs.RecoveryLaws as sound
+use Rattle.message_log.specs.declared.Counters.{Counters}
+use Rattle.message_log.specs.declared.Order.TheVariants.{Flush}
+use Rattle.message_log.specs.declared.Due.TheVariants as due
+use Rattle.message_log.specs.declared.AnsweredDue.{AnsweredDue}
+use Rattle.message_log.specs.Log as log
+use Rattle.message_log.specs.Recovery as disk
+use Rattle.message_log.proofs.RecoveryLaws as sound
 use Rattle.actor.specs.declared.message.Caller.TheVariants as caller
 use Rattle.actor.specs.declared.message.Logged.TheVariants as id
 use Rattle.actor.specs.declared.question.Reply.{Reply}

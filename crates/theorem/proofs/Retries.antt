@@ -19,8 +19,8 @@ use Rattle.lists.specs.Family.{first_in, view, Good, Moved}
 use Rattle.lists.proofs.Family.{first_is, view_past}
 use Rattle.lists.proofs.Moves.{move_first_lem, move_all_lem}
 use Rattle.text.specs.Format.{retry_line}
-use Rattle.log.specs.Log.{Wal, open_rows, search_row, extended, compacted, with_tried, retry_written, retried_at}
-use Rattle.log.specs.Log.{retry_found, counts_tries, retry_of}
+use Rattle.message_log.specs.Log.{Wal, open_rows, search_row, extended, compacted, with_tried, retry_written, retried_at}
+use Rattle.message_log.specs.Log.{retry_found, counts_tries, retry_of}
 use Rattle.actor.specs.Messages.{message_at}
 use Rattle.points.specs.declared.at.Point.{Point}
 use Rattle.points.specs.declared.at.Point.TheVariants as point

@@ -18,18 +18,18 @@ use Rattle.lists.specs.declared.keys.Key.TheVariants as key
 use Rattle.lists.specs.Links.{Table, FREE, PENDING, OVER, HAND, capped, first_of, move_first, hand_of}
 use Rattle.lists.specs.KeyLists.{keys_at, front_of}
 use Rattle.lists.specs.Family.{count, view, Good}
-use Rattle.log.specs.declared.LogId.{LogId}
-use Rattle.log.specs.declared.Order.{Order}
-use Rattle.log.specs.declared.Due.{Due}
-use Rattle.log.specs.declared.Due.TheVariants as due
-use Rattle.log.specs.Opening.{retried, image}
-use Rattle.log.specs.Log.{Wal, open_rows, search_row, with_tried, retry_written, retried_at, retry_found, counts_tries}
-use Rattle.log.specs.Log.{retry_of}
-use Rattle.log.specs.Stands.{Stands}
-use Rattle.log.specs.Recovery as disk
-use Rattle.log.proofs.RecoveryLaws as log
-use Rattle.log.proofs.SearchLaws.{open_finds}
-use Rattle.log.proofs.Steps.{tried_laid}
+use Rattle.message_log.specs.declared.LogId.{LogId}
+use Rattle.message_log.specs.declared.Order.{Order}
+use Rattle.message_log.specs.declared.Due.{Due}
+use Rattle.message_log.specs.declared.Due.TheVariants as due
+use Rattle.message_log.specs.Opening.{retried, image}
+use Rattle.message_log.specs.Log.{Wal, open_rows, search_row, with_tried, retry_written, retried_at, retry_found, counts_tries}
+use Rattle.message_log.specs.Log.{retry_of}
+use Rattle.message_log.specs.Stands.{Stands}
+use Rattle.message_log.specs.Recovery as disk
+use Rattle.message_log.proofs.RecoveryLaws as log
+use Rattle.message_log.proofs.SearchLaws.{open_finds}
+use Rattle.message_log.proofs.Steps.{tried_laid}
 use Rattle.actor.specs.declared.message.Logged.{Logged}
 use Rattle.actor.specs.declared.message.Logged.TheVariants as logged
 use Rattle.actor.specs.Messages.{message_at, put_message, tried_of}

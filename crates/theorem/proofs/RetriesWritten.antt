@@ -13,13 +13,13 @@ use Rattle.text.specs.Format.{Message}
 use Rattle.lists.specs.declared.Found.TheVariants as found
 use Rattle.lists.specs.Links.{FREE, INBOX, PENDING, HAND}
 use Rattle.lists.specs.Family.{count, view}
-use Rattle.log.specs.declared.LogId.{LogId}
-use Rattle.log.specs.declared.Order.{Order}
-use Rattle.log.specs.Opening.{tried_times, retried, image}
-use Rattle.log.specs.declared.Answer as of-log
-use Rattle.log.specs.declared.Answer.TheVariants as answered-by-log
-use Rattle.log.specs.Log.{append_of}
-use Rattle.log.specs.Recovery as disk
+use Rattle.message_log.specs.declared.LogId.{LogId}
+use Rattle.message_log.specs.declared.Order.{Order}
+use Rattle.message_log.specs.Opening.{tried_times, retried, image}
+use Rattle.message_log.specs.declared.Answer as of-log
+use Rattle.message_log.specs.declared.Answer.TheVariants as answered-by-log
+use Rattle.message_log.specs.Log.{append_of}
+use Rattle.message_log.specs.Recovery as disk
 use Rattle.actor.specs.declared.message.Caller.{Caller}
 use Rattle.actor.specs.declared.message.Caller.TheVariants as caller
 use Rattle.actor.specs.declared.question.Reply.{Reply}

@@ -16,17 +16,17 @@ use Rattle.lists.specs.Links.{pick, FREE, Table, len_of, head_of, first_of, move
 use Rattle.lists.specs.Family.{count, view}
 use Rattle.lists.proofs.Counts.{count_same, count_other, total_one}
 use Rattle.lists.proofs.Family.{nowhere_else}
-use Rattle.log.specs.declared.LogId.{LogId}
-use Rattle.log.specs.declared.Order.{Order}
-use Rattle.log.specs.declared.Due.{Due}
-use Rattle.log.specs.declared.Due.TheVariants as due
-use Rattle.log.specs.Opening.{remove, retried}
-use Rattle.log.specs.Log.{Wal, DidMark, mark_of, counts_tries, retry_of}
-use Rattle.log.specs.Stands.{Stands}
-use Rattle.log.specs.Recovery as disk
-use Rattle.log.proofs.RecoveryLaws as log
-use Rattle.log.proofs.Recovery.{call_tail, call_idle}
-use Rattle.log.proofs.OpeningLaws.{and_left, and_right}
+use Rattle.message_log.specs.declared.LogId.{LogId}
+use Rattle.message_log.specs.declared.Order.{Order}
+use Rattle.message_log.specs.declared.Due.{Due}
+use Rattle.message_log.specs.declared.Due.TheVariants as due
+use Rattle.message_log.specs.Opening.{remove, retried}
+use Rattle.message_log.specs.Log.{Wal, DidMark, mark_of, counts_tries, retry_of}
+use Rattle.message_log.specs.Stands.{Stands}
+use Rattle.message_log.specs.Recovery as disk
+use Rattle.message_log.proofs.RecoveryLaws as log
+use Rattle.message_log.proofs.Recovery.{call_tail, call_idle}
+use Rattle.message_log.proofs.OpeningLaws.{and_left, and_right}
 use Rattle.actor.specs.declared.message.Logged.{Logged}
 use Rattle.actor.specs.declared.message.Logged.TheVariants as logged
 use Rattle.actor.specs.Messages.{message_at}

@@ -3,13 +3,13 @@ use mathlib.Core.Path.{◌≡◌, refl, sym, ap, ◌∙◌}
 use mathlib.Core.Bool.{false, false≢true, ◌&&◌}
 use mathlib.Core.List.{List, [], ◌∷◌}
 use Prim.Native.Nat.{ℕ}
-use Rattle.log.specs.declared.Answer as of-log
-use Rattle.log.specs.declared.Answer.TheVariants as logged
-use Rattle.log.specs.declared.Due.{Due}
-use Rattle.log.specs.declared.Due.TheVariants as due
-use Rattle.log.specs.declared.AnsweredDue.{AnsweredDue}
-use Rattle.log.specs.Log as log
-use Rattle.log.specs.Opened as opened
+use Rattle.message_log.specs.declared.Answer as of-log
+use Rattle.message_log.specs.declared.Answer.TheVariants as logged
+use Rattle.message_log.specs.declared.Due.{Due}
+use Rattle.message_log.specs.declared.Due.TheVariants as due
+use Rattle.message_log.specs.declared.AnsweredDue.{AnsweredDue}
+use Rattle.message_log.specs.Log as log
+use Rattle.message_log.specs.Opened as opened
 use Rattle.actor.specs.declared.message.Caller.{Caller}
 use Rattle.actor.specs.declared.message.Caller.TheVariants as caller
 use Rattle.actor.specs.declared.question.Reply.{Reply}

@@ -12,7 +12,7 @@ use Rattle.lists.specs.Family.{count, first_in, total, view, Good, Pair, Moved, 
 use Rattle.lists.proofs.Counts.{total_kept, put_two, count_append, count_other}
 use Rattle.lists.proofs.Family.{length_view, first_is, at_most_all, len_past}
 use Rattle.lists.proofs.Moves.{move_first_lem, move_all_lem, same_list, no_such_to, no_such_from}
-use Rattle.log.specs.declared.LogId.{LogId}
+use Rattle.message_log.specs.declared.LogId.{LogId}
 use Rattle.actor.specs.declared.message.Logged.{Logged}
 use Rattle.actor.specs.declared.message.Logged.TheVariants as logged
 use Rattle.actor.specs.Messages.{message_at}

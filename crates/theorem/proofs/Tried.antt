@@ -12,9 +12,9 @@ use Rattle.text.specs.Format.{Message}
 use Rattle.lists.specs.Links.{Table, FREE, ENTRIES}
 use Rattle.lists.specs.Family.{count, view}
 use Rattle.lists.proofs.Counts.{count_up_below}
-use Rattle.log.specs.declared.LogId.{LogId}
-use Rattle.log.specs.Opening.{remove, retried}
-use Rattle.log.specs.Stands.{Tries}
+use Rattle.message_log.specs.declared.LogId.{LogId}
+use Rattle.message_log.specs.Opening.{remove, retried}
+use Rattle.message_log.specs.Stands.{Tries}
 use Rattle.actor.specs.declared.message.Logged.{Logged}
 use Rattle.actor.specs.declared.message.Logged.TheVariants as logged
 use Rattle.actor.specs.Messages.{logged_number, message_at}

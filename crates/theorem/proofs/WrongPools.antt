@@ -14,12 +14,12 @@ use Rattle.text.specs.Line
 use Rattle.text.specs.Bytes
 use Rattle.lists.specs.Links.{Table, FREE}
 use Rattle.lists.specs.Family.{count, view, up_from}
-use Rattle.log.specs.Opening
-use Rattle.log.specs.Opening.{Read, opening, opened, nothing_read, retried, image}
-use Rattle.log.specs.declared.LogId.{LogId}
-use Rattle.log.specs.declared.Order.TheVariants.{Append}
-use Rattle.log.specs.Recovery as disk
-use Rattle.log.proofs.OpenLaws.{sized_true}
+use Rattle.message_log.specs.Opening
+use Rattle.message_log.specs.Opening.{Read, opening, opened, nothing_read, retried, image}
+use Rattle.message_log.specs.declared.LogId.{LogId}
+use Rattle.message_log.specs.declared.Order.TheVariants.{Append}
+use Rattle.message_log.specs.Recovery as disk
+use Rattle.message_log.proofs.OpenLaws.{sized_true}
 use Rattle.theorem.specs.Places.{stands}
 use Rattle.theorem.specs.Living.{given}
 use Rattle.actor.specs.declared.message.Caller.{Caller}

@@ -1,7 +1,7 @@
 -- Examples of the operations on mailboxes, run by the definitions that the code equals. Each is a truth value;
 -- proofs/Examples.antt proves all of them as one conjunction.
 use Rattle.std.specs.Prelude.{Bool, List, [], ◌∷◌, ◌++◌, map, ℕ}
-use Rattle.log.specs.RowEnds.{same_bytes}
+use Rattle.message_log.specs.RowEnds.{same_bytes}
 use Rattle.lists.specs.Links.{LISTS, FREE, Table, start_from, move_first, PENDING, BATCH, OVER, HAND}
 use Rattle.lists.specs.Family.{up_from, view}
 use Rattle.actor.specs.declared.message.Caller.TheVariants as caller

@@ -3,8 +3,8 @@
 use Rattle.std.specs.Prelude.{◌≡◌, List, [], ◌∷◌, map, ℕ, ◌+◌, ◌*◌, ◌≤◌, length, replicate}
 use Rattle.text.specs.Format.{Message}
 use Rattle.text.specs.Bytes.{write, part}
-use Rattle.log.specs.Opened.{stored, left_row}
-use Rattle.log.specs.Opening.{RECORDS, NAME, ENTRY}
+use Rattle.message_log.specs.Opened.{stored, left_row}
+use Rattle.message_log.specs.Opening.{RECORDS, NAME, ENTRY}
 use Rattle.lists.specs.Links.{Table, start_from, LISTS, FREE, PENDING}
 use Rattle.lists.specs.Family.{count, view}
 use Rattle.actor.specs.declared.message.Logged.TheVariants as logged

@@ -4,7 +4,7 @@
 use Rattle.std.specs.Prelude.{◌≡◌, Bool, false, ◌≢◌, List, [], ◌∷◌, ℕ, suc, ◌+◌, ◌*◌, ◌^◌, ◌≤◌, ◌<◌, eqb, length}
 use Rattle.lists.specs.Links.{pick, LISTS, FREE, Table, len_of, ENTRIES, HAND, SLOTS}
 use Rattle.lists.specs.Family.{count, total, view, Good}
-use Rattle.log.specs.declared.LogId.{LogId}
+use Rattle.message_log.specs.declared.LogId.{LogId}
 use Rattle.actor.specs.declared.message.Logged.{Logged}
 use Rattle.actor.specs.declared.message.Logged.TheVariants as logged
 use Rattle.actor.specs.Messages.{message_at}

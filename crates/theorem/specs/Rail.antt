@@ -9,12 +9,12 @@ use Rattle.std.specs.Prelude.{◌≡◌, Bool, true, false, ◌⊎◌, ℕ, ◌+
 use mathlib.Core.List.{List, [], ◌∷◌, ◌++◌, Memᴰ}
 use Rattle.group.specs.Roster.{ROWS}
 use Rattle.text.specs.Format.{ATTEMPTS, Message, untried}
-use Rattle.log.specs.Opening.{Opening, opened, refused, opening, retried, Rising, RECORDS, STORE}
-use Rattle.log.specs.declared.LogId.{LogId}
-use Rattle.log.specs.Log.{Wal}
-use Rattle.log.specs.declared.Order.{Order}
-use Rattle.log.specs.declared.Order.TheVariants.{Replace, Flush}
-use Rattle.log.specs.Recovery as disk
+use Rattle.message_log.specs.Opening.{Opening, opened, refused, opening, retried, Rising, RECORDS, STORE}
+use Rattle.message_log.specs.declared.LogId.{LogId}
+use Rattle.message_log.specs.Log.{Wal}
+use Rattle.message_log.specs.declared.Order.{Order}
+use Rattle.message_log.specs.declared.Order.TheVariants.{Replace, Flush}
+use Rattle.message_log.specs.Recovery as disk
 use Rattle.lists.specs.declared.Found.{Found}
 use Rattle.lists.specs.declared.Found.TheVariants as found
 use Rattle.lists.specs.Links.{pick, Table, LISTS, ENTRIES, INBOX, PENDING, HAND, SLOTS, GROUPS, KEYS}

@@ -5,8 +5,8 @@ use mathlib.Core.List.{List, Memᴰ}
 use Rattle.text.specs.Format.{ATTEMPTS, Message}
 use Rattle.lists.specs.Links.{FREE}
 use Rattle.lists.specs.Family.{count, view}
-use Rattle.log.specs.declared.LogId.{LogId}
-use Rattle.log.specs.Opening.{retried, image}
+use Rattle.message_log.specs.declared.LogId.{LogId}
+use Rattle.message_log.specs.Opening.{retried, image}
 use Rattle.actor.specs.declared.message.Logged.TheVariants as logged
 use Rattle.actor.specs.Messages.{message_at}
 use Rattle.turn.specs.State.{State}

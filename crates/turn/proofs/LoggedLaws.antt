@@ -3,13 +3,13 @@ use mathlib.Core.Path.{◌≡◌, ap, ◌∙◌}
 use mathlib.Core.List.{List}
 use Prim.Native.Nat.{ℕ}
 use Rattle.lists.specs.Links.{Table}
-use Rattle.log.specs.declared.LogId.{LogId}
-use Rattle.log.specs.declared.Counters.{Counters}
-use Rattle.log.specs.declared.Due.{Due}
-use Rattle.log.specs.declared.AnsweredDue.{AnsweredDue}
-use Rattle.log.specs.declared.Answer.{Answer}
-use Rattle.log.specs.declared.Answered.{Answered}
-use Rattle.log.specs.Log.{state, DidAppend, DidMark, append_of, mark_of, retry_of, sync_log}
+use Rattle.message_log.specs.declared.LogId.{LogId}
+use Rattle.message_log.specs.declared.Counters.{Counters}
+use Rattle.message_log.specs.declared.Due.{Due}
+use Rattle.message_log.specs.declared.AnsweredDue.{AnsweredDue}
+use Rattle.message_log.specs.declared.Answer.{Answer}
+use Rattle.message_log.specs.declared.Answered.{Answered}
+use Rattle.message_log.specs.Log.{state, DidAppend, DidMark, append_of, mark_of, retry_of, sync_log}
 use Rattle.turn.specs.declared.logged.LogStep.{LogStep}
 use Rattle.turn.specs.declared.logged.LogAppend.{LogAppend}
 use Rattle.turn.specs.Words.{due_of}

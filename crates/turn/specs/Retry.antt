@@ -7,8 +7,8 @@ use Rattle.lists.specs.declared.keys.Key.{Key}
 use Rattle.lists.specs.declared.keys.Key.TheVariants as key
 use Rattle.lists.specs.Links.{pick, hand_of, HAND}
 use Rattle.lists.specs.KeyLists.{keys_at, front_of}
-use Rattle.log.specs.declared.LogId.{LogId}
-use Rattle.log.specs.Log.{DidMark, retry_of}
+use Rattle.message_log.specs.declared.LogId.{LogId}
+use Rattle.message_log.specs.Log.{DidMark, retry_of}
 use Rattle.actor.specs.declared.message.Logged.{Logged}
 use Rattle.actor.specs.declared.message.Logged.TheVariants as logged
 use Rattle.actor.specs.Messages.{message_at}

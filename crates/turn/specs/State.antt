@@ -1,15 +1,15 @@
 -- The state of a pool, as every definition of the pool has it: the pool's own state and the lent tables.
 use Rattle.std.specs.Prelude.{Bool, true, false, ◌&&◌, List, ℕ}
 use Rattle.lists.specs.Links.{Table}
-use Rattle.log.specs.declared.Counters.{Counters}
-use Rattle.log.specs.Log.{Wal, DidMark}
+use Rattle.message_log.specs.declared.Counters.{Counters}
+use Rattle.message_log.specs.Log.{Wal, DidMark}
 use Rattle.points.specs.declared.at.At.{At}
 use Rattle.points.specs.declared.at.At.TheVariants as at
 use Rattle.points.specs.declared.at.Point.{Point}
 use Rattle.points.specs.declared.at.Point.TheVariants as point
 use Rattle.tick.specs.declared.crash.Losses.{Losses}
-use Rattle.log.specs.declared.Due.{Due}
-use Rattle.log.specs.declared.Due.TheVariants as due
+use Rattle.message_log.specs.declared.Due.{Due}
+use Rattle.message_log.specs.declared.Due.TheVariants as due
 use Rattle.turn.specs.declared.state.OrderFor.{OrderFor}
 use Rattle.turn.specs.declared.state.Disk.{Disk}
 use Rattle.turn.specs.declared.state.Disk.TheVariants as disk

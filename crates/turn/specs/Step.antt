@@ -3,8 +3,8 @@ use Rattle.std.specs.Prelude.{ℕ, zero, suc}
 use Rattle.lists.specs.declared.Found.{Found}
 use Rattle.lists.specs.declared.Found.TheVariants as found
 use Rattle.lists.specs.Links.{pick, FREE, first_of, move_first, OVER}
-use Rattle.log.specs.declared.LogId.{LogId}
-use Rattle.log.specs.Log.{DidMark, mark_of}
+use Rattle.message_log.specs.declared.LogId.{LogId}
+use Rattle.message_log.specs.Log.{DidMark, mark_of}
 use Rattle.actor.specs.declared.message.Logged.{Logged}
 use Rattle.actor.specs.declared.message.Logged.TheVariants as logged
 use Rattle.actor.specs.Messages.{message_at}

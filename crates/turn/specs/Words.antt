@@ -2,13 +2,13 @@
 -- and the limits. Any cells mean some pool. The cells are numbered in src/state.
 use Rattle.std.specs.Prelude.{Bool, true, false, List, ℕ, eqb, get_or}
 use Rattle.lists.specs.Links.{pick}
-use Rattle.log.specs.declared.Counters.{Counters}
-use Rattle.log.specs.declared.Order.{Order}
-use Rattle.log.specs.declared.Order.TheVariants.{Append, Replace, Flush}
+use Rattle.message_log.specs.declared.Counters.{Counters}
+use Rattle.message_log.specs.declared.Order.{Order}
+use Rattle.message_log.specs.declared.Order.TheVariants.{Append, Replace, Flush}
 use Rattle.points.specs.declared.words.Where.{Where}
 use Rattle.points.specs.Words.{at_of}
-use Rattle.log.specs.declared.Due.{Due}
-use Rattle.log.specs.declared.Due.TheVariants as due
+use Rattle.message_log.specs.declared.Due.{Due}
+use Rattle.message_log.specs.declared.Due.TheVariants as due
 use Rattle.turn.specs.declared.state.OrderWords.{OrderWords}
 use Rattle.turn.specs.declared.state.OrderFor.{OrderFor}
 use Rattle.turn.specs.declared.state.OrderFor.TheVariants as orderFor

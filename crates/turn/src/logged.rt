@@ -1,13 +1,13 @@
 // The log's calls as the pool makes them: on a copy of its counters, lent to the log by `&mut`, with what the log
 // answers handed on as words. What each does is the log's own definition.
 ghost use Rattle.std.specs.Prelude.{◌≡◌};
-ghost use Rattle.log.specs.Log.{state, append_of, mark_of, retry_of, sync_log};
+ghost use Rattle.message_log.specs.Log.{state, append_of, mark_of, retry_of, sync_log};
 ghost use Rattle.turn.specs.Words.{due_of};
 ghost use Rattle.turn.specs.Logged.{append_answer, stepped_of, stepped_as, appended_of, appended_as};
 
 use crate::state;
 use crate::state::OrderWords;
-use log::{Answer, Counters, Due, LogId, RecordRow, Refusal, wal};
+use message_log::{Answer, Counters, Due, LogId, RecordRow, Refusal, wal};
 
 // After a mark, a retry or a sync: the counters as they are now, and the order that is due.
 #[derive(Drop)]

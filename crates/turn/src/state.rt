@@ -10,7 +10,7 @@ ghost use Rattle.turn.specs.State.{disk_for, with_disk, stood_at, queued_at, ste
 ghost use Rattle.turn.specs.State.{closed_pool, new_pool};
 ghost use Rattle.turn.specs.State.{is_free, marks_at, running_of};
 
-use log::{Counters, Due, LogId, Order};
+use message_log::{Counters, Due, LogId, Order};
 use points::words;
 use points::words::{AtKind, PointKind, Where};
 use tick::crash::Losses;

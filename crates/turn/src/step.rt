@@ -15,7 +15,7 @@ use actor::state::ActorRow;
 use group::settings::GroupRow;
 use lists::keys::KeyRow;
 use lists::{Found, LinkRow};
-use log::{LogId, RecordRow};
+use message_log::{LogId, RecordRow};
 use points::words;
 use points::words::{AtKind, Where};
 

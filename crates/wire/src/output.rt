@@ -10,7 +10,7 @@ use actor::state::ActorRow;
 use group::settings::GroupRow;
 use lists::LinkRow;
 use lists::keys::KeyRow;
-use log::RecordRow;
+use message_log::RecordRow;
 
 // How far the output is written, and the number that is returned: 0 so far.
 #[derive(Drop)]

@@ -1,7 +1,7 @@
 -- One case for each answer.
 use mathlib.Core.Path.{sym, ap, ◌∙◌}
 use borrow.Author.Rules.{rules}
-use Rattle.log.specs.declared.Answer.TheVariants.{Ordered}
+use Rattle.message_log.specs.declared.Answer.TheVariants.{Ordered}
 use Rattle.reopening.specs.declared.Reopened.TheVariants.{Refused}
 use Rattle.reopening.specs.Reopened.{reopened_by}
 use Rattle.reopening.proofs.answered.Statement.{statement}

@@ -3,12 +3,12 @@ use mathlib.Core.Path.{sym}
 use native.Mathlib.Omega.{arith}
 use borrow.Author.Rules.{rules}
 use lib.Seq.{length-take-le}
-use Rattle.log.proofs.DecisionLaws.{fit, ready, opened_is}
-use Rattle.log.proofs.OpenLaws.{sized_all}
-use Rattle.log.proofs.opening.accept.Statement.{statement}
+use Rattle.message_log.proofs.DecisionLaws.{fit, ready, opened_is}
+use Rattle.message_log.proofs.OpenLaws.{sized_all}
+use Rattle.message_log.proofs.opening.accept.Statement.{statement}
 -- What was stored is read back from the store, and its image is no longer than the file.
 -- What was stored is read back from the store, and its image is no longer than the file.
-use Rattle.log.proofs.opening.accept.Tie as tie
+use Rattle.message_log.proofs.opening.accept.Tie as tie
 
 slice-reshare-prefix-store-rows : tie.Need-slice-reshare-prefix-store-rows
 slice-reshare-prefix-store-rows c =

@@ -2,9 +2,9 @@
 use mathlib.Core.Path.{refl}
 use borrow.Author.Rules.{rules}
 use Rattle.text.specs.Line.{name_of, body_of, line_at}
-use Rattle.log.proofs.FieldLaws.{name_at, body_at, fit_name, fit_body, both_fields}
-use Rattle.log.proofs.opening.copy_row.Statement.{statement}
-use Rattle.log.proofs.opening.copy_row.Tie as tie
+use Rattle.message_log.proofs.FieldLaws.{name_at, body_at, fit_name, fit_body, both_fields}
+use Rattle.message_log.proofs.opening.copy_row.Statement.{statement}
+use Rattle.message_log.proofs.opening.copy_row.Tie as tie
 
 line-at-requires : tie.Need-line-at-requires
 line-at-requires c κs = search rules

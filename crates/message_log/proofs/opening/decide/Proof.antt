@@ -2,11 +2,11 @@
 use mathlib.Core.Path.{sym, ◌∙◌}
 use native.Mathlib.Omega.{arith}
 use borrow.Author.Rules.{rules}
-use Rattle.log.proofs.DecisionLaws.{left_no_next, left_many, all_rows, rows_too_long, rows_accepted}
-use Rattle.log.proofs.opening.decide.Statement.{statement}
+use Rattle.message_log.proofs.DecisionLaws.{left_no_next, left_many, all_rows, rows_too_long, rows_accepted}
+use Rattle.message_log.proofs.opening.decide.Statement.{statement}
 -- One law for each answer of the reader.
 -- One law for each answer of the reader.
-use Rattle.log.proofs.opening.decide.Tie as tie
+use Rattle.message_log.proofs.opening.decide.Tie as tie
 
 left-rows-requires : tie.Need-left-rows-requires
 left-rows-requires c κs = search rules

@@ -4,11 +4,11 @@ use Prim.Native.Nat.{◌-◌, ◌≤◌, ◌<◌, ◌^◌}
 use native.Mathlib.Omega.{arith}
 use borrow.Author.Rules.{rules}
 use lib.ListN.{length, take, length-take, length-drop}
-use Rattle.log.proofs.LeftLaws.{Below, below_begin, left_all, further}
-use Rattle.log.proofs.RowLaws.{scanned_over, scanned_next}
-use Rattle.log.proofs.opening.left_rows.Statement.{statement}
+use Rattle.message_log.proofs.LeftLaws.{Below, below_begin, left_all, further}
+use Rattle.message_log.proofs.RowLaws.{scanned_over, scanned_next}
+use Rattle.message_log.proofs.opening.left_rows.Statement.{statement}
 -- Each pass adds the rows of a further window of ids (`Below`); ids below 2^64 run out.
-use Rattle.log.proofs.opening.left_rows.Tie as tie
+use Rattle.message_log.proofs.opening.left_rows.Tie as tie
 
 abbrev invariant-loop : tie.invariant-loop
 invariant-loop rows₀ file count₀ lo₀ rows count lo = (length rows ≡ length rows₀) × (count ≤ 256) × (lo < 2 ^ 64 - 1) × Below file lo (take count rows)

@@ -4,11 +4,11 @@ use native.Mathlib.Omega.{arith}
 use borrow.Author.Rules.{rules}
 use lib.Seq.{length-take-le}
 use lib.ListN.{take}
-use Rattle.log.proofs.DecisionLaws.{decided_no, decided_yes, open_wrong, open_refused, open_yes}
-use Rattle.log.proofs.OpenLaws.{sized_all}
-use Rattle.log.proofs.opening.open_log.Statement.{statement}
+use Rattle.message_log.proofs.DecisionLaws.{decided_no, decided_yes, open_wrong, open_refused, open_yes}
+use Rattle.message_log.proofs.OpenLaws.{sized_all}
+use Rattle.message_log.proofs.opening.open_log.Statement.{statement}
 -- Nothing is written before the file is accepted.
-use Rattle.log.proofs.opening.open_log.Tie as tie
+use Rattle.message_log.proofs.opening.open_log.Tie as tie
 
 sizes-fit-requires : tie.Need-sizes-fit-requires
 sizes-fit-requires c κs = search rules

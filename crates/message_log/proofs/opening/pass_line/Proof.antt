@@ -1,14 +1,14 @@
 -- A record, a done line, a retry line, or nothing to take in.
-use Rattle.log.proofs.RowLaws.{rise_wide, took_line}
-use Rattle.log.specs.Scan.{TookLine}
-use Rattle.log.specs.declared.opening.Taken.TheVariants.{Next, Over}
+use Rattle.message_log.proofs.RowLaws.{rise_wide, took_line}
+use Rattle.message_log.specs.Scan.{TookLine}
+use Rattle.message_log.specs.declared.opening.Taken.TheVariants.{Next, Over}
 use Rattle.text.proofs.LineLaws.{kind_of, kind_says}
 use lib.ListN.{take}
 use native.Mathlib.Omega.{arith}
 use mathlib.Core.Path.{refl, sym, ap, ◌∙◌, subst}
 use borrow.Author.Rules.{rules}
-use Rattle.log.proofs.opening.pass_line.Statement.{statement}
-use Rattle.log.proofs.opening.pass_line.Tie as tie
+use Rattle.message_log.proofs.opening.pass_line.Statement.{statement}
+use Rattle.message_log.proofs.opening.pass_line.Tie as tie
 
 line-kind-requires : tie.Need-line-kind-requires
 line-kind-requires c κs = search rules

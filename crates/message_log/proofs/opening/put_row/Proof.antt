@@ -6,12 +6,12 @@ use native.Mathlib.Omega.{arith}
 use borrow.Author.Rules.{rules}
 use lib.Seq.{length-take-le}
 use lib.ListN.{take, get_or, length-set}
-use Rattle.log.specs.Scan.{beneath, beyond, set_in, evicted}
-use Rattle.log.specs.Log.{row}
-use Rattle.log.proofs.RowLaws.{rise_wide, held, placed_same, placed_in, placed_last, in_full}
-use Rattle.log.proofs.TableLaws.{put_in}
-use Rattle.log.proofs.opening.put_row.Statement.{statement}
-use Rattle.log.proofs.opening.put_row.Tie as tie
+use Rattle.message_log.specs.Scan.{beneath, beyond, set_in, evicted}
+use Rattle.message_log.specs.Log.{row}
+use Rattle.message_log.proofs.RowLaws.{rise_wide, held, placed_same, placed_in, placed_last, in_full}
+use Rattle.message_log.proofs.TableLaws.{put_in}
+use Rattle.message_log.proofs.opening.put_row.Statement.{statement}
+use Rattle.message_log.proofs.opening.put_row.Tie as tie
 
 returns : tie.Need-returns
 returns c =

@@ -1,15 +1,15 @@
 -- Ids rise, so that the search by halving finds the row of the id, which is the only one.
-use Rattle.log.proofs.WalLaws.{found_missing, found_at}
-use Rattle.log.proofs.SearchLaws.{search_finds}
-use Rattle.log.proofs.RowLaws.{retry_missing, row_tried_lem}
-use Rattle.log.specs.Log.{search_row}
+use Rattle.message_log.proofs.WalLaws.{found_missing, found_at}
+use Rattle.message_log.proofs.SearchLaws.{search_finds}
+use Rattle.message_log.proofs.RowLaws.{retry_missing, row_tried_lem}
+use Rattle.message_log.specs.Log.{search_row}
 use lib.ListN.{length, take}
 use native.Mathlib.Omega.{arith}
 use Prim.Native.Nat.{◌^◌, ◌<◌}
 use mathlib.Core.Path.{sym, ◌∙◌}
 use borrow.Author.Rules.{rules}
-use Rattle.log.proofs.opening.retry_row.Statement.{statement}
-use Rattle.log.proofs.opening.retry_row.Tie as tie
+use Rattle.message_log.proofs.opening.retry_row.Statement.{statement}
+use Rattle.message_log.proofs.opening.retry_row.Tie as tie
 
 search-row-requires : tie.Need-search-row-requires
 search-row-requires c κs = search rules

@@ -4,9 +4,9 @@ use borrow.Author.Rules.{rules}
 use lib.ListN.{length}
 use lib.Dec.{leb}
 use Rattle.text.specs.Line.{line_at}
-use Rattle.log.proofs.FieldLaws.{name_at, body_at, fit_both, fit_not}
-use Rattle.log.proofs.opening.row_fits.Statement.{statement}
-use Rattle.log.proofs.opening.row_fits.Tie as tie
+use Rattle.message_log.proofs.FieldLaws.{name_at, body_at, fit_both, fit_not}
+use Rattle.message_log.proofs.opening.row_fits.Statement.{statement}
+use Rattle.message_log.proofs.opening.row_fits.Tie as tie
 
 line-at-requires : tie.Need-line-at-requires
 line-at-requires c κs = search rules

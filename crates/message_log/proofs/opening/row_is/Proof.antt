@@ -1,8 +1,8 @@
 -- Only rows in use are looked at.
 use borrow.Author.Rules.{rules}
-use Rattle.log.proofs.RowLaws.{holds_is, holds_not}
-use Rattle.log.proofs.opening.row_is.Statement.{statement}
-use Rattle.log.proofs.opening.row_is.Tie as tie
+use Rattle.message_log.proofs.RowLaws.{holds_is, holds_not}
+use Rattle.message_log.proofs.opening.row_is.Statement.{statement}
+use Rattle.message_log.proofs.opening.row_is.Tie as tie
 
 mul-r : tie.Need-overflow-mul-r
 mul-r c = search rules

@@ -4,10 +4,10 @@ use Prim.Native.Nat.{◌≤◌, ◌<◌}
 use native.Mathlib.Omega.{arith}
 use borrow.Author.Rules.{rules}
 use lib.ListN.{get_or}
-use Rattle.log.specs.Log.{row_id}
-use Rattle.log.proofs.RowLaws.{found_place}
-use Rattle.log.proofs.opening.row_place.Statement.{statement}
-use Rattle.log.proofs.opening.row_place.Tie as tie
+use Rattle.message_log.specs.Log.{row_id}
+use Rattle.message_log.proofs.RowLaws.{found_place}
+use Rattle.message_log.proofs.opening.row_place.Statement.{statement}
+use Rattle.message_log.proofs.opening.row_place.Tie as tie
 
 abbrev invariant-loop : tie.invariant-loop
 invariant-loop rows count id i₀ i = (i ≤ count) × (i < count → id ≤ row_id (get_or rows i []))

@@ -5,12 +5,12 @@ use Prim.Native.Nat.{◌-◌}
 use native.Mathlib.Omega.{arith}
 use borrow.Author.Rules.{rules}
 use lib.ListN.{take, drop, get_or}
-use Rattle.log.specs.Scan.{row_messages}
-use Rattle.log.specs.Opening.{all_fit}
-use Rattle.log.proofs.StoreLaws.{fit_next, fit_stop, fit_end}
-use Rattle.log.proofs.TableLaws.{next_row, last_row}
-use Rattle.log.proofs.opening.rows_fit.Statement.{statement}
-use Rattle.log.proofs.opening.rows_fit.Tie as tie
+use Rattle.message_log.specs.Scan.{row_messages}
+use Rattle.message_log.specs.Opening.{all_fit}
+use Rattle.message_log.proofs.StoreLaws.{fit_next, fit_stop, fit_end}
+use Rattle.message_log.proofs.TableLaws.{next_row, last_row}
+use Rattle.message_log.proofs.opening.rows_fit.Statement.{statement}
+use Rattle.message_log.proofs.opening.rows_fit.Tie as tie
 
 abbrev invariant-loop : tie.invariant-loop
 invariant-loop file rows count i₀ i = all_fit (row_messages file (drop i (take count rows))) ≡ all_fit (row_messages file (take count rows))

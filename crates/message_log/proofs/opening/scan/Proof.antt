@@ -1,4 +1,4 @@
--- `log::opening::scan` meets its contract: a manual proof over its MIR (a walk), with a loop in it. One reader, a local, is lent to `next` at every turn and comes back; the rows are lent again to `take_line`, and come back.
+-- `message_log::opening::scan` meets its contract: a manual proof over its MIR (a walk), with a loop in it. One reader, a local, is lent to `next` at every turn and comes back; the rows are lent again to `take_line`, and come back.
 -- The loop's invariant is the context where a turn begins (`I`), at the reader's place, what was taken in, and the rows (`St`, and `PassLaws.antt` for what is known of them); what is left of the file falls.
 -- All that the proof knows of the callees is that each meets its contract. Written by tools/looped.py. Assumes nothing.
 use mathlib.Core.Path.{◌≡◌, refl, sym, ap, ◌∙◌, subst}
@@ -71,28 +71,28 @@ use Rattle.text.specs.contracts.lines.next as next
 use Rattle.text.proofs.lines.next.Symbol as next-def
 use Rattle.text.proofs.lines.next.Symbol.{name as #next}
 use Rattle.text.proofs.lines.next.Met as next-thm
-use Rattle.log.specs.Scan.{pass_begun, CanTake, TookNextLine, Scanned}
-use Rattle.log.specs.declared.opening.Passing.{Passing}
-use Rattle.log.specs.declared.opening.Taken.{Taken}
-use Rattle.log.proofs.Again.{LentAgain, lends_again, comes_back}
-use Rattle.log.proofs.PassLaws.{Inv, left, begins, ends, can, goes}
-use Rattle.log.specs.contracts.opening.Passing as P
-use Rattle.log.proofs.opening.Passing.TheLaws as P'
-use Rattle.log.specs.contracts.opening.Taken as E
-use Rattle.log.proofs.opening.Taken.TheLaws as E'
-use Rattle.log.specs.contracts.opening.begin as begin
-use Rattle.log.proofs.opening.begin.Symbol as begin-def
-use Rattle.log.proofs.opening.begin.Symbol.{name as #begin}
-use Rattle.log.proofs.opening.begin.Met as begin-thm
-use Rattle.log.specs.contracts.opening.take_line as take
-use Rattle.log.proofs.opening.take_line.Symbol as take-def
-use Rattle.log.proofs.opening.take_line.Symbol.{name as #take}
-use Rattle.log.proofs.opening.take_line.Met as take-thm
-use Rattle.log.specs.contracts.opening.scan.Key.{name as #self}
-use Rattle.log.specs.contracts.opening.scan as self
-use Rattle.log.proofs.opening.scan.Statement as stated
-use Rattle.log.proofs.opening.scan.Code as code
-use Rattle.log.proofs.opening.scan.Code.Mir as pieces
+use Rattle.message_log.specs.Scan.{pass_begun, CanTake, TookNextLine, Scanned}
+use Rattle.message_log.specs.declared.opening.Passing.{Passing}
+use Rattle.message_log.specs.declared.opening.Taken.{Taken}
+use Rattle.message_log.proofs.Again.{LentAgain, lends_again, comes_back}
+use Rattle.message_log.proofs.PassLaws.{Inv, left, begins, ends, can, goes}
+use Rattle.message_log.specs.contracts.opening.Passing as P
+use Rattle.message_log.proofs.opening.Passing.TheLaws as P'
+use Rattle.message_log.specs.contracts.opening.Taken as E
+use Rattle.message_log.proofs.opening.Taken.TheLaws as E'
+use Rattle.message_log.specs.contracts.opening.begin as begin
+use Rattle.message_log.proofs.opening.begin.Symbol as begin-def
+use Rattle.message_log.proofs.opening.begin.Symbol.{name as #begin}
+use Rattle.message_log.proofs.opening.begin.Met as begin-thm
+use Rattle.message_log.specs.contracts.opening.take_line as take
+use Rattle.message_log.proofs.opening.take_line.Symbol as take-def
+use Rattle.message_log.proofs.opening.take_line.Symbol.{name as #take}
+use Rattle.message_log.proofs.opening.take_line.Met as take-thm
+use Rattle.message_log.specs.contracts.opening.scan.Key.{name as #self}
+use Rattle.message_log.specs.contracts.opening.scan as self
+use Rattle.message_log.proofs.opening.scan.Statement as stated
+use Rattle.message_log.proofs.opening.scan.Code as code
+use Rattle.message_log.proofs.opening.scan.Code.Mir as pieces
 
 -- ---- where a turn begins: the reader's place, what was taken in, and the rows
 record St (file : List ℕ) (lo : ℕ) (xs : List (List ℕ)) : Type 0 where
@@ -417,5 +417,5 @@ scan-spec 𝓤 𝓛 𝓜 𝓡 =
     (meets 𝓛 𝓜.mem 𝓡.run (tables_of 𝓤 𝓛.H 𝓜 (tables 𝓤 𝓛.H 𝓜 𝓡 code.env))
     (cited 𝓤 𝓛.H (The-reader 𝓛 𝓜.mem 𝓡.run) 𝓜 𝓡 code.env #reader reader-def.routine code.calls-text::lines::reader (reader-thm.met 𝓤 𝓛 𝓜 𝓡))
     (cited 𝓤 𝓛.H (The-next 𝓛 𝓜.mem 𝓡.run) 𝓜 𝓡 code.env #next next-def.routine code.calls-text::lines::next (next-thm.met 𝓤 𝓛 𝓜 𝓡))
-    (cited 𝓤 𝓛.H (The-begin 𝓛 𝓜.mem 𝓡.run) 𝓜 𝓡 code.env #begin begin-def.routine code.calls-log::opening::begin (begin-thm.met 𝓤 𝓛 𝓜 𝓡))
-    (cited 𝓤 𝓛.H (The-take 𝓛 𝓜.mem 𝓡.run) 𝓜 𝓡 code.env #take take-def.routine code.calls-log::opening::take-line (take-thm.met 𝓤 𝓛 𝓜 𝓡)))
+    (cited 𝓤 𝓛.H (The-begin 𝓛 𝓜.mem 𝓡.run) 𝓜 𝓡 code.env #begin begin-def.routine code.calls-message_log::opening::begin (begin-thm.met 𝓤 𝓛 𝓜 𝓡))
+    (cited 𝓤 𝓛.H (The-take 𝓛 𝓜.mem 𝓡.run) 𝓜 𝓡 code.env #take take-def.routine code.calls-message_log::opening::take-line (take-thm.met 𝓤 𝓛 𝓜 𝓡)))

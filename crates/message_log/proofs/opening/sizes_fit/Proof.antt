@@ -1,8 +1,8 @@
 -- One test for each size.
 use mathlib.Core.Path.{sym}
-use Rattle.log.proofs.SizeLaws.{short_log, long_log, long_file, wrong_store, wrong_table, last_size}
-use Rattle.log.proofs.opening.sizes_fit.Statement.{statement}
-use Rattle.log.proofs.opening.sizes_fit.Tie as tie
+use Rattle.message_log.proofs.SizeLaws.{short_log, long_log, long_file, wrong_store, wrong_table, last_size}
+use Rattle.message_log.proofs.opening.sizes_fit.Statement.{statement}
+use Rattle.message_log.proofs.opening.sizes_fit.Tie as tie
 
 returns : tie.Need-returns
 returns c =

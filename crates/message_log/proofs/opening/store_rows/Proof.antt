@@ -5,12 +5,12 @@ use Prim.Native.Nat.{◌-◌}
 use native.Mathlib.Omega.{arith}
 use borrow.Author.Rules.{rules}
 use lib.ListN.{get_or, set}
-use Rattle.log.specs.Log.{row, row_id, row_tried}
-use Rattle.log.specs.Opened.{stored_at}
-use Rattle.log.proofs.StoreLaws.{Storing, storing_ends, storing_line, storing_more}
-use Rattle.log.proofs.TableLaws.{next_row, last_row}
-use Rattle.log.proofs.opening.store_rows.Statement.{statement}
-use Rattle.log.proofs.opening.store_rows.Tie as tie
+use Rattle.message_log.specs.Log.{row, row_id, row_tried}
+use Rattle.message_log.specs.Opened.{stored_at}
+use Rattle.message_log.proofs.StoreLaws.{Storing, storing_ends, storing_line, storing_more}
+use Rattle.message_log.proofs.TableLaws.{next_row, last_row}
+use Rattle.message_log.proofs.opening.store_rows.Statement.{statement}
+use Rattle.message_log.proofs.opening.store_rows.Tie as tie
 
 abbrev invariant-loop : tie.invariant-loop
 invariant-loop file rows count store₀ left₀ i₀ store left i = Storing file rows count store₀ left₀ store left i

@@ -5,14 +5,14 @@ use mathlib.Core.List.{List}
 use Prim.Native.Nat.{ℕ}
 use Rattle.text.specs.declared.lines.Line.{Line}
 use Rattle.text.specs.declared.lines.Line.TheVariants.{At, End}
-use Rattle.log.specs.declared.opening.Pass.{Pass}
-use Rattle.log.specs.declared.opening.Passing.{Passing}
-use Rattle.log.specs.declared.opening.Taken.{Taken}
-use Rattle.log.specs.declared.opening.Taken.TheVariants.{Next, Over}
+use Rattle.message_log.specs.declared.opening.Pass.{Pass}
+use Rattle.message_log.specs.declared.opening.Passing.{Passing}
+use Rattle.message_log.specs.declared.opening.Taken.{Taken}
+use Rattle.message_log.specs.declared.opening.Taken.TheVariants.{Next, Over}
 use borrow.Author.Rules.{rules}
-use Rattle.log.specs.Scan.{CanTake, TookNextLine}
-use Rattle.log.proofs.opening.take_line.Statement.{statement}
-use Rattle.log.proofs.opening.take_line.Tie as tie
+use Rattle.message_log.specs.Scan.{CanTake, TookNextLine}
+use Rattle.message_log.proofs.opening.take_line.Statement.{statement}
+use Rattle.message_log.proofs.opening.take_line.Tie as tie
 
 can-take : (lo : ℕ) (file : List ℕ) (rows : List (List ℕ)) (t : Taken) (l : Line) (p : Pass) (a e : ℕ) → t ≡ Next p → l ≡ At a e → CanTake lo file rows t l → CanTake lo file rows (Next p) (At a e)
 can-take lo file rows t l p a e et el k = subst (CanTake lo file rows (Next p)) el (subst (λ u. CanTake lo file rows u l) et k)

@@ -4,12 +4,12 @@ use Prim.Native.Nat.{◌-◌, ◌^◌}
 use native.Mathlib.Omega.{arith}
 use borrow.Author.Rules.{rules}
 use lib.ListN.{take}
-use Rattle.log.specs.Log.{search_row}
-use Rattle.log.proofs.RowLaws.{remove_missing, row_out}
-use Rattle.log.proofs.SearchLaws.{search_finds}
-use Rattle.log.proofs.WalLaws.{found_missing, found_at}
-use Rattle.log.proofs.opening.take_row.Statement.{statement}
-use Rattle.log.proofs.opening.take_row.Tie as tie
+use Rattle.message_log.specs.Log.{search_row}
+use Rattle.message_log.proofs.RowLaws.{remove_missing, row_out}
+use Rattle.message_log.proofs.SearchLaws.{search_finds}
+use Rattle.message_log.proofs.WalLaws.{found_missing, found_at}
+use Rattle.message_log.proofs.opening.take_row.Statement.{statement}
+use Rattle.message_log.proofs.opening.take_row.Tie as tie
 
 search-row-requires : tie.Need-search-row-requires
 search-row-requires c κs = search rules

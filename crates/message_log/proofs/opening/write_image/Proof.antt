@@ -5,10 +5,10 @@ use Prim.Native.Nat.{◌-◌}
 use native.Mathlib.Omega.{arith}
 use borrow.Author.Rules.{rules}
 use lib.ListN.{get_or}
-use Rattle.log.proofs.StoreLaws.{Imaging, imaging_ends, imaging_fits, size_fits, tries_fit, imaging_more}
-use Rattle.log.proofs.TableLaws.{next_row, last_row}
-use Rattle.log.proofs.opening.write_image.Statement.{statement}
-use Rattle.log.proofs.opening.write_image.Tie as tie
+use Rattle.message_log.proofs.StoreLaws.{Imaging, imaging_ends, imaging_fits, size_fits, tries_fit, imaging_more}
+use Rattle.message_log.proofs.TableLaws.{next_row, last_row}
+use Rattle.message_log.proofs.opening.write_image.Statement.{statement}
+use Rattle.message_log.proofs.opening.write_image.Tie as tie
 
 abbrev invariant-loop : tie.invariant-loop
 invariant-loop log₀ records₀ store left count p₀ i₀ log records p i = Imaging log₀ records₀ store left count log records p i

@@ -4,11 +4,11 @@ use mathlib.Core.Path.{◌≡◌, sym, ap, ◌∙◌}
 use Prim.Native.Nat.{◌≤◌, min}
 use native.Mathlib.Omega.{arith}
 use lib.ListN.{length, take}
-use Rattle.log.specs.Log.{rewrite}
-use Rattle.log.proofs.RewriteLaws.{Told, told_len, told_over, can_pack, spans_fit, cut_rows, spread_span, spread_no_higher, packed_and_spread, not_rewritten}
+use Rattle.message_log.specs.Log.{rewrite}
+use Rattle.message_log.proofs.RewriteLaws.{Told, told_len, told_over, can_pack, spans_fit, cut_rows, spread_span, spread_no_higher, packed_and_spread, not_rewritten}
 use borrow.Author.Rules.{rules}
-use Rattle.log.proofs.rewrite.compact.Statement.{statement}
-use Rattle.log.proofs.rewrite.compact.Tie as tie
+use Rattle.message_log.proofs.rewrite.compact.Statement.{statement}
+use Rattle.message_log.proofs.rewrite.compact.Tie as tie
 
 image-len-requires : tie.Need-image-len-requires
 image-len-requires c κs = search rules

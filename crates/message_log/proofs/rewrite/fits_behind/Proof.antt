@@ -3,9 +3,9 @@ use mathlib.Core.Path.{sym}
 use Prim.Native.Nat.{◌+◌}
 use native.Mathlib.Omega.{arith}
 use borrow.Author.Tests.{lt-leb}
-use Rattle.log.proofs.TableLaws.{room_behind}
-use Rattle.log.proofs.rewrite.fits_behind.Statement.{statement}
-use Rattle.log.proofs.rewrite.fits_behind.Tie as tie
+use Rattle.message_log.proofs.TableLaws.{room_behind}
+use Rattle.message_log.proofs.rewrite.fits_behind.Statement.{statement}
+use Rattle.message_log.proofs.rewrite.fits_behind.Tie as tie
 
 returns : tie.Need-returns
 returns c =

@@ -5,12 +5,12 @@ use Prim.Native.Nat.{◌+◌, ◌-◌}
 use native.Mathlib.Omega.{arith}
 use borrow.Author.Tests.{leb-true, leb-false}
 use lib.ListN.{get_or}
-use Rattle.log.specs.Log.{row_at, row_len}
-use Rattle.log.proofs.RewriteLaws.{Measuring, measuring_begins, measuring_ends, measured, over_low, over_long, over_span}
-use Rattle.log.proofs.TableLaws.{no_row, last_row}
+use Rattle.message_log.specs.Log.{row_at, row_len}
+use Rattle.message_log.proofs.RewriteLaws.{Measuring, measuring_begins, measuring_ends, measured, over_low, over_long, over_span}
+use Rattle.message_log.proofs.TableLaws.{no_row, last_row}
 use borrow.Author.Rules.{rules}
-use Rattle.log.proofs.rewrite.image_len.Statement.{statement}
-use Rattle.log.proofs.rewrite.image_len.Tie as tie
+use Rattle.message_log.proofs.rewrite.image_len.Statement.{statement}
+use Rattle.message_log.proofs.rewrite.image_len.Tie as tie
 
 abbrev invariant-loop : tie.invariant-loop
 invariant-loop records count long start₀ to₀ i₀ start to i = Measuring long records count start to i

@@ -6,8 +6,8 @@ use borrow.Author.Rules.{rules}
 use lib.ListN.{length, length-set}
 use Rattle.text.specs.Bytes.{write, part}
 use Rattle.text.proofs.WriteLaws.{move_step, move_end, move_same}
-use Rattle.log.proofs.rewrite.move_down.Statement.{statement}
-use Rattle.log.proofs.rewrite.move_down.Tie as tie
+use Rattle.message_log.proofs.rewrite.move_down.Statement.{statement}
+use Rattle.message_log.proofs.rewrite.move_down.Tie as tie
 
 abbrev invariant-loop : tie.invariant-loop
 invariant-loop log₀ a n to end k₀ p₀ log k p = (p ≤ k) × (k ≤ end) × (end ≤ length log) × (length log ≡ length log₀) ×

@@ -5,10 +5,10 @@ use native.Mathlib.Omega.{arith}
 use lib.ListN.{length, length-set}
 use Rattle.text.specs.Bytes.{write, part}
 use Rattle.text.proofs.WriteLaws.{move_end, move_same}
-use Rattle.log.proofs.RewriteLaws.{move_up_step}
+use Rattle.message_log.proofs.RewriteLaws.{move_up_step}
 use borrow.Author.Rules.{rules}
-use Rattle.log.proofs.rewrite.move_up.Statement.{statement}
-use Rattle.log.proofs.rewrite.move_up.Tie as tie
+use Rattle.message_log.proofs.rewrite.move_up.Statement.{statement}
+use Rattle.message_log.proofs.rewrite.move_up.Tie as tie
 
 abbrev invariant-loop : tie.invariant-loop
 invariant-loop log₀ a n to k₀ log k = (k ≤ n) × (a ≤ to) × (to + n ≤ length log) × (length log ≡ length log₀) ×

@@ -2,11 +2,11 @@
 use mathlib.Core.List.{[]}
 use Prim.Native.Nat.{◌-◌}
 use native.Mathlib.Omega.{arith}
-use Rattle.log.proofs.RewriteLaws.{Packing, packing_begins, packing_ends, to_be_moved, packed_on}
-use Rattle.log.proofs.TableLaws.{no_row, last_row}
+use Rattle.message_log.proofs.RewriteLaws.{Packing, packing_begins, packing_ends, to_be_moved, packed_on}
+use Rattle.message_log.proofs.TableLaws.{no_row, last_row}
 use borrow.Author.Rules.{rules}
-use Rattle.log.proofs.rewrite.pack.Statement.{statement}
-use Rattle.log.proofs.rewrite.pack.Tie as tie
+use Rattle.message_log.proofs.rewrite.pack.Statement.{statement}
+use Rattle.message_log.proofs.rewrite.pack.Tie as tie
 
 abbrev invariant-loop : tie.invariant-loop
 invariant-loop log₀ records₀ count to₀ i₀ log records to i = Packing log₀ records₀ count log records to i

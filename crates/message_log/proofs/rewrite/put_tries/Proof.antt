@@ -6,10 +6,10 @@ use Rattle.text.specs.Bytes.{Wrote, write}
 use Rattle.text.specs.Format.{retry_line}
 use Rattle.text.proofs.AnswerLaws.{filled_part}
 use Rattle.text.proofs.WriteLaws.{wrote_none}
-use Rattle.log.proofs.RewriteLaws.{no_tries, some_tries}
+use Rattle.message_log.proofs.RewriteLaws.{no_tries, some_tries}
 use borrow.Author.Rules.{rules}
-use Rattle.log.proofs.rewrite.put_tries.Statement.{statement}
-use Rattle.log.proofs.rewrite.put_tries.Tie as tie
+use Rattle.message_log.proofs.rewrite.put_tries.Statement.{statement}
+use Rattle.message_log.proofs.rewrite.put_tries.Tie as tie
 
 returns : tie.Need-returns
 returns c =

@@ -2,10 +2,10 @@
 use Prim.Native.Nat.{◌-◌}
 use native.Mathlib.Omega.{arith}
 use mathlib.Core.Path.{refl, ap}
-use Rattle.log.proofs.RewriteLaws.{Spreading, spreading_begins, spreading_ends, to_be_spread, spread_on}
+use Rattle.message_log.proofs.RewriteLaws.{Spreading, spreading_begins, spreading_ends, to_be_spread, spread_on}
 use borrow.Author.Rules.{rules}
-use Rattle.log.proofs.rewrite.spread.Statement.{statement}
-use Rattle.log.proofs.rewrite.spread.Tie as tie
+use Rattle.message_log.proofs.rewrite.spread.Statement.{statement}
+use Rattle.message_log.proofs.rewrite.spread.Tie as tie
 
 abbrev invariant-loop : tie.invariant-loop
 invariant-loop log₀ records₀ count end to₀ i₀ log records to i = Spreading log₀ records₀ count log records to i

@@ -1,10 +1,10 @@
 -- No attempts have no line; else it is the length of the retry line.
 use mathlib.Core.Path.{ap, sym, ◌∙◌}
 use lib.ListN.{length}
-use Rattle.log.proofs.RewriteLaws.{no_tries, some_tries}
+use Rattle.message_log.proofs.RewriteLaws.{no_tries, some_tries}
 use borrow.Author.Rules.{rules}
-use Rattle.log.proofs.rewrite.tries_len.Statement.{statement}
-use Rattle.log.proofs.rewrite.tries_len.Tie as tie
+use Rattle.message_log.proofs.rewrite.tries_len.Statement.{statement}
+use Rattle.message_log.proofs.rewrite.tries_len.Tie as tie
 
 returns : tie.Need-returns
 returns c =

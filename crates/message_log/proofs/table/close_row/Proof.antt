@@ -7,9 +7,9 @@ use borrow.Author.Rules.{rules}
 use lib.ListN.{length, get_or, set, length-set}
 use Rattle.text.specs.Bytes.{write, part}
 use Rattle.text.proofs.WriteLaws.{move_step, move_end, move_past}
-use Rattle.log.proofs.table.close_row.Statement.{statement}
+use Rattle.message_log.proofs.table.close_row.Statement.{statement}
 -- The loop keeps that what is left, moved down from where it has come, gives the whole.
-use Rattle.log.proofs.table.close_row.Tie as tie
+use Rattle.message_log.proofs.table.close_row.Tie as tie
 
 abbrev invariant-loop : tie.invariant-loop
 invariant-loop rows₀ i count to₀ k₀ rows to k = (k ≡ to + 1) × (k ≤ length rows) × (length rows ≡ length rows₀) × (write rows to (part rows k count) ≡ write rows₀ i (part rows₀ (i + 1) count))

@@ -7,9 +7,9 @@ use borrow.Author.Rules.{rules}
 use lib.ListN.{length, length-set}
 use Rattle.text.specs.Bytes.{write, part}
 use Rattle.text.proofs.WriteLaws.{shift_step, shift_end}
-use Rattle.log.proofs.table.open_row.Statement.{statement}
+use Rattle.message_log.proofs.table.open_row.Statement.{statement}
 -- The loop keeps that the row in hand and those left, written from here on, give the whole.
-use Rattle.log.proofs.table.open_row.Tie as tie
+use Rattle.message_log.proofs.table.open_row.Tie as tie
 
 abbrev invariant-loop : tie.invariant-loop
 invariant-loop rows₀ i n carry₀ j₀ rows carry j = (j ≤ n) × (n < length rows) × (length rows ≡ length rows₀) × (write rows j (carry ∷ part rows j n) ≡ write rows₀ i (carry₀ ∷ part rows₀ i n))

@@ -5,10 +5,10 @@ use Prim.Native.Nat.{◌≤◌, ◌-◌}
 use native.Mathlib.Omega.{arith}
 use borrow.Author.Rules.{rules}
 use lib.ListN.{length, take, length-take}
-use Rattle.log.specs.Table.{found_of}
-use Rattle.log.proofs.SearchLaws.{Left, left_all, left_none, left_here, left_above, left_below}
-use Rattle.log.proofs.table.search_row.Statement.{statement}
-use Rattle.log.proofs.table.search_row.Tie as tie
+use Rattle.message_log.specs.Table.{found_of}
+use Rattle.message_log.proofs.SearchLaws.{Left, left_all, left_none, left_here, left_above, left_below}
+use Rattle.message_log.proofs.table.search_row.Statement.{statement}
+use Rattle.message_log.proofs.table.search_row.Tie as tie
 
 abbrev invariant-loop : tie.invariant-loop
 invariant-loop rows count id lo₀ hi₀ lo hi = (hi ≤ length rows) × Left id (take count rows) lo hi

@@ -2,8 +2,8 @@
 use mathlib.Core.Path.{sym}
 use borrow.Author.Rules.{rules}
 use lib.Seq.{set_out}
-use Rattle.log.proofs.table.set_row.Statement.{statement}
-use Rattle.log.proofs.table.set_row.Tie as tie
+use Rattle.message_log.proofs.table.set_row.Statement.{statement}
+use Rattle.message_log.proofs.table.set_row.Tie as tie
 
 mul-r : tie.Need-overflow-mul-r
 mul-r c = search rules

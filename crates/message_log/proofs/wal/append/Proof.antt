@@ -1,4 +1,4 @@
--- `log::wal::append` meets its contract: a manual proof over its MIR (a walk). The struct's borrow is opened, the struct is copied out whole, `append_step` is called on it and on the rest, the struct that it returns is stored whole, and the borrow is closed at it.
+-- `message_log::wal::append` meets its contract: a manual proof over its MIR (a walk). The struct's borrow is opened, the struct is copied out whole, `append_step` is called on it and on the rest, the struct that it returns is stored whole, and the borrow is closed at it.
 -- Each `&mut` slice goes to the callee for good, at its own lifetime and name, so its last list is what the callee says. Of a `&` slice a copy is passed.
 -- All that the proof knows of `append_step` is that it meets its contract. Written by tools/stepped.py.
 -- Assumes nothing.
@@ -43,23 +43,23 @@ use denote.Triple.Entry.{on_entry}
 use denote.Triple.Spec.{Meets, triple_of}
 use denote.Triple.Table.{entered, cited}
 use denote.Triple.Walked.{says, Stays, stay_ref, stay_none_slice, gave_slice, walk_of, Goes-ref, Goes-none_slice, Goes-gave_slice, Walks, ends_at, walked, walk_Meets}
-use Rattle.log.specs.Log.{DidAppend, state, append_of}
-use Rattle.log.specs.declared.Counters.{Counters}
-use Rattle.log.specs.declared.Answered.{Answered}
-use Rattle.log.specs.contracts.Counters as T
-use Rattle.log.proofs.Counters.TheLaws as T'
-use Rattle.log.specs.contracts.Answered as S
-use Rattle.log.proofs.Answered.TheLaws as S'
-use Rattle.log.specs.contracts.Answer as E
-use Rattle.log.proofs.Answer.TheLaws as E'
-use Rattle.log.specs.contracts.wal.append_step as callee
-use Rattle.log.proofs.wal.append_step.Symbol as callee-def
-use Rattle.log.proofs.wal.append_step.Symbol.{name as #callee}
-use Rattle.log.proofs.wal.append_step.Met as callee-thm
-use Rattle.log.specs.contracts.wal.append.Key.{name as #self}
-use Rattle.log.specs.contracts.wal.append as self
-use Rattle.log.proofs.wal.append.Statement as stated
-use Rattle.log.proofs.wal.append.Code as code
+use Rattle.message_log.specs.Log.{DidAppend, state, append_of}
+use Rattle.message_log.specs.declared.Counters.{Counters}
+use Rattle.message_log.specs.declared.Answered.{Answered}
+use Rattle.message_log.specs.contracts.Counters as T
+use Rattle.message_log.proofs.Counters.TheLaws as T'
+use Rattle.message_log.specs.contracts.Answered as S
+use Rattle.message_log.proofs.Answered.TheLaws as S'
+use Rattle.message_log.specs.contracts.Answer as E
+use Rattle.message_log.proofs.Answer.TheLaws as E'
+use Rattle.message_log.specs.contracts.wal.append_step as callee
+use Rattle.message_log.proofs.wal.append_step.Symbol as callee-def
+use Rattle.message_log.proofs.wal.append_step.Symbol.{name as #callee}
+use Rattle.message_log.proofs.wal.append_step.Met as callee-thm
+use Rattle.message_log.specs.contracts.wal.append.Key.{name as #self}
+use Rattle.message_log.specs.contracts.wal.append as self
+use Rattle.message_log.proofs.wal.append.Statement as stated
+use Rattle.message_log.proofs.wal.append.Code as code
 
 abbrev R : RattleType
 R = T.the_row
@@ -197,4 +197,4 @@ append-spec 𝓤 𝓛 𝓜 𝓡 =
     entered 𝓤 𝓛.H (triple_of 𝓛 self.signature (self.spec 𝓛 𝓜.mem 𝓡.run))
     (tables 𝓤 𝓛.H 𝓜 𝓡 code.env).C (tables 𝓤 𝓛.H 𝓜 𝓡 code.env).Λ #self code.function (code.unfolded 𝓤 𝓛.H 𝓜 𝓡)
     (meets 𝓛 𝓜.mem 𝓡.run (tables_of 𝓤 𝓛.H 𝓜 (tables 𝓤 𝓛.H 𝓜 𝓡 code.env))
-    (cited 𝓤 𝓛.H (Callee 𝓛 𝓜.mem 𝓡.run) 𝓜 𝓡 code.env #callee callee-def.routine code.calls-log::wal::append-step (callee-thm.met 𝓤 𝓛 𝓜 𝓡)))
+    (cited 𝓤 𝓛.H (Callee 𝓛 𝓜.mem 𝓡.run) 𝓜 𝓡 code.env #callee callee-def.routine code.calls-message_log::wal::append-step (callee-thm.met 𝓤 𝓛 𝓜 𝓡)))

@@ -6,10 +6,10 @@ use borrow.Author.Tests.{leb-true}
 use borrow.Author.Rules.{rules}
 use lib.ListN.{length}
 use Rattle.text.specs.Format.{untried, Message}
-use Rattle.log.specs.Log.{state, logged}
-use Rattle.log.proofs.WalLaws.{compacted_is, appended_behind, appended_anew}
-use Rattle.log.proofs.wal.append_record.Statement.{statement}
-use Rattle.log.proofs.wal.append_record.Tie as tie
+use Rattle.message_log.specs.Log.{state, logged}
+use Rattle.message_log.proofs.WalLaws.{compacted_is, appended_behind, appended_anew}
+use Rattle.message_log.proofs.wal.append_record.Statement.{statement}
+use Rattle.message_log.proofs.wal.append_record.Tie as tie
 
 fits-behind-requires : tie.Need-fits-behind-requires
 fits-behind-requires c κs = search rules

@@ -6,10 +6,10 @@ use borrow.Author.Rules.{rules}
 use lib.ListN.{length}
 use Rattle.text.specs.Format.{untried, Message, record_line}
 use Rattle.text.proofs.AnswerLaws.{told, told_over}
-use Rattle.log.specs.Log.{state}
-use Rattle.log.proofs.WalLaws.{append_long_name, append_long_body, append_full, append_no_id, append_no_room, append_goes}
-use Rattle.log.proofs.wal.append_step.Statement.{statement}
-use Rattle.log.proofs.wal.append_step.Tie as tie
+use Rattle.message_log.specs.Log.{state}
+use Rattle.message_log.proofs.WalLaws.{append_long_name, append_long_body, append_full, append_no_id, append_no_room, append_goes}
+use Rattle.message_log.proofs.wal.append_step.Statement.{statement}
+use Rattle.message_log.proofs.wal.append_step.Tie as tie
 
 turned-away-requires : tie.Need-turned-away-requires
 turned-away-requires c κs = search rules

@@ -1,10 +1,10 @@
 -- 0 is none, and any other number is tested against 255.
-use Rattle.log.proofs.WalLaws.{counts_none, counts_most}
-use Rattle.log.specs.Log.{counts_tries}
+use Rattle.message_log.proofs.WalLaws.{counts_none, counts_most}
+use Rattle.message_log.specs.Log.{counts_tries}
 use mathlib.Core.Path.{sym, ap, ◌∙◌}
 use borrow.Author.Rules.{rules}
-use Rattle.log.proofs.wal.counts_tries.Statement.{statement}
-use Rattle.log.proofs.wal.counts_tries.Tie as tie
+use Rattle.message_log.proofs.wal.counts_tries.Statement.{statement}
+use Rattle.message_log.proofs.wal.counts_tries.Tie as tie
 
 returns : tie.Need-returns
 returns c = sym (ap counts_tries c.if1.true ∙ counts_none)

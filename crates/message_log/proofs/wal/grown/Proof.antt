@@ -1,8 +1,8 @@
 -- `wal::grown` meets its contract: by its calls and its tests. Assumes nothing.
 use mathlib.Core.Path.{refl}
 use borrow.Author.Rules.{rules}
-use Rattle.log.proofs.wal.grown.Statement.{statement}
-use Rattle.log.proofs.wal.grown.Tie as tie
+use Rattle.message_log.proofs.wal.grown.Statement.{statement}
+use Rattle.message_log.proofs.wal.grown.Tie as tie
 
 add-t3 : tie.Need-overflow-add-t3
 add-t3 c = search rules

@@ -3,9 +3,9 @@ use mathlib.Core.Path.{sym}
 use Prim.Native.Nat.{◌+◌}
 use native.Mathlib.Omega.{arith}
 use borrow.Author.Rules.{rules}
-use Rattle.log.proofs.WalLaws.{keeps_long, keeps_limit, keeps_live}
-use Rattle.log.proofs.wal.keeps_on.Statement.{statement}
-use Rattle.log.proofs.wal.keeps_on.Tie as tie
+use Rattle.message_log.proofs.WalLaws.{keeps_long, keeps_limit, keeps_live}
+use Rattle.message_log.proofs.wal.keeps_on.Statement.{statement}
+use Rattle.message_log.proofs.wal.keeps_on.Tie as tie
 
 returns : tie.Need-returns
 returns c =

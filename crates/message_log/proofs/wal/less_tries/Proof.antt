@@ -4,8 +4,8 @@ use native.Mathlib.Omega.{arith}
 use mathlib.Core.List.{[]}
 use lib.ListN.{get_or-eq_default}
 use borrow.Author.Rules.{rules}
-use Rattle.log.proofs.wal.less_tries.Statement.{statement}
-use Rattle.log.proofs.wal.less_tries.Tie as tie
+use Rattle.message_log.proofs.wal.less_tries.Statement.{statement}
+use Rattle.message_log.proofs.wal.less_tries.Tie as tie
 
 mul-r : tie.Need-overflow-mul-r
 mul-r c = search rules

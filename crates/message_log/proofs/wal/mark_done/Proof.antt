@@ -1,6 +1,6 @@
 -- The done line goes behind the others, or the log is rewritten.
-use Rattle.log.proofs.WalLaws.{keeps_room, line_behind_lem, marked_behind, marked_anew}
-use Rattle.log.specs.Log.{state}
+use Rattle.message_log.proofs.WalLaws.{keeps_room, line_behind_lem, marked_behind, marked_anew}
+use Rattle.message_log.specs.Log.{state}
 use Rattle.text.proofs.AnswerLaws.{filled_part}
 use Rattle.text.specs.Format.{done_line}
 use lib.ListN.{length}
@@ -8,8 +8,8 @@ use native.Mathlib.Omega.{arith}
 use Prim.Native.Nat.{◌+◌}
 use mathlib.Core.Path.{sym, ◌∙◌}
 use borrow.Author.Rules.{rules}
-use Rattle.log.proofs.wal.mark_done.Statement.{statement}
-use Rattle.log.proofs.wal.mark_done.Tie as tie
+use Rattle.message_log.proofs.wal.mark_done.Statement.{statement}
+use Rattle.message_log.proofs.wal.mark_done.Tie as tie
 
 done-len-requires : tie.Need-done-len-requires
 done-len-requires c κs = search rules

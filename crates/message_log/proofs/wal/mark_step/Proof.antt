@@ -1,10 +1,10 @@
 -- The row found is taken out, and the message is marked done.
 use mathlib.Core.Path.{sym, ◌∙◌, ap}
 use borrow.Author.Rules.{rules}
-use Rattle.log.specs.Log.{state, search_row, open_rows, marked_done}
-use Rattle.log.proofs.WalLaws.{found_missing, found_at, mark_unknown, mark_known, without_any}
-use Rattle.log.proofs.wal.mark_step.Statement.{statement}
-use Rattle.log.proofs.wal.mark_step.Tie as tie
+use Rattle.message_log.specs.Log.{state, search_row, open_rows, marked_done}
+use Rattle.message_log.proofs.WalLaws.{found_missing, found_at, mark_unknown, mark_known, without_any}
+use Rattle.message_log.proofs.wal.mark_step.Statement.{statement}
+use Rattle.message_log.proofs.wal.mark_step.Tie as tie
 
 search-row-requires : tie.Need-search-row-requires
 search-row-requires c κs = search rules

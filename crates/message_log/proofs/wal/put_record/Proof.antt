@@ -5,9 +5,9 @@ use borrow.Author.Rules.{rules}
 use lib.ListN.{length}
 use Rattle.text.specs.Format.{untried, Message, record_line}
 use Rattle.text.proofs.AnswerLaws.{filled_part}
-use Rattle.log.proofs.WalLaws.{logged_is}
-use Rattle.log.proofs.wal.put_record.Statement.{statement}
-use Rattle.log.proofs.wal.put_record.Tie as tie
+use Rattle.message_log.proofs.WalLaws.{logged_is}
+use Rattle.message_log.proofs.wal.put_record.Statement.{statement}
+use Rattle.message_log.proofs.wal.put_record.Tie as tie
 
 sub-encode-record : tie.Need-overflow-sub-encode-record
 sub-encode-record c = search rules

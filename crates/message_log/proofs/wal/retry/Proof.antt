@@ -1,4 +1,4 @@
--- `log::wal::retry` meets its contract: a manual proof over its MIR (a walk). The struct's borrow is opened, the struct is copied out whole, `retry_step` is called on it and on the rest, the struct that it returns is stored whole, and the borrow is closed at it.
+-- `message_log::wal::retry` meets its contract: a manual proof over its MIR (a walk). The struct's borrow is opened, the struct is copied out whole, `retry_step` is called on it and on the rest, the struct that it returns is stored whole, and the borrow is closed at it.
 -- Each `&mut` slice goes to the callee for good, at its own lifetime and name, so its last list is what the callee says. Of a `&` slice a copy is passed.
 -- All that the proof knows of `retry_step` is that it meets its contract. Written by tools/stepped.py.
 -- Assumes nothing.
@@ -44,26 +44,26 @@ use denote.Triple.Entry.{on_entry}
 use denote.Triple.Spec.{Meets, triple_of}
 use denote.Triple.Table.{entered, cited}
 use denote.Triple.Walked.{says, Stays, stay_ref, stay_none, gave_slice, walk_of, Goes-ref, Goes-none, Goes-gave_slice, Walks, ends_at, walked, walk_Meets}
-use Rattle.log.specs.Log.{DidMark, state, retry_of}
-use Rattle.log.specs.declared.Counters.{Counters}
-use Rattle.log.specs.declared.AnsweredDue.{AnsweredDue}
-use Rattle.log.specs.declared.LogId.{LogId}
-use Rattle.log.specs.contracts.LogId as X3
-use Rattle.log.proofs.LogId.TheLaws as X3'
-use Rattle.log.specs.contracts.Counters as T
-use Rattle.log.proofs.Counters.TheLaws as T'
-use Rattle.log.specs.contracts.AnsweredDue as S
-use Rattle.log.proofs.AnsweredDue.TheLaws as S'
-use Rattle.log.specs.contracts.Due as E
-use Rattle.log.proofs.Due.TheLaws as E'
-use Rattle.log.specs.contracts.wal.retry_step as callee
-use Rattle.log.proofs.wal.retry_step.Symbol as callee-def
-use Rattle.log.proofs.wal.retry_step.Symbol.{name as #callee}
-use Rattle.log.proofs.wal.retry_step.Met as callee-thm
-use Rattle.log.specs.contracts.wal.retry.Key.{name as #self}
-use Rattle.log.specs.contracts.wal.retry as self
-use Rattle.log.proofs.wal.retry.Statement as stated
-use Rattle.log.proofs.wal.retry.Code as code
+use Rattle.message_log.specs.Log.{DidMark, state, retry_of}
+use Rattle.message_log.specs.declared.Counters.{Counters}
+use Rattle.message_log.specs.declared.AnsweredDue.{AnsweredDue}
+use Rattle.message_log.specs.declared.LogId.{LogId}
+use Rattle.message_log.specs.contracts.LogId as X3
+use Rattle.message_log.proofs.LogId.TheLaws as X3'
+use Rattle.message_log.specs.contracts.Counters as T
+use Rattle.message_log.proofs.Counters.TheLaws as T'
+use Rattle.message_log.specs.contracts.AnsweredDue as S
+use Rattle.message_log.proofs.AnsweredDue.TheLaws as S'
+use Rattle.message_log.specs.contracts.Due as E
+use Rattle.message_log.proofs.Due.TheLaws as E'
+use Rattle.message_log.specs.contracts.wal.retry_step as callee
+use Rattle.message_log.proofs.wal.retry_step.Symbol as callee-def
+use Rattle.message_log.proofs.wal.retry_step.Symbol.{name as #callee}
+use Rattle.message_log.proofs.wal.retry_step.Met as callee-thm
+use Rattle.message_log.specs.contracts.wal.retry.Key.{name as #self}
+use Rattle.message_log.specs.contracts.wal.retry as self
+use Rattle.message_log.proofs.wal.retry.Statement as stated
+use Rattle.message_log.proofs.wal.retry.Code as code
 
 abbrev R : RattleType
 R = T.the_row
@@ -188,4 +188,4 @@ retry-spec 𝓤 𝓛 𝓜 𝓡 =
     entered 𝓤 𝓛.H (triple_of 𝓛 self.signature (self.spec 𝓛 𝓜.mem 𝓡.run))
     (tables 𝓤 𝓛.H 𝓜 𝓡 code.env).C (tables 𝓤 𝓛.H 𝓜 𝓡 code.env).Λ #self code.function (code.unfolded 𝓤 𝓛.H 𝓜 𝓡)
     (meets 𝓛 𝓜.mem 𝓡.run (tables_of 𝓤 𝓛.H 𝓜 (tables 𝓤 𝓛.H 𝓜 𝓡 code.env))
-    (cited 𝓤 𝓛.H (Callee 𝓛 𝓜.mem 𝓡.run) 𝓜 𝓡 code.env #callee callee-def.routine code.calls-log::wal::retry-step (callee-thm.met 𝓤 𝓛 𝓜 𝓡)))
+    (cited 𝓤 𝓛.H (Callee 𝓛 𝓜.mem 𝓡.run) 𝓜 𝓡 code.env #callee callee-def.routine code.calls-message_log::wal::retry-step (callee-thm.met 𝓤 𝓛 𝓜 𝓡)))

@@ -1,15 +1,15 @@
 -- The row says the attempts first, where all then fits; else nothing changes.
-use Rattle.log.proofs.WalLaws.{retry_fits, retry_no_room}
-use Rattle.log.specs.Log.{state, retry_written}
-use Rattle.log.specs.declared.Counters.{Counters}
+use Rattle.message_log.proofs.WalLaws.{retry_fits, retry_no_room}
+use Rattle.message_log.specs.Log.{state, retry_written}
+use Rattle.message_log.specs.declared.Counters.{Counters}
 use lib.ListN.{length}
 use borrow.Author.Tests.{leb-true}
 use native.Mathlib.Omega.{arith}
 use Prim.Native.Nat.{◌+◌}
 use mathlib.Core.Path.{sym, ap, ◌∙◌}
 use borrow.Author.Rules.{rules}
-use Rattle.log.proofs.wal.retry_at.Statement.{statement}
-use Rattle.log.proofs.wal.retry_at.Tie as tie
+use Rattle.message_log.proofs.wal.retry_at.Statement.{statement}
+use Rattle.message_log.proofs.wal.retry_at.Tie as tie
 
 retry-len-requires : tie.Need-retry-len-requires
 retry-len-requires c κs = search rules

@@ -1,11 +1,11 @@
 -- An id that is not open, and a number that no line says, change nothing.
-use Rattle.log.proofs.WalLaws.{found_missing, found_at, retry_uncounted, retry_unknown, retry_known}
-use Rattle.log.specs.Log.{state, search_row}
+use Rattle.message_log.proofs.WalLaws.{found_missing, found_at, retry_uncounted, retry_unknown, retry_known}
+use Rattle.message_log.specs.Log.{state, search_row}
 use lib.ListN.{take}
 use mathlib.Core.Path.{sym, ◌∙◌}
 use borrow.Author.Rules.{rules}
-use Rattle.log.proofs.wal.retry_step.Statement.{statement}
-use Rattle.log.proofs.wal.retry_step.Tie as tie
+use Rattle.message_log.proofs.wal.retry_step.Statement.{statement}
+use Rattle.message_log.proofs.wal.retry_step.Tie as tie
 
 counts-tries-requires : tie.Need-counts-tries-requires
 counts-tries-requires c κs = search rules

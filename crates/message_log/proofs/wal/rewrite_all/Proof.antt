@@ -1,9 +1,9 @@
 -- The rewrite, and the counters after it.
 use borrow.Author.Rules.{rules}
-use Rattle.log.specs.Log.{state}
-use Rattle.log.proofs.WalLaws.{compacted_is, all_anew_lem}
-use Rattle.log.proofs.wal.rewrite_all.Statement.{statement}
-use Rattle.log.proofs.wal.rewrite_all.Tie as tie
+use Rattle.message_log.specs.Log.{state}
+use Rattle.message_log.proofs.WalLaws.{compacted_is, all_anew_lem}
+use Rattle.message_log.proofs.wal.rewrite_all.Statement.{statement}
+use Rattle.message_log.proofs.wal.rewrite_all.Tie as tie
 
 compact-requires : tie.Need-compact-requires
 compact-requires c κs = search rules

@@ -2,8 +2,8 @@
 use lib.Seq.{set_out}
 use mathlib.Core.Path.{sym}
 use borrow.Author.Rules.{rules}
-use Rattle.log.proofs.wal.set_tried.Statement.{statement}
-use Rattle.log.proofs.wal.set_tried.Tie as tie
+use Rattle.message_log.proofs.wal.set_tried.Statement.{statement}
+use Rattle.message_log.proofs.wal.set_tried.Tie as tie
 
 mul-r : tie.Need-overflow-mul-r
 mul-r c = search rules

@@ -1,4 +1,4 @@
--- `log::wal::sync` meets its contract: a manual proof over its MIR (a walk). The struct's borrow is opened, the struct is copied out whole, `sync_step` is called on it and on the rest, the struct that it returns is stored whole, and the borrow is closed at it.
+-- `message_log::wal::sync` meets its contract: a manual proof over its MIR (a walk). The struct's borrow is opened, the struct is copied out whole, `sync_step` is called on it and on the rest, the struct that it returns is stored whole, and the borrow is closed at it.
 -- All that the proof knows of `sync_step` is that it meets its contract. Written by tools/stepped.py.
 -- Assumes nothing.
 use mathlib.Core.Path.{◌≡◌, refl, ap, subst}
@@ -37,23 +37,23 @@ use denote.Triple.Entry.{on_entry}
 use denote.Triple.Spec.{Meets, triple_of}
 use denote.Triple.Table.{entered, cited}
 use denote.Triple.Walked.{says, Stays, stay_ref, walk_of, Goes-ref, Walks, ends_at, walked, walk_Meets}
-use Rattle.log.specs.Log.{sync_log}
-use Rattle.log.specs.declared.Counters.{Counters}
-use Rattle.log.specs.declared.AnsweredDue.{AnsweredDue}
-use Rattle.log.specs.contracts.Counters as T
-use Rattle.log.proofs.Counters.TheLaws as T'
-use Rattle.log.specs.contracts.AnsweredDue as S
-use Rattle.log.proofs.AnsweredDue.TheLaws as S'
-use Rattle.log.specs.contracts.Due as E
-use Rattle.log.proofs.Due.TheLaws as E'
-use Rattle.log.specs.contracts.wal.sync_step as callee
-use Rattle.log.proofs.wal.sync_step.Symbol as callee-def
-use Rattle.log.proofs.wal.sync_step.Symbol.{name as #callee}
-use Rattle.log.proofs.wal.sync_step.Met as callee-thm
-use Rattle.log.specs.contracts.wal.sync.Key.{name as #self}
-use Rattle.log.specs.contracts.wal.sync as self
-use Rattle.log.proofs.wal.sync.Statement as stated
-use Rattle.log.proofs.wal.sync.Code as code
+use Rattle.message_log.specs.Log.{sync_log}
+use Rattle.message_log.specs.declared.Counters.{Counters}
+use Rattle.message_log.specs.declared.AnsweredDue.{AnsweredDue}
+use Rattle.message_log.specs.contracts.Counters as T
+use Rattle.message_log.proofs.Counters.TheLaws as T'
+use Rattle.message_log.specs.contracts.AnsweredDue as S
+use Rattle.message_log.proofs.AnsweredDue.TheLaws as S'
+use Rattle.message_log.specs.contracts.Due as E
+use Rattle.message_log.proofs.Due.TheLaws as E'
+use Rattle.message_log.specs.contracts.wal.sync_step as callee
+use Rattle.message_log.proofs.wal.sync_step.Symbol as callee-def
+use Rattle.message_log.proofs.wal.sync_step.Symbol.{name as #callee}
+use Rattle.message_log.proofs.wal.sync_step.Met as callee-thm
+use Rattle.message_log.specs.contracts.wal.sync.Key.{name as #self}
+use Rattle.message_log.specs.contracts.wal.sync as self
+use Rattle.message_log.proofs.wal.sync.Statement as stated
+use Rattle.message_log.proofs.wal.sync.Code as code
 
 abbrev R : RattleType
 R = T.the_row
@@ -162,4 +162,4 @@ sync-spec 𝓤 𝓛 𝓜 𝓡 =
     entered 𝓤 𝓛.H (triple_of 𝓛 self.signature (self.spec 𝓛 𝓜.mem 𝓡.run))
     (tables 𝓤 𝓛.H 𝓜 𝓡 code.env).C (tables 𝓤 𝓛.H 𝓜 𝓡 code.env).Λ #self code.function (code.unfolded 𝓤 𝓛.H 𝓜 𝓡)
     (meets 𝓛 𝓜.mem 𝓡.run (tables_of 𝓤 𝓛.H 𝓜 (tables 𝓤 𝓛.H 𝓜 𝓡 code.env))
-    (cited 𝓤 𝓛.H (Callee 𝓛 𝓜.mem 𝓡.run) 𝓜 𝓡 code.env #callee callee-def.routine code.calls-log::wal::sync-step (callee-thm.met 𝓤 𝓛 𝓜 𝓡)))
+    (cited 𝓤 𝓛.H (Callee 𝓛 𝓜.mem 𝓡.run) 𝓜 𝓡 code.env #callee callee-def.routine code.calls-message_log::wal::sync-step (callee-thm.met 𝓤 𝓛 𝓜 𝓡)))

@@ -1,7 +1,7 @@
 -- One law for each of the two ways.
-use Rattle.log.proofs.WalLaws.{sync_dirty, sync_clean}
-use Rattle.log.proofs.wal.sync_step.Statement.{statement}
-use Rattle.log.proofs.wal.sync_step.Tie as tie
+use Rattle.message_log.proofs.WalLaws.{sync_dirty, sync_clean}
+use Rattle.message_log.proofs.wal.sync_step.Statement.{statement}
+use Rattle.message_log.proofs.wal.sync_step.Tie as tie
 
 returns : tie.Need-returns
 returns c =

@@ -1,8 +1,8 @@
 -- The row's lengths are read before the row is taken out.
-use Rattle.log.specs.Log.{without_row}
+use Rattle.message_log.specs.Log.{without_row}
 use borrow.Author.Rules.{rules}
-use Rattle.log.proofs.wal.take_record.Statement.{statement}
-use Rattle.log.proofs.wal.take_record.Tie as tie
+use Rattle.message_log.proofs.wal.take_record.Statement.{statement}
+use Rattle.message_log.proofs.wal.take_record.Tie as tie
 
 less-span-requires : tie.Need-less-span-requires
 less-span-requires c κs = search rules

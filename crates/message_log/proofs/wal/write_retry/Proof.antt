@@ -1,6 +1,6 @@
 -- The line fills the part of the log that starts at size; else the rewrite.
-use Rattle.log.proofs.WalLaws.{line_behind_lem, retry_behind, retry_anew}
-use Rattle.log.specs.Log.{state}
+use Rattle.message_log.proofs.WalLaws.{line_behind_lem, retry_behind, retry_anew}
+use Rattle.message_log.specs.Log.{state}
 use Rattle.text.proofs.AnswerLaws.{filled_part}
 use Rattle.text.specs.Format.{retry_line}
 use lib.ListN.{length}
@@ -9,8 +9,8 @@ use native.Mathlib.Omega.{arith}
 use Prim.Native.Nat.{◌+◌}
 use mathlib.Core.Path.{sym, ◌∙◌}
 use borrow.Author.Rules.{rules}
-use Rattle.log.proofs.wal.write_retry.Statement.{statement}
-use Rattle.log.proofs.wal.write_retry.Tie as tie
+use Rattle.message_log.proofs.wal.write_retry.Statement.{statement}
+use Rattle.message_log.proofs.wal.write_retry.Tie as tie
 
 retry-len-requires : tie.Need-retry-len-requires
 retry-len-requires c κs = search rules

@@ -1,7 +1,7 @@
 -- The five parts follow one another.
 use mathlib.Core.Path.{ap, ◌∙◌}
 use borrow.Author.Rules.{rules}
-use Rattle.log.specs.declared.Counters.{Counters}
+use Rattle.message_log.specs.declared.Counters.{Counters}
 use Rattle.answers.specs.Numbers.{numbers_of}
 use Rattle.replay.specs.Entry.{output_entry, output_message, output_log, output_tables, output_store}
 use Rattle.replay.proofs.entry.output_entry.Statement.{statement}

@@ -43,25 +43,25 @@ use denote.Triple.Entry.{on_entry}
 use denote.Triple.Spec.{Meets, triple_of}
 use denote.Triple.Table.{entered, cited}
 use denote.Triple.Walked.{says, Stays, stay_none, stay_none_slice, gave_slice, walk_of, Goes-none, Goes-none_slice, Goes-gave_slice, Walks, ends_at, walked, walk_Meets}
-use Rattle.log.specs.Log.{DidAppend, state, append_of}
-use Rattle.log.specs.declared.Counters.{Counters}
-use Rattle.log.specs.declared.Answer.{Answer}
+use Rattle.message_log.specs.Log.{DidAppend, state, append_of}
+use Rattle.message_log.specs.declared.Counters.{Counters}
+use Rattle.message_log.specs.declared.Answer.{Answer}
 use Rattle.turn.specs.declared.logged.LogAppend.{LogAppend}
 use Rattle.turn.specs.Logged.{append_answer, appended_of, appended_as}
 use Rattle.turn.specs.Words.{due_of}
-use Rattle.log.specs.declared.Answered.{Answered}
-use Rattle.log.specs.contracts.Counters as T
-use Rattle.log.proofs.Counters.TheLaws as T'
-use Rattle.log.specs.contracts.Answer as E
-use Rattle.log.proofs.Answer.TheLaws as E'
+use Rattle.message_log.specs.declared.Answered.{Answered}
+use Rattle.message_log.specs.contracts.Counters as T
+use Rattle.message_log.proofs.Counters.TheLaws as T'
+use Rattle.message_log.specs.contracts.Answer as E
+use Rattle.message_log.proofs.Answer.TheLaws as E'
 use Rattle.turn.specs.contracts.logged.LogAppend as S
 use Rattle.turn.proofs.logged.LogAppend.TheLaws as S'
-use Rattle.log.proofs.Local.{lends_local, local_back}
+use Rattle.message_log.proofs.Local.{lends_local, local_back}
 use Rattle.turn.proofs.LoggedLaws.{appended_log}
-use Rattle.log.specs.contracts.wal.append as into
-use Rattle.log.proofs.wal.append.Symbol as into-def
-use Rattle.log.proofs.wal.append.Symbol.{name as #into}
-use Rattle.log.proofs.wal.append.Met as into-thm
+use Rattle.message_log.specs.contracts.wal.append as into
+use Rattle.message_log.proofs.wal.append.Symbol as into-def
+use Rattle.message_log.proofs.wal.append.Symbol.{name as #into}
+use Rattle.message_log.proofs.wal.append.Met as into-thm
 use Rattle.turn.specs.contracts.logged.appended as after
 use Rattle.turn.proofs.logged.appended.Symbol as after-def
 use Rattle.turn.proofs.logged.appended.Symbol.{name as #after}
@@ -247,5 +247,5 @@ append-spec 𝓤 𝓛 𝓜 𝓡 =
     entered 𝓤 𝓛.H (triple_of 𝓛 self.signature (self.spec 𝓛 𝓜.mem 𝓡.run))
     (tables 𝓤 𝓛.H 𝓜 𝓡 code.env).C (tables 𝓤 𝓛.H 𝓜 𝓡 code.env).Λ #self code.function (code.unfolded 𝓤 𝓛.H 𝓜 𝓡)
     (meets 𝓛 𝓜.mem 𝓡.run (tables_of 𝓤 𝓛.H 𝓜 (tables 𝓤 𝓛.H 𝓜 𝓡 code.env))
-    (cited 𝓤 𝓛.H (The-into 𝓛 𝓜.mem 𝓡.run) 𝓜 𝓡 code.env #into into-def.routine code.calls-log::wal::append (into-thm.met 𝓤 𝓛 𝓜 𝓡))
+    (cited 𝓤 𝓛.H (The-into 𝓛 𝓜.mem 𝓡.run) 𝓜 𝓡 code.env #into into-def.routine code.calls-message_log::wal::append (into-thm.met 𝓤 𝓛 𝓜 𝓡))
     (cited 𝓤 𝓛.H (The-after 𝓛 𝓜.mem 𝓡.run) 𝓜 𝓡 code.env #after after-def.routine code.calls-turn::logged::appended (after-thm.met 𝓤 𝓛 𝓜 𝓡)))

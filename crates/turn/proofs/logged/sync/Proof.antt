@@ -37,25 +37,25 @@ use denote.Triple.Entry.{on_entry}
 use denote.Triple.Spec.{Meets, triple_of}
 use denote.Triple.Table.{entered, cited}
 use denote.Triple.Walked.{says, Stays, stay_none, walk_of, Goes-none, Walks, ends_at, walked, walk_Meets}
-use Rattle.log.specs.declared.AnsweredDue.{AnsweredDue}
-use Rattle.log.specs.Log.{sync_log}
-use Rattle.log.specs.declared.Counters.{Counters}
-use Rattle.log.specs.declared.Due.{Due}
+use Rattle.message_log.specs.declared.AnsweredDue.{AnsweredDue}
+use Rattle.message_log.specs.Log.{sync_log}
+use Rattle.message_log.specs.declared.Counters.{Counters}
+use Rattle.message_log.specs.declared.Due.{Due}
 use Rattle.turn.specs.declared.logged.LogStep.{LogStep}
 use Rattle.turn.specs.Words.{due_of}
 use Rattle.turn.specs.Logged.{stepped_of, stepped_as}
-use Rattle.log.specs.contracts.Counters as T
-use Rattle.log.proofs.Counters.TheLaws as T'
-use Rattle.log.specs.contracts.Due as E
-use Rattle.log.proofs.Due.TheLaws as E'
+use Rattle.message_log.specs.contracts.Counters as T
+use Rattle.message_log.proofs.Counters.TheLaws as T'
+use Rattle.message_log.specs.contracts.Due as E
+use Rattle.message_log.proofs.Due.TheLaws as E'
 use Rattle.turn.specs.contracts.logged.LogStep as S
 use Rattle.turn.proofs.logged.LogStep.TheLaws as S'
-use Rattle.log.proofs.Local.{lends_local, local_back}
+use Rattle.message_log.proofs.Local.{lends_local, local_back}
 use Rattle.turn.proofs.LoggedLaws.{synced_log}
-use Rattle.log.specs.contracts.wal.sync as into
-use Rattle.log.proofs.wal.sync.Symbol as into-def
-use Rattle.log.proofs.wal.sync.Symbol.{name as #into}
-use Rattle.log.proofs.wal.sync.Met as into-thm
+use Rattle.message_log.specs.contracts.wal.sync as into
+use Rattle.message_log.proofs.wal.sync.Symbol as into-def
+use Rattle.message_log.proofs.wal.sync.Symbol.{name as #into}
+use Rattle.message_log.proofs.wal.sync.Met as into-thm
 use Rattle.turn.specs.contracts.logged.stepped as after
 use Rattle.turn.proofs.logged.stepped.Symbol as after-def
 use Rattle.turn.proofs.logged.stepped.Symbol.{name as #after}
@@ -193,5 +193,5 @@ sync-spec 𝓤 𝓛 𝓜 𝓡 =
     entered 𝓤 𝓛.H (triple_of 𝓛 self.signature (self.spec 𝓛 𝓜.mem 𝓡.run))
     (tables 𝓤 𝓛.H 𝓜 𝓡 code.env).C (tables 𝓤 𝓛.H 𝓜 𝓡 code.env).Λ #self code.function (code.unfolded 𝓤 𝓛.H 𝓜 𝓡)
     (meets 𝓛 𝓜.mem 𝓡.run (tables_of 𝓤 𝓛.H 𝓜 (tables 𝓤 𝓛.H 𝓜 𝓡 code.env))
-    (cited 𝓤 𝓛.H (The-into 𝓛 𝓜.mem 𝓡.run) 𝓜 𝓡 code.env #into into-def.routine code.calls-log::wal::sync (into-thm.met 𝓤 𝓛 𝓜 𝓡))
+    (cited 𝓤 𝓛.H (The-into 𝓛 𝓜.mem 𝓡.run) 𝓜 𝓡 code.env #into into-def.routine code.calls-message_log::wal::sync (into-thm.met 𝓤 𝓛 𝓜 𝓡))
     (cited 𝓤 𝓛.H (The-after 𝓛 𝓜.mem 𝓡.run) 𝓜 𝓡 code.env #after after-def.routine code.calls-turn::logged::stepped (after-thm.met 𝓤 𝓛 𝓜 𝓡)))

@@ -3,7 +3,7 @@ use mathlib.Core.Path.{sym}
 use Prim.Native.Nat.{◌+◌}
 use native.Mathlib.Omega.{arith}
 use borrow.Author.Tests.{lt-leb}
-use Rattle.log.proofs.TableLaws.{room_behind}
+use Rattle.message_log.proofs.TableLaws.{room_behind}
 use Rattle.wire.proofs.output.fits_behind.Statement.{statement}
 use Rattle.wire.proofs.output.fits_behind.Tie as tie
 
