@@ -13,18 +13,18 @@ pub const NAME: u64 = message_log::NAME as u64;
 pub const BODY: u64 = message_log::BODY as u64;
 
 // Who waits for the outcome (the Rust's `Reply.id`).
-#[derive(Drop)]
+#[derive(Clone, Copy)]
 pub struct CallerId(pub u64);
 
 // The caller of a message.
-#[derive(Drop)]
+#[derive(Clone, Copy)]
 pub enum Caller {
     From(CallerId),
     Nobody,
 }
 
 // The record of a message.
-#[derive(Drop)]
+#[derive(Clone, Copy)]
 pub enum Logged {
     As(LogId),
     Never,

@@ -12,7 +12,7 @@ use message_log::Order;
 const KEYS: usize = slab::KEYS as usize;
 
 // An actor: its group and its key there.
-#[derive(Drop)]
+#[derive(Clone, Copy)]
 pub struct Who {
     pub group: usize,
     pub key: usize,
@@ -34,7 +34,7 @@ pub fn slot_of(who: Who) -> usize
 }
 
 // How a run came back.
-#[derive(Drop)]
+#[derive(Clone, Copy)]
 pub enum Status {
     Done,
     Exit,
@@ -89,7 +89,7 @@ pub enum Asked {
     Nothing,
 }
 
-#[derive(Drop)]
+#[derive(Clone, Copy)]
 pub enum Reply {
     Yes,
     No,

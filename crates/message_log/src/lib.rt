@@ -33,7 +33,7 @@ pub const ENTRY: usize = NAME + BODY;
 pub const STORE: usize = RECORDS * ENTRY;
 
 // The id under which a message is logged.
-#[derive(Drop)]
+#[derive(Clone, Copy)]
 pub struct LogId(pub u64);
 
 // A row of the open records, as it is lent: the id, where the record begins, its length, and its attempts.
@@ -41,7 +41,7 @@ pub type RecordRow = [u64; 4];
 
 // The log's counters: the next id, the length of the open records and their retry lines, the file's length, whether a
 // record was appended since the last flush, and the number of open records.
-#[derive(Drop)]
+#[derive(Clone, Copy)]
 pub struct Counters {
     pub next: u64,
     pub live: usize,

@@ -27,14 +27,14 @@ use text::record::encode_record;
 pub type LeftRow = [u64; 4];
 
 // A pass over the file: the rows in use, the id from which on rows were let go, and the next id so far.
-#[derive(Drop)]
+#[derive(Clone, Copy)]
 pub(crate) struct Pass {
     pub count: usize,
     pub hi: u64,
     pub next: u64,
 }
 
-#[derive(Drop)]
+#[derive(Clone, Copy)]
 pub(crate) enum Taken {
     Next(Pass),
     Over,

@@ -15,7 +15,7 @@ use steps::step::{End, Step};
 use steps::{eval, fixed};
 
 // The step under way: its actor, the tick's clock, and how many keys its group still has to pop after it.
-#[derive(Drop)]
+#[derive(Clone, Copy)]
 pub struct Cursor {
     pub group: usize,
     pub key: u8,

@@ -91,7 +91,7 @@ const TRAP: u64 = 20;
 
 const TRAPPED: u64 = 21;
 
-#[derive(Drop)]
+#[derive(Clone, Copy)]
 pub struct Where {
     // one of the numbers above
     pub place: u64,

@@ -11,7 +11,7 @@ use lists::slab;
 const KEYS: u64 = slab::KEYS as u64;
 
 // What is set besides the groups.
-#[derive(Drop)]
+#[derive(Clone, Copy)]
 pub struct Settings {
     pub max_actors: u64,
     pub inbox: u64,

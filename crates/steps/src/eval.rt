@@ -91,7 +91,7 @@ const DISPATCH: u64 = 6;
 const TELL: u64 = 7;
 
 // The next question, with what Tell tells, or, once the step ended, its end, as words.
-#[derive(Drop)]
+#[derive(Clone, Copy)]
 pub struct EvalWords {
     // one of the numbers above
     pub ask: u64,

@@ -68,7 +68,7 @@ const PUSH: u64 = 4;
 const DISPATCH: u64 = 5;
 
 // The next question, or, once the step ended, its end, as words.
-#[derive(Drop)]
+#[derive(Clone, Copy)]
 pub struct FixedWords {
     // one of the numbers above
     pub ask: u64,

@@ -71,7 +71,7 @@ const UNTIL: u64 = 4;
 const YIELD: u64 = 5;
 
 // A step's end as words. They mean a `Step`, and of an eval actor a `Parked` (specs/Words).
-#[derive(Drop)]
+#[derive(Clone, Copy)]
 pub struct StepWords {
     // one of the numbers above
     pub end: u64,

@@ -64,7 +64,7 @@ pub const NOTHING: u64 = 2;
 pub const RETRY: u64 = 3;
 
 // An order that may be due, as words.
-#[derive(Drop)]
+#[derive(Clone, Copy)]
 pub struct OrderWords {
     // one of the numbers above
     pub order: u64,
@@ -74,7 +74,7 @@ pub struct OrderWords {
 }
 
 // The disk as words.
-#[derive(Drop)]
+#[derive(Clone, Copy)]
 pub struct DiskWords {
     // one of the numbers above
     pub disk: u64,
