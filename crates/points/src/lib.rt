@@ -2,5 +2,6 @@
 // `at` has the enums, which are what it means, `words` the words that code hands on. Nothing is required, every
 // function takes constant time and equals a definition of specs/; proofs/WordLaws says that each maker's words mean
 // what it says.
+#![tactic(auto)]
 pub mod at; // where a turn stands
 pub mod words; // the same as words, as code hands it on

@@ -1,4 +1,5 @@
 // Reads a log on standard input and prints the log that opening writes, or `refused=N`.
+#![tactic(auto)]
 use libc::STDIN_FILENO;
 
 fn main() {

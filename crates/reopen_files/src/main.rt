@@ -1,4 +1,5 @@
 // Reads each log that an argument names, and prints the name and then the log that opening writes, or `refused=N`.
+#![tactic(auto)]
 use libc::STDOUT_FILENO;
 
 fn reopen_file(path: &[u8]) {

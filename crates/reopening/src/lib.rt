@@ -1,6 +1,7 @@
 // The log reader: opens a log of 65,536 bytes, with a store and tables of its own, and gives the new log or the number
 // of the refusal.
 // `reopen` is that on a slice (specs/Reopened); `reopen_fd` reads the file from a descriptor and prints the outcome.
+#![tactic(auto)]
 ghost use Rattle.std.specs.Prelude.{◌≡◌, length};
 ghost use Rattle.reopening.specs.Reopened.{reopen_of, reopened_by, OfSomeFile};
 

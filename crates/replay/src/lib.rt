@@ -3,6 +3,7 @@
 // (docs/PROTOCOL.md). `replay` requires nothing and equals its definition, `replay_of` (specs/Replay): the calls
 // decoded from the script, run by the same `call_of` that the theorem of the whole rail is about
 // (crates/theorem/specs/Rail). It keeps nothing from one script to the next.
+#![tactic(auto)]
 ghost use Rattle.std.specs.Prelude.{◌≡◌};
 ghost use Rattle.replay.specs.Replay.{replay_of};
 

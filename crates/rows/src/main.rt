@@ -1,6 +1,7 @@
 // Replays recorded answers of the Rust: a list of scripts of the pool, the row ends 8 to 11 first, each with the
 // output that the Rust's answers make, on standard input (its form is said in the list). Prints each titled script
 // with whether the port's output is the same byte for byte, in just the room that it needs, and how many are.
+#![tactic(auto)]
 ghost use Rattle.std.specs.Prelude.{◌≤◌, length};
 
 use libc::{STDIN_FILENO, STDOUT_FILENO};

@@ -9,3 +9,5 @@
 //                                                       proofs/WrongPools
 // every call goes by its table of refusals              specs/Refusals
 // a call stops only where nothing runs                  specs/Stopping
+
+#![tactic(auto)]

@@ -2,6 +2,7 @@
 // takes a reply. The pool's own state is lent as cells, the tables as rows. Nothing is required; every function
 // equals a definition of specs/, and the loop ends on any tables: each step lowers a weight of where the turn stands
 // (specs/Weight.antt).
+#![tactic(auto)]
 pub mod state; // the pool's own state, in cells
 pub mod logged; // the log's calls, on the pool's counters
 pub mod go; // one running point

@@ -1,0 +1,13 @@
+-- `state::kept_number` meets its contract: by the tag. Assumes nothing.
+use borrow.Author.Tests.{eq-eqb, ne_eqb}
+use Rattle.actor.proofs.state.kept_number.Goals as goal
+
+pub returns-then-tag-eq0 : goal.returns-then-tag-eq0
+returns-then-tag-eq0 c =
+    let h1 = eq-eqb _ _ c.if-tag-eq0.true in
+    simp (h1)
+
+pub returns-else-tag-eq0 : goal.returns-else-tag-eq0
+returns-else-tag-eq0 c =
+    let h1 = ne_eqb _ _ c.if-tag-eq0.false in
+    simp (h1)

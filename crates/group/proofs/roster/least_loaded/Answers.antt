@@ -1,0 +1,32 @@
+-- `roster::least_loaded` meets its contract: the keys from `key` on give what all of them do, with the best so far. The
+-- measure is what is left. Assumes nothing.
+use mathlib.Core.Path.{refl, sym, ◌∙◌}
+use mathlib.Core.Logic.{⊎_elim}
+use native.Mathlib.Omega.{arith}
+use Rattle.lists.specs.declared.keys.Key.TheVariants as found
+use Rattle.group.specs.Roster.{least_of}
+use Rattle.group.proofs.Loops.{least_more, least_end}
+use Rattle.group.proofs.roster.least_loaded.Goals as goal
+
+pub loop-key-init : goal.loop-key-init
+loop-key-init c = refl
+
+pub loop-key-smaller : goal.loop-key-smaller
+loop-key-smaller c = omega arith
+
+pub loop-key-preserved : goal.loop-key-preserved
+loop-key-preserved c =
+    let l = c.loop-key in
+    let turn = l.invariant ∙ least_more _ _ _ l.key l.best (omega arith) in
+    let had = sym c.contains_at-there.ensures in
+    ⊎_elim
+    (λ w. rw (w.2 ∙ w.1.ensures) (turn ∙ rw (had ∙ w.0.taken)))
+    (λ w. rw w.1 (turn ∙ rw (had ∙ w.0.left)))
+    c.if-there.branch
+
+pub returns : goal.returns
+unfolding least_of
+returns c =
+    let l = c.loop-key in
+    let least = l.invariant ∙ least_end _ _ _ l.key l.best (omega arith) in
+    sym (rw c.slab_row-row.ensures at least)

@@ -1,0 +1,20 @@
+-- `keys::front_at` meets its contract: inside the table by its count, and past its end an empty row has no key.
+-- Assumes nothing.
+use borrow.Author.Tests.{eq-eqb, ne_eqb}
+use Rattle.lists.proofs.Tables.{row_in, row_out}
+use Rattle.lists.proofs.keys.front_at.Goals as goal
+
+pub returns-then-n-eq0 : goal.returns-then-n-eq0
+returns-then-n-eq0 c =
+    let row = row_in c.args.keys.now c.args.i c.if-i-keys.true in
+    let h1 = eq-eqb _ _ (rw row at c.if-n-eq0.true) in
+    rw h1
+
+pub returns-then-i-keys : goal.returns-then-i-keys
+returns-then-i-keys c =
+    let row = row_in c.args.keys.now c.args.i c.if-i-keys.true in
+    let h1 = ne_eqb _ _ (rw row at c.if-n-eq0.false) in
+    rw (row, h1)
+
+pub returns : goal.returns
+returns c = rw (row_out c.args.keys.now c.args.i c.if-i-keys.false)

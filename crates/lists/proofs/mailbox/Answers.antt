@@ -1,0 +1,17 @@
+-- `mailbox` meets its contract: each way out follows from what the calls ensured and the tests said. Mechanical
+-- answers, as tools/answers.py writes them. Assumes nothing.
+use borrow.Author.Tests.{le-ltb, lt-ltb}
+use Rattle.lists.specs.Links.{mailbox_of}
+use Rattle.lists.proofs.mailbox.Goals as goal
+
+pub returns-then-slot-lt-SLOTS : goal.returns-then-slot-lt-SLOTS
+unfolding mailbox_of
+returns-then-slot-lt-SLOTS c =
+    let h1 = lt-ltb _ _ c.if-slot-lt-SLOTS.true in
+    simp (h1)
+
+pub returns-else-slot-lt-SLOTS : goal.returns-else-slot-lt-SLOTS
+unfolding mailbox_of
+returns-else-slot-lt-SLOTS c =
+    let h1 = le-ltb _ _ c.if-slot-lt-SLOTS.false in
+    simp (h1)

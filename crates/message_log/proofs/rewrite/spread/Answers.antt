@@ -1,0 +1,102 @@
+-- The loop keeps that the records from place i on stand where they are to stand (`Spreading`).
+use Prim.Native.Nat.{◌-◌}
+use native.Mathlib.Omega.{arith}
+use mathlib.Core.Path.{refl, ap}
+use Rattle.message_log.proofs.RewriteLaws.{spreading_begins, spreading_ends, to_be_spread, spread_on}
+use Rattle.message_log.proofs.rewrite.spread.Goals as goal
+
+pub loop-i-init : goal.loop-i-init
+loop-i-init c =
+    let args = c.args in
+    let pre = c.requires in
+    spreading_begins args.log.now args.records.now args.count pre.0 (omega (arith, pre.1, pre.2))
+    pre.3 args.end pre.2
+
+pub slice_copy_out-r : goal.slice_copy_out-r
+slice_copy_out-r c =
+    let loop = c.loop-i in
+    omega (arith, loop.invariant.few, loop.invariant.many, c.requires.0, c.loop-i-test.true)
+
+pub overflow_sub-to : goal.overflow_sub-to
+overflow_sub-to c =
+    let args = c.args in
+    let pre = c.requires in
+    let loop = c.loop-i in
+    let loop-test = c.loop-i-test in
+    let tries-len = c.tries_len-to in
+    let lies = to_be_spread args.log.now args.records.now args.count pre.0
+    (omega (arith, pre.1, pre.2)) pre.3 loop.invariant loop-test.true in
+    omega (arith, lies.0, tries-len.ensures)
+
+pub put_tries-requires : goal.put_tries-requires
+put_tries-requires c =
+    let args = c.args in
+    let pre = c.requires in
+    let loop = c.loop-i in
+    let loop-test = c.loop-i-test in
+    let tries-len = c.tries_len-to in
+    let lies = to_be_spread args.log.now args.records.now args.count pre.0
+    (omega (arith, pre.1, pre.2)) pre.3 loop.invariant loop-test.true in
+    omega (arith, lies.0, lies.1, tries-len.ensures)
+
+pub overflow_sub-to-in-loop-i : goal.overflow_sub-to-in-loop-i
+overflow_sub-to-in-loop-i c =
+    let args = c.args in
+    let pre = c.requires in
+    let loop = c.loop-i in
+    let loop-test = c.loop-i-test in
+    let tries-len = c.tries_len-to in
+    let lies = to_be_spread args.log.now args.records.now args.count pre.0
+    (omega (arith, pre.1, pre.2)) pre.3 loop.invariant loop-test.true in
+    omega (arith, lies.0, tries-len.ensures)
+
+pub move_up-requires : goal.move_up-requires
+move_up-requires c =
+    let args = c.args in
+    let pre = c.requires in
+    let loop = c.loop-i in
+    let loop-test = c.loop-i-test in
+    let tries-len = c.tries_len-to in
+    let put-tries = c.put_tries in
+    let lies = to_be_spread args.log.now args.records.now args.count pre.0
+    (omega (arith, pre.1, pre.2)) pre.3 loop.invariant loop-test.true in (
+      omega (arith, lies.0, tries-len.ensures),
+      omega (arith, lies.0, lies.1, tries-len.ensures, put-tries.auto.log),
+    )
+
+pub bounds-records-i : goal.bounds-records-i
+bounds-records-i c =
+    let earlier = c in
+    let pre = earlier.before.before.before.before.before.requires in
+    let loop = c.loop-i in
+    let loop-test = c.loop-i-test in
+    omega (arith, loop.invariant.few, loop.invariant.many, pre.0, loop-test.true)
+
+pub loop-i-preserved : goal.loop-i-preserved
+loop-i-preserved c =
+    let earlier = c in
+    let args = earlier.before.before.before.before.before.args in
+    let pre = earlier.before.before.before.before.before.requires in
+    let loop = c.loop-i in
+    let loop-test = c.loop-i-test in
+    let tries-len = c.tries_len-to in
+    let put-tries = c.put_tries in
+    let move_up = c.move_up in
+    spread_on args.log.now args.records.now args.count pre.0 (omega (arith, pre.1, pre.2)) pre.3
+    loop.invariant loop-test.true _ _ _ _ (ap (λ n. loop.to - n) tries-len.ensures) refl
+    put-tries.ensures.bytes move_up.ensures
+
+pub shape_of-log : goal.shape_of-log
+shape_of-log c = c.loop-i.invariant.long
+
+pub shape_of-records : goal.shape_of-records
+shape_of-records c = c.loop-i.invariant.many
+
+pub returns : goal.returns
+returns c =
+    let args = c.args in
+    let pre = c.requires in
+    let loop = c.loop-i in
+    let loop-test = c.loop-i-test in
+    spreading_ends args.log.now args.records.now args.count pre.0 (omega (arith, pre.1, pre.2))
+    pre.3 loop.invariant (omega (arith, loop-test.false))

@@ -1,0 +1,20 @@
+-- `eval::clock_reply` meets its contract: each way out follows from what the calls ensured and the tests said. Assumes
+-- nothing.
+use Rattle.steps.specs.StepEval.{eval_clock_reply}
+use Rattle.steps.proofs.eval.clock_reply.Goals as goal
+
+pub returns-in-Of : goal.returns-in-Of
+unfolding eval_clock_reply
+returns-in-Of c =
+    let e1 = c.clock_in-came.ensures in
+    let h1 = simp (e1) at c.in-Of.is in
+    let e2 = c.eval_clocked.ensures in
+    simp (h1) e2
+
+pub returns-in-Other : goal.returns-in-Other
+unfolding eval_clock_reply
+returns-in-Other c =
+    let e1 = c.clock_in-came.ensures in
+    let h1 = simp (e1) at c.in-Other.is in
+    let e2 = c.asks_for.ensures in
+    simp (e2, h1)

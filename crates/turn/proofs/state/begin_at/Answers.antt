@@ -1,0 +1,9 @@
+-- `state::begin_at` meets its contract: by its calls and its tests. Assumes nothing.
+use Rattle.turn.specs.Words.{is_yes}
+use Rattle.turn.specs.Words.{pool_of}
+use mathlib.Core.Path.{refl}
+use Rattle.turn.proofs.state.begin_at.Goals as goal
+
+pub returns : goal.returns
+unfolding pool_of is_yes
+returns c = refl

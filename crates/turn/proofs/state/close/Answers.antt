@@ -1,0 +1,9 @@
+-- `state::close` meets its contract: by its calls and its tests. Assumes nothing.
+use Rattle.turn.specs.Words.{is_yes}
+use Rattle.turn.specs.Words.{pool_of}
+use mathlib.Core.Path.{refl}
+use Rattle.turn.proofs.state.close.Goals as goal
+
+pub returns : goal.returns
+unfolding pool_of is_yes
+returns c = refl

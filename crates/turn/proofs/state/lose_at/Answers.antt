@@ -1,0 +1,8 @@
+-- `state::lose_at` meets its contract: by its calls and its tests. Assumes nothing.
+use Rattle.turn.specs.Words.{pool_of}
+use mathlib.Core.Path.{refl}
+use Rattle.turn.proofs.state.lose_at.Goals as goal
+
+pub returns : goal.returns
+unfolding pool_of
+returns c = refl
