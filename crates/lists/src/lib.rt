@@ -6,6 +6,7 @@
 // every list is said by theorems: `move_first_lem`, `move_first_to_front_lem`, `move_all` (proofs/Moves.antt), `first_is`,
 // `after_is`, `no_circle`, `nowhere_else` (proofs/Family.antt), `started` (proofs/AtStart.antt).
 #![tactic(auto)]
+
 ghost use Rattle.std.specs.Prelude.{◌≡◌, ◌+◌, ◌-◌, ◌<◌, [], length};
 ghost use Rattle.lists.specs.Links.{capped, link_of, link_at, len_of, set_ends, set_next, first_of, leave_of};
 ghost use Rattle.lists.specs.Links.{join_end, join_front, move_first, move_first_to_front, move_all, start_row};

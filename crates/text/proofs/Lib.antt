@@ -9,4 +9,3 @@ pub mod RecordLaws
 pub mod LineLaws
 pub mod AnswerLaws
 pub mod NextLaws
-pub mod Local

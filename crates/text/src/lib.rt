@@ -5,6 +5,7 @@
 // equates its answer, and every byte of a lent slice, with them. proofs/FormatLaws has the law that what was escaped
 // is unescaped again, proofs/Spelling that what is read as an id is what the id is printed as.
 #![tactic(auto)]
+
 pub mod ids; // ids.rt: decimal ids, read and printed
 pub mod escape; // escape.rt: escaped and unescaped fields
 pub mod record; // record.rt: records and done lines, measured and written

@@ -25,8 +25,8 @@ returns-then-bytes-from-2 c =
 pub returns : goal.returns
 returns c =
     let earlier = c in
-    let args = earlier.before.before.before.before.args in
-    let if1 = earlier.before.before.if1 in
+    let args = c.args in
+    let if1 = c.if-from-to in
     let if2 = c.if-bytes-from in
     let if3 = c.if-bytes-from-2 in
     let eights-down = c.eights_down-eights in

@@ -25,8 +25,8 @@ returns-then-bytes-to-2 c =
 pub returns : goal.returns
 returns c =
     let earlier = c in
-    let args = earlier.before.before.before.before.args in
-    let if1 = earlier.before.before.if1 in
+    let args = c.args in
+    let if1 = c.if-to-from in
     let if2 = c.if-bytes-to in
     let if3 = c.if-bytes-to-2 in
     let eights-up = c.eights_up-eights in

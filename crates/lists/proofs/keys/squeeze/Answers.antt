@@ -10,7 +10,7 @@ use Rattle.lists.proofs.Rows.{squeeze_more, squeeze_end}
 use Rattle.lists.proofs.keys.squeeze.Goals as goal
 
 pub loop-i-init : goal.loop-i-init
-loop-i-init c = (omega arith, c.ranges, refl)
+loop-i-init c = (omega arith, omega arith, refl)
 
 pub loop-i-smaller : goal.loop-i-smaller
 loop-i-smaller c = omega arith
@@ -18,11 +18,11 @@ loop-i-smaller c = omega arith
 pub loop-i-preserved : goal.loop-i-preserved
 loop-i-preserved c =
     let l = c.loop-i in
-    let keys = c.args.t1 in
+    let keys = c.args.keys in
     let added = ap (λ (row : List ℕ). squeeze_of row (drop (l.i + 1) keys)) c.add_absent-next.ensures in
     (omega arith, l.invariant.1, added ∙ (squeeze_more l.out keys l.i (omega arith) ∙ l.invariant.2))
 
 pub returns : goal.returns
 returns c =
     let l = c.loop-i in
-    sym (squeeze_end l.out c.args.t1 l.i (omega arith)) ∙ l.invariant.2
+    sym (squeeze_end l.out c.args.keys l.i (omega arith)) ∙ l.invariant.2

@@ -88,64 +88,64 @@ slice_bounds-encode_record-end c =
 pub overflow_add-p : goal.overflow_add-p
 overflow_add-p c =
     let earlier = c in
-    let args = earlier.before.before.before.before.before.before.before.before.args in
-    let pre = earlier.before.before.before.before.before.before.before.before.requires in
-    let loop = earlier.before.before.before.before.before.loop in
-    let loop-test = earlier.before.before.before.before.loop-test in
+    let args = c.args in
+    let pre = c.requires in
+    let loop = c.loop-i in
+    let loop-test = c.loop-i-test in
     let encode-record = c.encode_record in
-    let len_of_lem = c.len_of_lem in
+    let len_of = c.len_of-n in
     let here = next_row [] args.left.now args.count loop.i loop-test.true
     (omega (arith, loop-test.true, pre.0)) in
     omega (
       arith,
       size_fits loop.invariant (get_or args.left.now loop.i []) loop-test.true
           (omega (arith, loop-test.true, pre.1, pre.3, loop.invariant.many)) here _ _ encode-record.ensures
-          len_of_lem.result len_of_lem.ensures,
+          len_of.result len_of.ensures,
     )
 
 pub put_tries-p-requires : goal.put_tries-p-requires
 put_tries-p-requires c =
     let earlier = c in
-    let args = earlier.before.before.before.before.before.before.before.before.args in
-    let pre = earlier.before.before.before.before.before.before.before.before.requires in
-    let loop = earlier.before.before.before.before.before.loop in
-    let loop-test = earlier.before.before.before.before.loop-test in
+    let args = c.args in
+    let pre = c.requires in
+    let loop = c.loop-i in
+    let loop-test = c.loop-i-test in
     let encode-record = c.encode_record in
-    let len_of_lem = c.len_of_lem in
+    let len_of = c.len_of-n in
     let here = next_row [] args.left.now args.count loop.i loop-test.true
     (omega (arith, loop-test.true, pre.0)) in
     tries_fit loop.invariant (get_or args.left.now loop.i []) loop-test.true
     (omega (arith, loop-test.true, pre.1, pre.3, loop.invariant.many)) here _ _ encode-record.ensures
-    len_of_lem.result len_of_lem.ensures
+    len_of.result len_of.ensures
 
 pub overflow_add-i : goal.overflow_add-i
 overflow_add-i c =
     let earlier = c in
-    let loop-test = earlier.before.before.before.before.before.before.before.loop-test in
+    let loop-test = c.loop-i-test in
     omega (arith, loop-test.true)
 
 pub loop-i-smaller : goal.loop-i-smaller
 loop-i-smaller c =
     let earlier = c in
-    let loop-test = earlier.before.before.before.before.before.before.before.loop-test in
+    let loop-test = c.loop-i-test in
     omega (arith, loop-test.true)
 
 pub loop-i-preserved : goal.loop-i-preserved
 loop-i-preserved c =
     let earlier = c in
-    let args = earlier.before.before.before.before.before.before.before.before.before.before.before.args in
-    let pre = earlier.before.before.before.before.before.before.before.before.before.before.before.requires in
-    let loop = earlier.before.before.before.before.before.before.before.before.loop in
-    let loop-test = earlier.before.before.before.before.before.before.before.loop-test in
-    let encode-record = earlier.before.before.encode-record in
-    let len_of_lem = c.len_of_lem in
+    let args = c.args in
+    let pre = c.requires in
+    let loop = c.loop-i in
+    let loop-test = c.loop-i-test in
+    let encode-record = c.encode_record in
+    let len_of = c.len_of-n in
     let set_row = c.set_row in
     let put-tries = c.put_tries-p in
     let here = next_row [] args.left.now args.count loop.i loop-test.true
     (omega (arith, loop-test.true, pre.0)) in
     imaging_more loop.invariant (get_or args.left.now loop.i []) loop-test.true
     (omega (arith, loop-test.true, pre.1, pre.3, loop.invariant.many)) here _ _ encode-record.ensures
-    len_of_lem.result len_of_lem.ensures _ _ put-tries.ensures _ set_row.ensures
+    len_of.result len_of.ensures _ _ put-tries.ensures _ set_row.ensures
 
 pub shape_of-log : goal.shape_of-log
 shape_of-log c =

@@ -34,9 +34,9 @@ pack-requires c =
 pub spread-requires : goal.spread-requires
 spread-requires c =
     let earlier = c in
-    let args = earlier.before.before.before.before.before.before.before.args in
-    let if1 = earlier.before.before.before.before.before.if1 in
-    let image_len_lem = earlier.before.before.before.image_len in
+    let args = c.args in
+    let if1 = c.if-records-rows in
+    let image_len_lem = c.image_len in
     let end = c.in-Len in
     let pack = c.pack in
     let n = if1.rows in
@@ -58,15 +58,15 @@ spread-requires c =
 pub returns : goal.returns
 returns c =
     let earlier = c in
-    let args = earlier.before.before.before.before.before.before.before.before.before.before.before.args in
-    let if1 = earlier.before.before.before.before.before.before.before.before.before.if1 in
-    let image_len_lem = earlier.before.before.before.before.before.before.before.image_len in
-    let end = earlier.before.before.before.before.before.end in
+    let args = c.args in
+    let if1 = c.if-records-rows in
+    let image_len_lem = c.image_len in
+    let end = c.in-Len in
     let pack = c.pack in
     let spread = c.spread in
     let n = if1.rows in
-    let told : Told (length args.log.now) end.given.0.0 (take n args.records.now) = told_len _ _ _
-    (sym end.given.1 ∙ image_len_lem.ensures) in
+    let told : Told (length args.log.now) end.end (take n args.records.now) = told_len _ _ _
+    (sym end.is ∙ image_len_lem.ensures) in
     let cut : n ≡ min args.count (length args.records.now) = ⊎_elim (λ w. omega arith) (λ w. omega arith)
     if1.branch in
     let few : n ≤ length args.records.now = omega arith in

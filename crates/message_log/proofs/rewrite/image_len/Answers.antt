@@ -68,7 +68,7 @@ returns-else-fits_behind-2 c =
 pub overflow_add-to-then-fits_behind-3 : goal.overflow_add-to-then-fits_behind-3
 overflow_add-to-then-fits_behind-3 c =
     let earlier = c in
-    let args = earlier.before.before.before.before.args in
+    let args = c.args in
     let loop = c.loop-i in
     let tries-len = c.tries_len-tries in
     let fits-behind3 = c.fits_behind-in-loop-i-2 in
@@ -81,7 +81,7 @@ overflow_add-to-then-fits_behind-3 c =
 pub loop-i-preserved : goal.loop-i-preserved
 loop-i-preserved c =
     let earlier = c in
-    let args = earlier.before.before.before.before.args in
+    let args = c.args in
     let loop = c.loop-i in
     let loop-test = c.loop-i-test in
     let if1 = c.if-records-i in
@@ -100,7 +100,7 @@ loop-i-preserved c =
 pub returns-else-fits_behind-3 : goal.returns-else-fits_behind-3
 returns-else-fits_behind-3 c =
     let earlier = c in
-    let args = earlier.before.before.before.before.args in
+    let args = c.args in
     let loop = c.loop-i in
     let loop-test = c.loop-i-test in
     let if1 = c.if-records-i in

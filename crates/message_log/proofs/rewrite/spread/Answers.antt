@@ -67,7 +67,7 @@ move_up-requires c =
 pub bounds-records-i : goal.bounds-records-i
 bounds-records-i c =
     let earlier = c in
-    let pre = earlier.before.before.before.before.before.requires in
+    let pre = c.requires in
     let loop = c.loop-i in
     let loop-test = c.loop-i-test in
     omega (arith, loop.invariant.few, loop.invariant.many, pre.0, loop-test.true)
@@ -75,8 +75,8 @@ bounds-records-i c =
 pub loop-i-preserved : goal.loop-i-preserved
 loop-i-preserved c =
     let earlier = c in
-    let args = earlier.before.before.before.before.before.args in
-    let pre = earlier.before.before.before.before.before.requires in
+    let args = c.args in
+    let pre = c.requires in
     let loop = c.loop-i in
     let loop-test = c.loop-i-test in
     let tries-len = c.tries_len-to in

@@ -25,10 +25,10 @@ overflow_add-tried c =
 pub returns-then-fits_behind : goal.returns-then-fits_behind
 returns-then-fits_behind c =
     let earlier = c in
-    let args = earlier.before.before.before.before.before.before.before.args in
-    let retry-len = earlier.before.before.before.before.before.retry-len in
-    let less-tries = earlier.before.before.before.less-tries in
-    let fits-behind = earlier.before.before.fits-behind in
+    let args = c.args in
+    let retry-len = c.retry_len-n in
+    let less-tries = c.less_tries-rest in
+    let fits-behind = c.fits_behind in
     let if1 = c.if-fits_behind in
     let set-tried = c.set_tried in
     let write-retry = c.write_retry in

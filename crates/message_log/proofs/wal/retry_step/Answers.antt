@@ -20,8 +20,8 @@ returns-in_default c =
 pub returns-then-counts_tries : goal.returns-then-counts_tries
 returns-then-counts_tries c =
     let earlier = c in
-    let args = earlier.before.before.before.before.before.before.args in
-    let counts-tries = earlier.before.before.before.before.counts-tries in
+    let args = c.args in
+    let counts-tries = c.counts_tries in
     let if1 = c.if-counts_tries in
     let search-row = c.search_row in
     let i = c.in-At in

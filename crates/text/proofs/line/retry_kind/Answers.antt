@@ -1,18 +1,16 @@
 -- One case for each answer, and one for a number above 255.
 use Rattle.text.proofs.LineLaws.{kind_tried, kind_over}
 use native.Mathlib.Omega.{arith}
-use Rattle.text.proofs.line.retry_kind.Reads as reads
-use Rattle.text.proofs.line.retry_kind.Lts as lts
 use Rattle.text.proofs.line.retry_kind.Goals as goal
 
 pub returns-in_default : goal.returns-in_default
 returns-in_default c =
-    c.in_default.is in
+    let h1 = c.in_default.is in
     simp (h1)
 
 pub returns-in_default-n : goal.returns-in_default-n
 returns-in_default-n c =
-    c.in-Is.is in
+    let h1 = c.in-Is.is in
     let h2 = c.in_default-n.is in
     simp (h1, h2)
 

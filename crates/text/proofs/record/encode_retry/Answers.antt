@@ -43,7 +43,7 @@ put-b-requires c =
 pub put_id-c-requires : goal.put_id-c-requires
 put_id-c-requires c =
     let earlier = c in
-    let args = earlier.before.before.before.before.args in
+    let args = c.args in
     let retry-len = c.retry_len-len in
     let if1 = c.if-out-len in
     let print-id = c.print_id-a in
@@ -62,10 +62,10 @@ put_id-c-requires c =
 pub put-n-requires : goal.put-n-requires
 put-n-requires c =
     let earlier = c in
-    let args = earlier.before.before.before.before.before.before.before.before.args in
-    let retry-len = earlier.before.before.before.before.before.before.retry-len in
-    let if1 = earlier.before.before.before.before.before.if1 in
-    let print-id = earlier.before.before.before.print-id in
+    let args = c.args in
+    let retry-len = c.retry_len-len in
+    let if1 = c.if-out-len in
+    let print-id = c.print_id-a in
     let put = c.put-b in
     let put_id = c.put_id-c in
     omega (
@@ -74,7 +74,7 @@ put-n-requires c =
       if1.false,
       retry_length args.id args.attempts,
       print-id.ensures.past,
-      print-id.auto.0,
+      print-id.auto.out,
       put.ensures.past,
       put.auto.out,
       put_id.ensures.past,
@@ -84,19 +84,19 @@ put-n-requires c =
 pub shape_of-out : goal.shape_of-out
 shape_of-out c =
     let earlier = c in
-    let print-id = earlier.before.before.before.before.before.before.print-id in
+    let print-id = c.print_id-a in
     let put = c.put-b in
     let put_id = c.put_id-c in
     let put2 = c.put-n in
-    put2.auto.out ∙ (put_id.auto.out ∙ (put.auto.out ∙ print-id.auto.0))
+    put2.auto.out ∙ (put_id.auto.out ∙ (put.auto.out ∙ print-id.auto.out))
 
 pub returns : goal.returns
 returns c =
     let earlier = c in
-    let args = earlier.before.before.before.before.before.before.before.before.before.before.before.args in
-    let retry-len = earlier.before.before.before.before.before.before.before.before.before.retry-len in
-    let if1 = earlier.before.before.before.before.before.before.before.before.if1 in
-    let print-id = earlier.before.before.before.before.before.before.print-id in
+    let args = c.args in
+    let retry-len = c.retry_len-len in
+    let if1 = c.if-out-len in
+    let print-id = c.print_id-a in
     let put = c.put-b in
     let put_id = c.put_id-c in
     let put2 = c.put-n in

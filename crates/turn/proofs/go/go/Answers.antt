@@ -75,7 +75,7 @@ returns-in-FixedEnd c =
     let e1 = c.point_kind-point.ensures in
     let e2 = c.cursor_of-c.ensures in
     let h1 = simp (e1) at c.in-FixedEnd.is in
-    let e3 = c.end_of_lem.ensures in
+    let e3 = c.end_of.ensures in
     let e4 = c.fixed_end-next.ensures in
     let e5 = c.stand_at-in-FixedEnd.ensures in
     simp (e2, e3, e4, e5, h1)

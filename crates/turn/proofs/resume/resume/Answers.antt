@@ -79,7 +79,7 @@ returns-in-Sends c =
     let e1 = c.ask_kind-ask.ensures in
     let e2 = c.cursor_of-c.ensures in
     let h1 = simp (e1) at c.in-Sends.is in
-    let e3 = c.end_of_lem.ensures in
+    let e3 = c.end_of.ensures in
     let e4 = c.sends_reply-next.ensures in
     let e5 = c.stand_at-in-Sends.ensures in
     simp (e2, e3, e4, e5, h1)

@@ -6,12 +6,12 @@ pub returns-in-As : goal.returns-in-As
 unfolding retry_entry
 returns-in-As c =
     let earlier = c in
-    let again = earlier.before.before.before.before.before.again in
+    let again = c.in-Entry in
     let id-at = c.id_at-id in
-    let attempts-at = earlier.before.before.attempts-at in
+    let attempts-at = c.attempts_at-attempts in
     let id = c.in-As in
     let retry-logged = c.retry_logged in
-    let h1 = again.given.1 in
+    let h1 = again.is in
     let e1 = id-at.ensures in
     let e2 = attempts-at.ensures in
     let h2 = simp (e1) at id.is in
@@ -21,7 +21,7 @@ returns-in-As c =
 pub returns-in-Never : goal.returns-in-Never
 unfolding retry_entry retry_logged
 returns-in-Never c =
-    c.in-Entry.is in
+    let h1 = c.in-Entry.is in
     let e1 = c.id_at-id.ensures in
     let h2 = simp (e1) at c.in-Never.is in
     simp (h1, h2)
@@ -29,5 +29,5 @@ returns-in-Never c =
 pub returns-in-Nothing : goal.returns-in-Nothing
 unfolding retry_entry
 returns-in-Nothing c =
-    c.in-Nothing.is in
+    let h1 = c.in-Nothing.is in
     simp (h1)

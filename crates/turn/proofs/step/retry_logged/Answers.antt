@@ -7,7 +7,7 @@ pub returns : goal.returns
 unfolding retry_logged order_for_of
 returns c =
     let earlier = c in
-    let counters = earlier.before.before.before.counters in
+    let counters = c.counters-before in
     let retry = c.retry-s in
     let waiting = c.waiting-disk in
     let set-log = c.set_log in

@@ -10,13 +10,13 @@ use Rattle.wire.proofs.output.output_bytes.Goals as goal
 pub put_bytes-end-requires : goal.put_bytes-end-requires
 put_bytes-end-requires c =
     let b = c in
-    let a = b.before.before.before.before.before.args in
-    omega (arith, leb-true (a.d.at + length a.s.now) (length a.out.now) (sym b.fits-behind.ensures ∙ c.if-fits_behind.true))
+    let a = c.args in
+    omega (arith, leb-true (a.d.at + length a.s.now) (length a.out.now) (sym c.fits_behind.ensures ∙ c.if-fits_behind.true))
 
 pub returns-then-fits_behind : goal.returns-then-fits_behind
 returns-then-fits_behind c =
     let b = c in
-    output_room _ b.before.before.if1.true (sym b.before.fits-behind.ensures ∙ b.if2.true) c.put_bytes-end.ensures
+    output_room _ c.if-d-eq0.true (sym c.fits_behind.ensures ∙ c.if-fits_behind.true) c.put_bytes-end.ensures
 
 pub returns-then-d-eq0 : goal.returns-then-d-eq0
 returns-then-d-eq0 c = output_full _ c.if-d-eq0.true (sym c.fits_behind.ensures ∙ c.if-fits_behind.false)

@@ -11,9 +11,9 @@ loop-i-init c = (refl, refl)
 pub loop-i-preserved : goal.loop-i-preserved
 loop-i-preserved c =
     let call = c in
-    let test = call.before.before.before.before in
-    let l = test.before.loop in
-    (omega arith, rows_more _ l.i (output_with l.out l.e.at l.e.code) test.loop-test.true call.output-numbers.ensures l.invariant.1)
+    let test = c in
+    let l = c.loop-i in
+    (omega arith, rows_more _ l.i (output_with l.out l.e.at l.e.code) c.loop-i-test.true c.output_numbers-next.ensures l.invariant.1)
 
 pub shape_of-out : goal.shape_of-out
 shape_of-out c = c.loop-i.invariant.0

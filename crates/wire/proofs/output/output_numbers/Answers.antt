@@ -12,14 +12,14 @@ use Rattle.wire.proofs.output.output_numbers.Goals as goal
 pub put_numbers-end-requires : goal.put_numbers-end-requires
 put_numbers-end-requires c =
     let b = c in
-    let a = b.before.before.before.before.before.args in
-    omega (arith, length_numbers a.ns.now, leb-true (a.d.at + 8 * length a.ns.now) (length a.out.now) (sym b.fits-behind.ensures ∙ c.if-fits_behind.true))
+    let a = c.args in
+    omega (arith, length_numbers a.ns.now, leb-true (a.d.at + 8 * length a.ns.now) (length a.out.now) (sym c.fits_behind.ensures ∙ c.if-fits_behind.true))
 
 pub returns-then-fits_behind : goal.returns-then-fits_behind
 returns-then-fits_behind c =
     let b = c in
-    let a = b.before.before.before.before.before.before.args in
-    output_room (numbers a.ns.now) b.before.before.if1.true (rw (length_numbers a.ns.now) (sym b.before.fits-behind.ensures ∙ b.if2.true)) c.put_numbers-end.ensures
+    let a = c.args in
+    output_room (numbers a.ns.now) c.if-d-eq0.true (rw (length_numbers a.ns.now) (sym c.fits_behind.ensures ∙ c.if-fits_behind.true)) c.put_numbers-end.ensures
 
 pub returns-then-d-eq0 : goal.returns-then-d-eq0
 returns-then-d-eq0 c =
