@@ -15,8 +15,6 @@ pub mod SearchLaws
 pub mod FieldLaws
 pub mod SizeLaws
 pub mod ScanLaws
-pub mod Again
-pub mod Local
 pub mod PassLaws
 pub mod LeftLaws
 pub mod StoreLaws

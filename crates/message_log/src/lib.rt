@@ -10,6 +10,7 @@
 // (proofs/Recovery): after any list of calls with any arguments, wherever the power fails, the next opening hands back
 // exactly the messages of one moment no earlier than the last confirmed flush or replace.
 #![tactic(auto)]
+
 ghost use Rattle.std.specs.Prelude.{◌≡◌};
 ghost use Rattle.message_log.specs.Log.{log_number_of};
 

@@ -61,4 +61,4 @@ returns c =
       inv.0,
       inv.1,
     )) loop-test.false in
-    (down_ends inv.2 (omega (arith, all.0)), all.0)
+    record { bytes = down_ends inv.2 (omega (arith, all.0)); count = all.0 }

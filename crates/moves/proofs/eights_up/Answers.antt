@@ -55,4 +55,4 @@ returns c =
     let loop = c.loop-left in
     let loop-test = c.loop-left-test in
     let all = eights_taken args.n loop.count loop.left loop.invariant.0 loop.invariant.1 loop-test.false in
-    (up_ends loop.invariant.2 (omega (arith, all.0)), all.0)
+    record { bytes = up_ends loop.invariant.2 (omega (arith, all.0)); count = all.0 }

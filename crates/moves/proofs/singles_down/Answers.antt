@@ -58,4 +58,4 @@ pub returns : goal.returns
 returns c =
     let loop = c.loop-count in
     let loop-test = c.loop-count-test in
-    (down_ends loop.invariant loop-test.false, omega (arith, loop.invariant.few, loop-test.false))
+    record { bytes = down_ends loop.invariant loop-test.false; count = omega (arith, loop.invariant.few, loop-test.false) }

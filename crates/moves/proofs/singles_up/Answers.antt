@@ -47,7 +47,4 @@ shape_of-bytes c = c.loop-left.invariant.1.long
 pub returns : goal.returns
 returns c =
     let loop = c.loop-left in
-    let loop-test = c.loop-left-test in (
-      up_ends loop.invariant.1 (omega (arith, loop.invariant.0, loop-test.false)),
-      omega (arith, loop.invariant.0, loop.invariant.1.few, loop-test.false),
-    )
+    let loop-test = c.loop-left-test in record { bytes = up_ends loop.invariant.1 (omega (arith, loop.invariant.0, loop-test.false)); count = omega (arith, loop.invariant.0, loop.invariant.1.few, loop-test.false) }

@@ -15,13 +15,13 @@ pub returns-then-id-lo : goal.returns-then-id-lo
 returns-then-id-lo c =
     let pre = c.requires in
     let if1 = c.if-id-lo in
-    (pre.0, (beneath if1.true refl refl, refl))
+    record { within = pre.0; took = beneath if1.true refl refl; next = refl }
 
 pub returns-then-hi-id : goal.returns-then-hi-id
 returns-then-hi-id c =
     let pre = c.requires in
     let if2 = c.if-hi-id in
-    (pre.0, (beyond if2.true refl refl, refl))
+    record { within = pre.0; took = beyond if2.true refl refl; next = refl }
 
 pub row_place-i-requires : goal.row_place-i-requires
 row_place-i-requires c =
@@ -59,7 +59,7 @@ returns-then-row_is c =
     let row-is = c.row_is in
     let if3 = c.if-row_is in
     let here = held args.rows.now args.p.count row-place.result args.id pre.0 (sym row-is.ensures ∙ if3.true) in
-    (simp length-set pre.0, (set_in if1.false if2.false refl (placed_same args.rows.now args.p.count row-place.result (row args.id args.at 0 0) pre.0 row-place.ensures here), refl))
+    record { within = simp length-set pre.0; took = set_in if1.false if2.false refl (placed_same args.rows.now args.p.count row-place.result (row args.id args.at 0 0) pre.0 row-place.ensures here); next = refl }
 
 pub open_row-requires : goal.open_row-requires
 open_row-requires c =
@@ -85,7 +85,7 @@ returns-then-count-rows c =
     let e = row args.id args.at 0 0 in
     let i = row-place.result in
     let within : i ≤ count = omega (arith, row-place.ensures.within, length-take-le count rows pre.0) in
-    (omega (arith, if4.true, open_row.auto.rows), (set_in if1.false if2.false refl (ap (take (count + 1)) open_row.ensures ∙ (put_in rows i count e within if4.true ∙ sym (placed_in rows count i e pre.0 row-place.ensures (sym row-is.ensures ∙ if3.false)))), refl))
+    record { within = omega (arith, if4.true, open_row.auto.rows); took = set_in if1.false if2.false refl (ap (take (count + 1)) open_row.ensures ∙ (put_in rows i count e within if4.true ∙ sym (placed_in rows count i e pre.0 row-place.ensures (sym row-is.ensures ∙ if3.false)))); next = refl }
 
 pub returns-then-count-i : goal.returns-then-count-i
 returns-then-count-i c =
@@ -101,7 +101,7 @@ returns-then-count-i c =
     let rows = args.rows.now in
     let count = args.p.count in
     let e = row args.id args.at 0 0 in
-    (pre.0, (evicted if1.false if2.false e (placed_last rows count row-place.result e pre.0 row-place.ensures (sym row-is.ensures ∙ if3.false) if5.true) refl (omega (arith, length-take-le count rows pre.0, pre.1, if4.false)), refl))
+    record { within = pre.0; took = evicted if1.false if2.false e (placed_last rows count row-place.result e pre.0 row-place.ensures (sym row-is.ensures ∙ if3.false) if5.true) refl (omega (arith, length-take-le count rows pre.0, pre.1, if4.false)); next = refl }
 
 pub open_row-requires-2 : goal.open_row-requires-2
 open_row-requires-2 c =
@@ -125,4 +125,4 @@ returns c =
     let e = row args.id args.at 0 0 in
     let i = row-place.result in
     let full = in_full rows count (count - 1) i e pre.0 row-place.ensures (sym row-is.ensures ∙ if3.false) (omega (arith, if5.false)) (omega (arith, if5.false)) _ open-row2.ensures in
-    (omega (arith, pre.0, open-row2.auto.rows), (evicted if1.false if2.false (get_or rows (count - 1) []) full.0 refl full.1, refl))
+    record { within = omega (arith, pre.0, open-row2.auto.rows); took = evicted if1.false if2.false (get_or rows (count - 1) []) full.0 refl full.1; next = refl }

@@ -80,4 +80,5 @@ returns c =
     let args = c.args in
     let loop = c.loop-i in
     let loop-test = c.loop-i-test in
-    storing_ends loop.invariant (last_row [] args.rows.now args.count loop.i loop-test.false)
+    let all = storing_ends loop.invariant (last_row [] args.rows.now args.count loop.i loop-test.false) in
+    record { store = all.0; left = all.1 }

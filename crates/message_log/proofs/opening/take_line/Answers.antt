@@ -23,22 +23,22 @@ took-none lo file rows (At a e) = (refl, refl, refl)
 took-none lo file rows End = (refl, refl, refl)
 
 pub returns-in_default : goal.returns-in_default
-returns-in_default c = c.args in took args.lo _ _ _ _ _ _ _ _ c.in_default.is refl (took-none args.lo _ _ args.line)
+returns-in_default c = let args = c.args in took args.lo _ _ _ _ _ _ _ _ c.in_default.is refl (took-none args.lo args.file.now args.rows.now args.line)
 
 pub returns-in_default-line : goal.returns-in_default-line
-returns-in_default-line c = c.args in took args.lo _ _ _ _ _ _ _ _ c.in-Next.is c.in_default-line.is (refl, refl, refl)
+returns-in_default-line c = let args = c.args in took args.lo _ _ _ _ _ _ _ _ c.in-Next.is c.in_default-line.is (refl, refl, refl)
 
 pub slice_bounds-pass_line-count : goal.slice_bounds-pass_line-count
-slice_bounds-pass_line-count c = c.args in let taken = c.in-Next in let line = c.in-At in let k = can-take args.lo args.file.now args.rows.now args.s.taken args.line _ _ _ taken.given.1 line.given.1 c.requires in k.3
+slice_bounds-pass_line-count c = let args = c.args in let taken = c.in-Next in let line = c.in-At in let k = can-take args.lo args.file.now args.rows.now args.s.taken args.line _ _ _ taken.is line.is c.requires in k.3
 
 pub slice_bounds-pass_line-start : goal.slice_bounds-pass_line-start
-slice_bounds-pass_line-start c = c.args in let taken = c.in-Next in let line = c.in-At in let k = can-take args.lo args.file.now args.rows.now args.s.taken args.line _ _ _ taken.given.1 line.given.1 c.requires in k.3
+slice_bounds-pass_line-start c = let args = c.args in let taken = c.in-Next in let line = c.in-At in let k = can-take args.lo args.file.now args.rows.now args.s.taken args.line _ _ _ taken.is line.is c.requires in k.3
 
 pub slice_bounds-pass_line-end : goal.slice_bounds-pass_line-end
-slice_bounds-pass_line-end c = c.args in let taken = c.in-Next in let line = c.in-At in let k = can-take args.lo args.file.now args.rows.now args.s.taken args.line _ _ _ taken.given.1 line.given.1 c.requires in k.4
+slice_bounds-pass_line-end c = let args = c.args in let taken = c.in-Next in let line = c.in-At in let k = can-take args.lo args.file.now args.rows.now args.s.taken args.line _ _ _ taken.is line.is c.requires in k.4
 
 pub pass_line-t-requires : goal.pass_line-t-requires
-pass_line-t-requires c = c.args in let taken = c.in-Next in let line = c.in-At in let k = can-take args.lo args.file.now args.rows.now args.s.taken args.line _ _ _ taken.given.1 line.given.1 c.requires in (k.0, k.1, k.2)
+pass_line-t-requires c = let args = c.args in let taken = c.in-Next in let line = c.in-At in let k = can-take args.lo args.file.now args.rows.now args.s.taken args.line _ _ _ taken.is line.is c.requires in (k.0, k.1, k.2)
 
 pub returns : goal.returns
-returns c = c.args in took args.lo _ _ _ _ _ _ _ _ c.in-Next.is c.in-At.is (c.pass_line-t.ensures, c.goes_on-on.ensures)
+returns c = let args = c.args in took args.lo _ _ _ _ _ _ _ _ c.in-Next.is c.in-At.is (c.pass_line-t.ensures, c.goes_on-on.ensures)

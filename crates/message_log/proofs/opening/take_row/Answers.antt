@@ -18,7 +18,7 @@ returns-in_default c =
     let these = take args.p.count args.rows.now in
     let same = search_finds args.id 0 (2 ^ 64) these pre.1 in
     let missing = found_missing (search_row args.id these) (sym enum_told.is ∙ search-row.ensures) in
-    (pre.0, (sym (remove_missing args.id 0 these (sym same ∙ missing)), (refl, refl)))
+    record { within = pre.0; out = sym (remove_missing args.id 0 these (sym same ∙ missing)); same = (refl, refl) }
 
 pub overflow_sub-result : goal.overflow_sub-result
 overflow_sub-result c =
@@ -45,4 +45,4 @@ returns c =
     let found = found_at i.i (search_row args.id these) (sym i.is ∙ search-row.ensures) in
     let out = row_out args.rows.now args.p.count args.id i.i pre.0 pre.1
     (sym same ∙ found) in
-    (omega (arith, pre.0, close_row.auto.rows), (ap (take (args.p.count - 1)) close_row.ensures ∙ out.gone, (refl, refl)))
+    record { within = omega (arith, pre.0, close_row.auto.rows); out = ap (take (args.p.count - 1)) close_row.ensures ∙ out.gone; same = (refl, refl) }

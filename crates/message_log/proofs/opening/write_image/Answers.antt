@@ -85,6 +85,30 @@ slice_bounds-encode_record-end c =
     let loop = c.loop-i in
     omega (arith, loop.invariant.room)
 
+pub slice_bounds-encode_record-end-in-loop-i : goal.slice_bounds-encode_record-end-in-loop-i
+slice_bounds-encode_record-end-in-loop-i c =
+    let args = c.args in
+    let pre = c.requires in
+    let loop = c.loop-i in
+    let loop-test = c.loop-i-test in
+    let f = imaging_fits loop.invariant (get_or args.left.now loop.i []) loop-test.true
+    (omega (arith, loop-test.true, pre.1, pre.3, loop.invariant.many))
+    (next_row [] args.left.now args.count loop.i loop-test.true
+    (omega (arith, loop-test.true, pre.0))) in
+    omega (arith, f.name, loop-test.true, pre.1, pre.2)
+
+pub slice_bounds-encode_record-end-in-loop-i-2 : goal.slice_bounds-encode_record-end-in-loop-i-2
+slice_bounds-encode_record-end-in-loop-i-2 c =
+    let args = c.args in
+    let pre = c.requires in
+    let loop = c.loop-i in
+    let loop-test = c.loop-i-test in
+    let f = imaging_fits loop.invariant (get_or args.left.now loop.i []) loop-test.true
+    (omega (arith, loop-test.true, pre.1, pre.3, loop.invariant.many))
+    (next_row [] args.left.now args.count loop.i loop-test.true
+    (omega (arith, loop-test.true, pre.0))) in
+    omega (arith, f.body, loop-test.true, pre.1, pre.2)
+
 pub overflow_add-p : goal.overflow_add-p
 overflow_add-p c =
     let earlier = c in

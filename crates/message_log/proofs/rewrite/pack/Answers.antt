@@ -21,8 +21,9 @@ returns-then-records-i c =
     let args = c.args in
     let loop = c.loop-i in
     let if1 = c.if-records-i in
-    packing_ends loop.invariant
-    (no_row [] args.records.now args.count loop.i (omega (arith, loop.invariant.many, if1.true)))
+    let all = packing_ends loop.invariant
+    (no_row [] args.records.now args.count loop.i (omega (arith, loop.invariant.many, if1.true))) in
+    record { bytes = all.0; table = all.1 }
 
 pub move_down-requires : goal.move_down-requires
 move_down-requires c =
@@ -57,4 +58,5 @@ pub returns : goal.returns
 returns c =
     let args = c.args in
     let loop = c.loop-i in
-    packing_ends loop.invariant (last_row [] args.records.now args.count loop.i c.loop-i-test.false)
+    let all = packing_ends loop.invariant (last_row [] args.records.now args.count loop.i c.loop-i-test.false) in
+    record { bytes = all.0; table = all.1 }

@@ -98,5 +98,6 @@ returns c =
     let pre = c.requires in
     let loop = c.loop-i in
     let loop-test = c.loop-i-test in
-    spreading_ends args.log.now args.records.now args.count pre.0 (omega (arith, pre.1, pre.2))
-    pre.3 loop.invariant (omega (arith, loop-test.false))
+    let all = spreading_ends args.log.now args.records.now args.count pre.0 (omega (arith, pre.1, pre.2))
+    pre.3 loop.invariant (omega (arith, loop-test.false)) in
+    record { bytes = all.0; table = all.1 }

@@ -1,19 +1,19 @@
 -- The loop keeps that the search that is left, from `lo` on and below `hi`, finds what the whole search finds.
 use mathlib.Core.Path.{◌≡◌, sym, ap}
-use mathlib.Core.Logic.{⊎_elim}
 use native.Mathlib.Omega.{arith}
 use borrow.Author.Rules.{rules}
 use lib.ListN.{length, take, length-take}
 use Rattle.message_log.specs.Table.{found_of}
 use Rattle.message_log.proofs.SearchLaws.{left_all, left_none, left_here, left_above, left_below}
 use Rattle.message_log.proofs.table.search_row.Goals as goal
+use Rattle.message_log.proofs.table.search_row.Goals.{then-rows-hi, else-rows-hi}
 
 pub loop-lo-init : goal.loop-lo-init
 loop-lo-init c =
     let args = c.args in
     let long = length-take args.count args.rows.now in
     let all : c.if-rows-hi.hi ≡ length (take args.count args.rows.now) =
-    ⊎_elim (λ w. omega arith) (λ w. omega arith) c.if-rows-hi.branch in
+    elim c.if-rows-hi.branch [ then-rows-hi w ↦ omega arith | else-rows-hi w ↦ omega arith ] in
     (omega arith, left_all args.id (take args.count args.rows.now) c.if-rows-hi.hi all)
 
 pub returns-then-here-id : goal.returns-then-here-id

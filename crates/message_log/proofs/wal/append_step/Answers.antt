@@ -66,7 +66,7 @@ returns-then-log-live c =
 pub returns-in_default : goal.returns-in_default
 returns-in_default c =
     let args = c.args in
-    let good = c.ranges in
+    let good = c.told-records in
     let if1 = c.if-name-gt-NAME in
     let if2 = c.if-body-gt-BODY in
     let if3 = c.if-records-count in
@@ -99,7 +99,7 @@ append_record-requires c =
 pub returns : goal.returns
 returns c =
     let args = c.args in
-    let good = c.ranges in
+    let good = c.told-records in
     let if1 = c.if-name-gt-NAME in
     let if2 = c.if-body-gt-BODY in
     let if3 = c.if-records-count in

@@ -5,4 +5,4 @@ use Rattle.steps.proofs.step.waiting.Goals as goal
 
 pub returns : goal.returns
 unfolding step_of step_kind_of parked_of parked_kind_of
-returns c = (refl, refl)
+returns c = record { step = refl; parked = refl }

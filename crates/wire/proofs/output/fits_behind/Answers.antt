@@ -7,7 +7,7 @@ use Rattle.message_log.proofs.TableLaws.{room_behind}
 use Rattle.wire.proofs.output.fits_behind.Goals as goal
 
 pub returns-then-long-at : goal.returns-then-long-at
-returns-then-long-at c = c.args in sym (lt-leb (a.at + a.n) a.long (omega (arith, c.if-long-at.true)))
+returns-then-long-at c = let a = c.args in sym (lt-leb (a.at + a.n) a.long (omega (arith, c.if-long-at.true)))
 
 pub returns : goal.returns
-returns c = c.args in room_behind a.at a.n a.long c.if-long-at.false
+returns c = let a = c.args in room_behind a.at a.n a.long c.if-long-at.false
