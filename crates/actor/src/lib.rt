@@ -5,6 +5,7 @@
 // `actor_put`, `actor_other` of proofs/Back.antt. Every function takes constant time and equals a definition of
 // specs/.
 #![tactic(auto)]
+
 pub mod message; // a message's row: attempts, lengths, caller, log id
 pub mod question; // what is asked, and what may be replied
 pub mod state; // an actor's state

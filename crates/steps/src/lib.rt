@@ -9,6 +9,7 @@
 // `queued` as the mailbox's length; `deadline_exact` and row end 8 (docs/RULES.md, Row ends), `row_ends_hold`, stand
 // in proofs/Times.antt.
 #![tactic(auto)]
+
 pub mod step; // what both steps do: mail is taken, a message is over
 pub mod fixed; // step_fixed: a program that loops over receive()
 pub mod eval; // step_eval: a fresh interpreter for each message

@@ -7,7 +7,7 @@ use Rattle.steps.proofs.eval.asks.Goals as goal
 pub returns : goal.returns
 unfolding eval_next_of
 returns c =
-    let e1 = c.number_of.ensures in
+    let e1 = c.number_of-number.ensures in
     let e2 = c.outcome_number-told.ensures in
     let a = c.args in
     simp (e1, e2, eval_open a.ask, eval_kind a.ask, outcome_kind a.outcome)

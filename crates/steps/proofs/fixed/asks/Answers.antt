@@ -7,6 +7,6 @@ use Rattle.steps.proofs.fixed.asks.Goals as goal
 pub returns : goal.returns
 unfolding fixed_next_of
 returns c =
-    let e1 = c.number_of.ensures in
+    let e1 = c.number_of-number.ensures in
     let ask = c.args.ask in
     simp (e1, fixed_open ask, fixed_kind ask)
