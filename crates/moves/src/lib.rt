@@ -6,6 +6,7 @@
 // move leaves what moving singly leaves, and what moving all bytes at once leaves (`down_as_singly`, `up_as_singly`;
 // proofs/MoveLaws).
 #![tactic(auto)]
+
 ghost use Rattle.std.specs.Prelude.{◌≡◌, ◌+◌, ◌/◌, ◌%◌, ◌≤◌, length};
 ghost use Rattle.moves.specs.Moves.{moved_at_once, steps_down, steps_up, words_down};
 ghost use Rattle.moves.specs.Moves.{words_up, steps_of, move_down, move_up};

@@ -3,5 +3,6 @@
 // function takes constant time and equals a definition of specs/; proofs/WordLaws says that each maker's words mean
 // what it says.
 #![tactic(auto)]
+
 pub mod at; // where a turn stands
 pub mod words; // the same as words, as code hands it on

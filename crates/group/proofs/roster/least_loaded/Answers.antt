@@ -1,12 +1,12 @@
 -- `roster::least_loaded` meets its contract: the keys from `key` on give what all of them do, with the best so far. The
 -- measure is what is left. Assumes nothing.
 use mathlib.Core.Path.{refl, sym, ◌∙◌}
-use mathlib.Core.Logic.{⊎_elim}
 use native.Mathlib.Omega.{arith}
 use Rattle.lists.specs.declared.keys.Key.TheVariants as found
 use Rattle.group.specs.Roster.{least_of}
 use Rattle.group.proofs.Loops.{least_more, least_end}
 use Rattle.group.proofs.roster.least_loaded.Goals as goal
+use Rattle.group.proofs.roster.least_loaded.Goals.{then-there, else-there}
 
 pub loop-key-init : goal.loop-key-init
 loop-key-init c = refl
@@ -19,10 +19,10 @@ loop-key-preserved c =
     let l = c.loop-key in
     let turn = l.invariant ∙ least_more _ _ _ l.key l.best (omega arith) in
     let had = sym c.contains_at-there.ensures in
-    ⊎_elim
-    (λ w. rw (w.2 ∙ w.1.ensures) (turn ∙ rw (had ∙ w.0.taken)))
-    (λ w. rw w.1 (turn ∙ rw (had ∙ w.0.left)))
-    c.if-there.branch
+    elim c.if-there.branch [
+      | then-there w ↦ rw (w.best-is ∙ w.better-next.ensures) (turn ∙ rw (had ∙ w.if-there.true))
+      | else-there w ↦ rw w.best-is (turn ∙ rw (had ∙ w.if-there.false))
+    ]
 
 pub returns : goal.returns
 unfolding least_of
