@@ -2,6 +2,7 @@
 // left is settled. Every function takes only the tables that it touches, requires nothing, and equals a definition of
 // specs/.
 #![tactic(auto)]
+
 pub mod waking; // Wake and Poll
 pub mod ready; // the ready list, and the begin of a step
 pub mod settle; // the end of a step: lists, release

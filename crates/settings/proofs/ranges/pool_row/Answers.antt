@@ -6,11 +6,11 @@ use Rattle.settings.proofs.ranges.pool_row.Goals as goal
 pub returns-then-most-b : goal.returns-then-most-b
 unfolding pool_row
 returns-then-most-b c =
-    let h1 = lt-ltb _ _ c.if-most-b.taken in
+    let h1 = lt-ltb _ _ c.if-most-b.true in
     simp (h1)
 
 pub returns-else-most-b : goal.returns-else-most-b
 unfolding pool_row
 returns-else-most-b c =
-    let h1 = le-ltb _ _ c.if-most-b.left in
+    let h1 = le-ltb _ _ c.if-most-b.false in
     simp (h1)

@@ -6,31 +6,31 @@ use Rattle.settings.proofs.ranges.settings_fit.Goals as goal
 pub returns-then-n-eq0 : goal.returns-then-n-eq0
 unfolding settings_fit
 returns-then-n-eq0 c =
-    let h1 = eq-eqb _ _ c.if-n-eq0.taken in
+    let h1 = eq-eqb _ _ c.if-n-eq0.true in
     simp (h1)
 
 pub returns-then-n-gt-GROUPS : goal.returns-then-n-gt-GROUPS
 unfolding settings_fit
 returns-then-n-gt-GROUPS c =
-    let h1 = ne_eqb _ _ c.if-n-eq0.left in
-    let h2 = lt-ltb _ _ c.if-n-gt-GROUPS.taken in
+    let h1 = ne_eqb _ _ c.if-n-eq0.false in
+    let h2 = lt-ltb _ _ c.if-n-gt-GROUPS.true in
     simp (h1, h2)
 
 pub returns-then-fits : goal.returns-then-fits
 unfolding settings_fit
 returns-then-fits c =
-    let h1 = ne_eqb _ _ c.if-n-eq0.left in
-    let h2 = le-ltb _ _ c.if-n-gt-GROUPS.left in
+    let h1 = ne_eqb _ _ c.if-n-eq0.false in
+    let h2 = le-ltb _ _ c.if-n-gt-GROUPS.false in
     let e1 = c.numbers_fit-fits.ensures in
-    let h3 = simp (e1) at c.if-fits.taken in
+    let h3 = simp (e1) at c.if-fits.true in
     let e2 = c.rows_fit.ensures in
     simp (e2, h1, h2, h3)
 
 pub returns-else-fits : goal.returns-else-fits
 unfolding settings_fit
 returns-else-fits c =
-    let h1 = ne_eqb _ _ c.if-n-eq0.left in
-    let h2 = le-ltb _ _ c.if-n-gt-GROUPS.left in
+    let h1 = ne_eqb _ _ c.if-n-eq0.false in
+    let h2 = le-ltb _ _ c.if-n-gt-GROUPS.false in
     let e1 = c.numbers_fit-fits.ensures in
-    let h3 = simp (e1) at c.if-fits.left in
+    let h3 = simp (e1) at c.if-fits.false in
     simp (h1, h2, h3)
