@@ -3,6 +3,7 @@
 // equals a definition of specs/, and the loop ends on any tables: each step lowers a weight of where the turn stands
 // (specs/Weight.antt).
 #![tactic(auto)]
+
 pub mod state; // the pool's own state, in cells
 pub mod logged; // the log's calls, on the pool's counters
 pub mod go; // one running point

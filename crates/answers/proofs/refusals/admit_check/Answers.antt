@@ -7,7 +7,7 @@ use Rattle.answers.proofs.refusals.admit_check.Goals as goal
 
 pub returns-then-long : goal.returns-then-long
 unfolding judged admit_refusals_first disk_of
-returns-then-long c =
+returns-then-long c bytes records store rows keys actors =
     let e1 = c.disk_in-disk.ensures in
     let e2 = c.disk_kind-kind.ensures in
     let h1 = simp (e1, e2) at c.in-Free.is in
@@ -17,7 +17,7 @@ returns-then-long c =
 
 pub returns-then-not-loaded : goal.returns-then-not-loaded
 unfolding judged admit_refusals_first disk_of
-returns-then-not-loaded c =
+returns-then-not-loaded c bytes records store rows keys actors =
     let e1 = c.disk_in-disk.ensures in
     let e2 = c.disk_kind-kind.ensures in
     let h1 = simp (e1, e2) at c.in-Free.is in
@@ -30,7 +30,7 @@ returns-then-not-loaded c =
 
 pub returns-then-inbox-waiting : goal.returns-then-inbox-waiting
 unfolding judged admit_refusals_first disk_of
-returns-then-inbox-waiting c =
+returns-then-inbox-waiting c bytes records store rows keys actors =
     let e1 = c.disk_in-disk.ensures in
     let e2 = c.disk_kind-kind.ensures in
     let h1 = simp (e1, e2) at c.in-Free.is in
@@ -46,7 +46,7 @@ returns-then-inbox-waiting c =
 
 pub returns-then-closed : goal.returns-then-closed
 unfolding judged admit_refusals_first disk_of
-returns-then-closed c =
+returns-then-closed c bytes records store rows keys actors =
     let e1 = c.disk_in-disk.ensures in
     let e2 = c.disk_kind-kind.ensures in
     let h1 = simp (e1, e2) at c.in-Free.is in
@@ -64,7 +64,7 @@ returns-then-closed c =
 
 pub returns-then-free-eq0 : goal.returns-then-free-eq0
 unfolding judged admit_refusals_first disk_of
-returns-then-free-eq0 c =
+returns-then-free-eq0 c bytes records store rows keys actors =
     let e1 = c.disk_in-disk.ensures in
     let e2 = c.disk_kind-kind.ensures in
     let h1 = simp (e1, e2) at c.in-Free.is in
@@ -84,7 +84,7 @@ returns-then-free-eq0 c =
 
 pub returns-else-free-eq0 : goal.returns-else-free-eq0
 unfolding judged admit_refusals_first disk_of
-returns-else-free-eq0 c =
+returns-else-free-eq0 c bytes records store rows keys actors =
     let e1 = c.disk_in-disk.ensures in
     let e2 = c.disk_kind-kind.ensures in
     let h1 = simp (e1, e2) at c.in-Free.is in
@@ -104,7 +104,7 @@ returns-else-free-eq0 c =
 
 pub returns-in-Waits : goal.returns-in-Waits
 unfolding judged admit_refusals_first disk_of
-returns-in-Waits c =
+returns-in-Waits c bytes records store rows keys actors =
     let e1 = c.disk_in-disk.ensures in
     let e2 = c.disk_kind-kind.ensures in
     let h1 = simp (e1, e2) at c.in-Waits.is in
@@ -112,7 +112,7 @@ returns-in-Waits c =
 
 pub returns-in-Failed : goal.returns-in-Failed
 unfolding judged admit_refusals_first disk_of
-returns-in-Failed c =
+returns-in-Failed c bytes records store rows keys actors =
     let e1 = c.disk_in-disk.ensures in
     let e2 = c.disk_kind-kind.ensures in
     let h1 = simp (e1, e2) at c.in-Failed.is in

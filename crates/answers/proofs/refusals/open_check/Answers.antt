@@ -5,7 +5,7 @@ use Rattle.answers.proofs.refusals.open_check.Goals as goal
 
 pub returns-then-sized : goal.returns-then-sized
 unfolding judged open_refusals_first
-returns-then-sized c =
+returns-then-sized c bytes size store records =
     let e1 = c.settings_fit-fits.ensures in
     let h1 = simp (e1) at c.if-fits.true in
     let e2 = c.tables_sized-sized.ensures in
@@ -14,7 +14,7 @@ returns-then-sized c =
 
 pub returns-then-fits : goal.returns-then-fits
 unfolding judged open_refusals_first
-returns-then-fits c =
+returns-then-fits c bytes size store records =
     let e1 = c.settings_fit-fits.ensures in
     let h1 = simp (e1) at c.if-fits.true in
     let e2 = c.tables_sized-sized.ensures in
@@ -23,7 +23,7 @@ returns-then-fits c =
 
 pub returns : goal.returns
 unfolding judged open_refusals_first
-returns c =
+returns c bytes size store records =
     let e1 = c.settings_fit-fits.ensures in
     let h1 = simp (e1) at c.if-fits.false in
     simp (h1)

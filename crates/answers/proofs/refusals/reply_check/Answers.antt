@@ -5,7 +5,7 @@ use Rattle.answers.proofs.refusals.reply_check.Goals as goal
 
 pub returns-then-failed : goal.returns-then-failed
 unfolding judged reply_refusals
-returns-then-failed c =
+returns-then-failed c bytes records store groups keys actors =
     let e1 = c.disk_in-disk.ensures in
     let e2 = c.is_failed-failed.ensures in
     let h1 = simp (e1, e2) at c.if-failed.true in
@@ -13,7 +13,7 @@ returns-then-failed c =
 
 pub returns-then-not-fits : goal.returns-then-not-fits
 unfolding judged reply_refusals
-returns-then-not-fits c =
+returns-then-not-fits c bytes records store groups keys actors =
     let e1 = c.disk_in-disk.ensures in
     let e2 = c.is_failed-failed.ensures in
     let h1 = simp (e1, e2) at c.if-failed.false in
@@ -24,7 +24,7 @@ returns-then-not-fits c =
 
 pub returns-then-message : goal.returns-then-message
 unfolding judged reply_refusals
-returns-then-message c =
+returns-then-message c bytes records store groups keys actors =
     let e1 = c.disk_in-disk.ensures in
     let e2 = c.is_failed-failed.ensures in
     let h1 = simp (e1, e2) at c.if-failed.false in
@@ -38,7 +38,7 @@ returns-then-message c =
 
 pub returns : goal.returns
 unfolding judged reply_refusals
-returns c =
+returns c bytes records store groups keys actors =
     let e1 = c.disk_in-disk.ensures in
     let e2 = c.is_failed-failed.ensures in
     let h1 = simp (e1, e2) at c.if-failed.false in

@@ -9,7 +9,7 @@ use Rattle.pool.proofs.admit.admit_logged.Goals as goal
 
 pub returns-then-some : goal.returns-then-some
 unfolding admit_logged shown order_for_of
-returns-then-some c =
+returns-then-some c groups keys actors =
     let e1 = c.counters-before.ensures in
     let e2 = simp (e1) at c.append-a.ensures in
     let h1 = simp c.is_due-some.ensures at c.if-some.true in
@@ -21,7 +21,7 @@ returns-then-some c =
 
 pub returns : goal.returns
 unfolding admit_logged shown
-returns c =
+returns c groups keys actors =
     let e1 = c.counters-before.ensures in
     let e2 = simp (e1) at c.append-a.ensures in
     let h1 = simp c.is_due-some.ensures at c.if-some.false in

@@ -5,7 +5,7 @@ use Rattle.pool.proofs.calls.close.Goals as goal
 
 pub returns-in-Refuse : goal.returns-in-Refuse
 unfolding close_of shown
-returns-in-Refuse c =
+returns-in-Refuse c bytes records store groups links rows keys actors =
     let e1 = c.sync_check-check.ensures in
     let h1 = simp (e1) at c.in-Refuse.is in
     let e2 = c.refused.ensures in
@@ -13,7 +13,7 @@ returns-in-Refuse c =
 
 pub returns-in-Fine : goal.returns-in-Fine
 unfolding close_of shown
-returns-in-Fine c =
+returns-in-Fine c bytes records store groups links rows keys actors =
     let e1 = c.sync_check-check.ensures in
     let h1 = simp (e1) at c.in-Fine.is in
     let e2 = c.close.ensures in

@@ -5,7 +5,7 @@ use Rattle.pool.proofs.calls.collect_send.Goals as goal
 
 pub returns : goal.returns
 unfolding collect_send shown
-returns c =
+returns c bytes records groups keys actors =
     let e1 = c.keep.ensures in
     let e2 = c.shown_now.ensures in
     simp (← e1, e2)

@@ -5,7 +5,7 @@ use Rattle.pool.proofs.calls.failed.Goals as goal
 
 pub returns : goal.returns
 unfolding failed_of shown
-returns c =
+returns c bytes records store groups links rows keys actors =
     let e1 = c.failed-disk.ensures in
     let e2 = c.set_disk.ensures in
     let e3 = c.shown_now.ensures in

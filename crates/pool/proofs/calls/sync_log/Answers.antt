@@ -6,7 +6,7 @@ use Rattle.pool.proofs.calls.sync_log.Goals as goal
 
 pub returns-then-some : goal.returns-then-some
 unfolding shown order_for_of
-returns-then-some c =
+returns-then-some c bytes records store groups links rows keys actors =
     let e1 = simp c.counters-before.ensures at c.sync-s.ensures in
     let h1 = simp c.is_due-some.ensures at c.if-some.true in
     let e2 = c.waiting-disk.ensures in
@@ -16,7 +16,7 @@ returns-then-some c =
 
 pub returns : goal.returns
 unfolding shown
-returns c =
+returns c bytes records store groups links rows keys actors =
     let e1 = simp c.counters-before.ensures at c.sync-s.ensures in
     let h1 = simp c.is_due-some.ensures at c.if-some.false in
     let e2 = c.shown_now-2.ensures in

@@ -5,7 +5,7 @@ use Rattle.pool.proofs.run.answered.Goals as goal
 
 pub returns-then-during : goal.returns-then-during
 unfolding answered_of shown
-returns-then-during c =
+returns-then-during c bytes records store groups rows actors =
     let e1 = c.where_in-at.ensures in
     let e2 = c.in_turn-during.ensures in
     let h1 = simp (e1, e2) at c.if-during.true in
@@ -14,7 +14,7 @@ returns-then-during c =
 
 pub returns : goal.returns
 unfolding answered_of shown
-returns c =
+returns c bytes records store groups rows actors =
     let e1 = c.where_in-at.ensures in
     let e2 = c.in_turn-during.ensures in
     let h1 = simp (e1, e2) at c.if-during.false in

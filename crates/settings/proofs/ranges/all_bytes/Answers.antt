@@ -6,7 +6,7 @@ use Rattle.settings.proofs.Loops.{cells_more, cells_end}
 use Rattle.settings.proofs.ranges.all_bytes.Goals as goal
 
 pub loop-i-init : goal.loop-i-init
-loop-i-init c = (c.ranges, refl)
+loop-i-init c = (omega arith, refl)
 
 pub returns-then-b-gt255 : goal.returns-then-b-gt255
 returns-then-b-gt255 c =

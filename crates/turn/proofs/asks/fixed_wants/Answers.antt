@@ -5,30 +5,30 @@ use Rattle.turn.proofs.asks.fixed_wants.Goals as goal
 
 pub returns-in-Start : goal.returns-in-Start
 unfolding wanted_by fixed_asks
-returns-in-Start c =
+returns-in-Start c links who =
     let h1 = c.in-Start.is in
     simp (h1)
 
 pub returns-in-Resume : goal.returns-in-Resume
 unfolding wanted_by fixed_asks
-returns-in-Resume c =
+returns-in-Resume c links who =
     let h1 = c.in-Resume.is in
     simp (h1)
 
 pub returns-in-Drain : goal.returns-in-Drain
 unfolding wanted_by fixed_asks
-returns-in-Drain c =
+returns-in-Drain c links who =
     let h1 = c.in-Drain.is in
     simp (h1)
 
 pub returns-in-Push : goal.returns-in-Push
 unfolding wanted_by fixed_asks
-returns-in-Push c =
+returns-in-Push c links who =
     let h1 = c.in-Push.is in
     simp (h1)
 
 pub returns-in-Dispatch : goal.returns-in-Dispatch
 unfolding wanted_by fixed_asks
-returns-in-Dispatch c =
+returns-in-Dispatch c links who =
     let h1 = c.in-Dispatch.is in
     simp (h1)

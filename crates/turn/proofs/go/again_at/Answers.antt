@@ -4,70 +4,70 @@ use Rattle.turn.proofs.go.again_at.Goals as goal
 
 pub returns-in-Seed : goal.returns-in-Seed
 unfolding again_at
-returns-in-Seed c =
+returns-in-Seed c pool bytes records store actors =
     let e1 = c.point_kind-point.ensures in
     let h1 = simp (e1) at c.in-Seed.is in
     simp (h1)
 
 pub returns-in-Intake : goal.returns-in-Intake
 unfolding again_at
-returns-in-Intake c =
+returns-in-Intake c pool bytes records store actors =
     let e1 = c.point_kind-point.ensures in
     let h1 = simp (e1) at c.in-Intake.is in
     simp (h1)
 
 pub returns-in-Route : goal.returns-in-Route
 unfolding again_at
-returns-in-Route c =
+returns-in-Route c pool bytes records store actors =
     let e1 = c.point_kind-point.ensures in
     let h1 = simp (e1) at c.in-Route.is in
     simp (h1)
 
 pub returns-in-Wake : goal.returns-in-Wake
 unfolding again_at
-returns-in-Wake c =
+returns-in-Wake c pool bytes records store actors =
     let e1 = c.point_kind-point.ensures in
     let h1 = simp (e1) at c.in-Wake.is in
     simp (h1)
 
 pub returns-in-WakeNext : goal.returns-in-WakeNext
 unfolding again_at
-returns-in-WakeNext c =
+returns-in-WakeNext c pool bytes records store actors =
     let e1 = c.point_kind-point.ensures in
     let h1 = simp (e1) at c.in-WakeNext.is in
     simp (h1)
 
 pub returns-in-Ready : goal.returns-in-Ready
 unfolding again_at
-returns-in-Ready c =
+returns-in-Ready c pool bytes records store actors =
     let e1 = c.point_kind-point.ensures in
     let h1 = simp (e1) at c.in-Ready.is in
     simp (h1)
 
 pub returns-in-FixedEnd : goal.returns-in-FixedEnd
 unfolding again_at
-returns-in-FixedEnd c =
+returns-in-FixedEnd c pool bytes records store actors =
     let e1 = c.point_kind-point.ensures in
     let h1 = simp (e1) at c.in-FixedEnd.is in
     simp (h1)
 
 pub returns-in-EvalEnd : goal.returns-in-EvalEnd
 unfolding again_at
-returns-in-EvalEnd c =
+returns-in-EvalEnd c pool bytes records store actors =
     let e1 = c.point_kind-point.ensures in
     let h1 = simp (e1) at c.in-EvalEnd.is in
     simp (h1)
 
 pub returns-in-Settle : goal.returns-in-Settle
 unfolding again_at
-returns-in-Settle c =
+returns-in-Settle c pool bytes records store actors =
     let e1 = c.point_kind-point.ensures in
     let h1 = simp (e1) at c.in-Settle.is in
     simp (h1)
 
 pub returns-in-Crash : goal.returns-in-Crash
 unfolding again_at
-returns-in-Crash c =
+returns-in-Crash c pool bytes records store actors =
     let e1 = c.point_kind-point.ensures in
     let h1 = simp (e1) at c.in-Crash.is in
     let e2 = c.cursor_of-c.ensures in
@@ -76,14 +76,14 @@ returns-in-Crash c =
 
 pub returns-in-AskTrap : goal.returns-in-AskTrap
 unfolding again_at
-returns-in-AskTrap c =
+returns-in-AskTrap c pool bytes records store actors =
     let e1 = c.point_kind-point.ensures in
     let h1 = simp (e1) at c.in-AskTrap.is in
     simp (h1)
 
 pub returns-in-CrashTrapped : goal.returns-in-CrashTrapped
 unfolding again_at
-returns-in-CrashTrapped c =
+returns-in-CrashTrapped c pool bytes records store actors =
     let e1 = c.point_kind-point.ensures in
     let h1 = simp (e1) at c.in-CrashTrapped.is in
     let e2 = c.cursor_of-c-in-CrashTrapped.ensures in

@@ -5,13 +5,13 @@ use Rattle.turn.proofs.go.again_trapped.Goals as goal
 
 pub returns-then-left-eq0 : goal.returns-then-left-eq0
 unfolding again_at
-returns-then-left-eq0 c =
+returns-then-left-eq0 c pool bytes records store actors =
     let h1 = eq-eqb _ _ c.if-left-eq0.true in
     simp (h1)
 
 pub returns-in-At : goal.returns-in-At
 unfolding again_at
-returns-in-At c =
+returns-in-At c pool bytes records store actors =
     let h1 = ne_eqb _ _ c.if-left-eq0.false in
     let e1 = c.front_at.ensures in
     let h2 = simp (e1) at c.in-At.is in
@@ -22,7 +22,7 @@ returns-in-At c =
 
 pub returns-in-Nothing : goal.returns-in-Nothing
 unfolding again_at
-returns-in-Nothing c =
+returns-in-Nothing c pool bytes records store actors =
     let h1 = ne_eqb _ _ c.if-left-eq0.false in
     let e1 = c.front_at.ensures in
     let h2 = simp (e1) at c.in-Nothing.is in

@@ -5,7 +5,7 @@ use Rattle.turn.proofs.go.go.Goals as goal
 
 pub returns-in-Seed : goal.returns-in-Seed
 unfolding pool_of go_of
-returns-in-Seed c =
+returns-in-Seed c bytes records =
     let e1 = c.groups-count.ensures in
     let e2 = c.point_kind-point.ensures in
     let e3 = c.cursor_of-c.ensures in
@@ -16,7 +16,7 @@ returns-in-Seed c =
 
 pub returns-in-Intake : goal.returns-in-Intake
 unfolding pool_of go_of
-returns-in-Intake c =
+returns-in-Intake c bytes records =
     let e1 = c.queued-queued.ensures in
     let e2 = c.point_kind-point.ensures in
     let h1 = simp (e2) at c.in-Intake.is in
@@ -27,7 +27,7 @@ returns-in-Intake c =
 
 pub returns-in-Route : goal.returns-in-Route
 unfolding pool_of go_of
-returns-in-Route c =
+returns-in-Route c bytes records =
     let e1 = c.groups-count.ensures in
     let e2 = c.queued-queued.ensures in
     let e3 = c.point_kind-point.ensures in
@@ -38,7 +38,7 @@ returns-in-Route c =
 
 pub returns-in-Wake : goal.returns-in-Wake
 unfolding pool_of go_of
-returns-in-Wake c =
+returns-in-Wake c bytes records =
     let e1 = c.groups-count.ensures in
     let e2 = c.point_kind-point.ensures in
     let e3 = c.cursor_of-c.ensures in
@@ -49,7 +49,7 @@ returns-in-Wake c =
 
 pub returns-in-WakeNext : goal.returns-in-WakeNext
 unfolding pool_of go_of
-returns-in-WakeNext c =
+returns-in-WakeNext c bytes records =
     let e1 = c.point_kind-point.ensures in
     let e2 = c.cursor_of-c.ensures in
     let h1 = simp (e1) at c.in-WakeNext.is in
@@ -59,7 +59,7 @@ returns-in-WakeNext c =
 
 pub returns-in-Ready : goal.returns-in-Ready
 unfolding pool_of go_of
-returns-in-Ready c =
+returns-in-Ready c bytes records =
     let e1 = c.queued-queued.ensures in
     let e2 = c.point_kind-point.ensures in
     let e3 = c.cursor_of-c.ensures in
@@ -71,18 +71,18 @@ returns-in-Ready c =
 
 pub returns-in-FixedEnd : goal.returns-in-FixedEnd
 unfolding pool_of go_of
-returns-in-FixedEnd c =
+returns-in-FixedEnd c bytes records =
     let e1 = c.point_kind-point.ensures in
     let e2 = c.cursor_of-c.ensures in
     let h1 = simp (e1) at c.in-FixedEnd.is in
-    let e3 = c.end_of.ensures in
+    let e3 = c.end_of-step.ensures in
     let e4 = c.fixed_end-next.ensures in
     let e5 = c.stand_at-in-FixedEnd.ensures in
     simp (e2, e3, e4, e5, h1)
 
 pub returns-in-EvalEnd : goal.returns-in-EvalEnd
 unfolding pool_of go_of
-returns-in-EvalEnd c =
+returns-in-EvalEnd c bytes records =
     let e1 = c.point_kind-point.ensures in
     let e2 = c.cursor_of-c.ensures in
     let h1 = simp (e1) at c.in-EvalEnd.is in
@@ -93,7 +93,7 @@ returns-in-EvalEnd c =
 
 pub returns-in-Settle : goal.returns-in-Settle
 unfolding pool_of go_of
-returns-in-Settle c =
+returns-in-Settle c bytes records =
     let e1 = c.queued-queued.ensures in
     let e2 = c.point_kind-point.ensures in
     let e3 = c.cursor_of-c.ensures in
@@ -105,7 +105,7 @@ returns-in-Settle c =
 
 pub returns-in-Crash : goal.returns-in-Crash
 unfolding pool_of go_of
-returns-in-Crash c =
+returns-in-Crash c bytes records =
     let e1 = c.queued-queued.ensures in
     let e2 = c.point_kind-point.ensures in
     let e3 = c.cursor_of-c.ensures in
@@ -118,7 +118,7 @@ returns-in-Crash c =
 
 pub returns-in-AskTrap : goal.returns-in-AskTrap
 unfolding pool_of go_of
-returns-in-AskTrap c =
+returns-in-AskTrap c bytes records =
     let e1 = c.point_kind-point.ensures in
     let e2 = c.cursor_of-c.ensures in
     let h1 = simp (e1) at c.in-AskTrap.is in
@@ -128,7 +128,7 @@ returns-in-AskTrap c =
 
 pub returns-in-CrashTrapped : goal.returns-in-CrashTrapped
 unfolding pool_of go_of
-returns-in-CrashTrapped c =
+returns-in-CrashTrapped c bytes records =
     let e1 = c.queued-queued.ensures in
     let e2 = c.point_kind-point.ensures in
     let e3 = c.cursor_of-c.ensures in

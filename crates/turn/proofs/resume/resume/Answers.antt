@@ -5,7 +5,7 @@ use Rattle.turn.proofs.resume.resume.Goals as goal
 
 pub returns-in-SeedBoot : goal.returns-in-SeedBoot
 unfolding pool_of resume_of
-returns-in-SeedBoot c =
+returns-in-SeedBoot c bytes records store =
     let e1 = c.ask_kind-ask.ensures in
     let e2 = c.cursor_of-c.ensures in
     let h1 = simp (e1) at c.in-SeedBoot.is in
@@ -15,7 +15,7 @@ returns-in-SeedBoot c =
 
 pub returns-in-RouteBoot : goal.returns-in-RouteBoot
 unfolding pool_of resume_of
-returns-in-RouteBoot c =
+returns-in-RouteBoot c bytes records store =
     let e1 = c.queued-queued.ensures in
     let e2 = c.ask_kind-ask.ensures in
     let e3 = c.cursor_of-c.ensures in
@@ -26,7 +26,7 @@ returns-in-RouteBoot c =
 
 pub returns-in-TickClock : goal.returns-in-TickClock
 unfolding pool_of resume_of
-returns-in-TickClock c =
+returns-in-TickClock c bytes records store =
     let e1 = c.ask_kind-ask.ensures in
     let h1 = simp (e1) at c.in-TickClock.is in
     let e2 = c.clock_reply-next.ensures in
@@ -35,7 +35,7 @@ returns-in-TickClock c =
 
 pub returns-in-WakePoll : goal.returns-in-WakePoll
 unfolding pool_of resume_of
-returns-in-WakePoll c =
+returns-in-WakePoll c bytes records store =
     let e1 = c.ask_kind-ask.ensures in
     let e2 = c.cursor_of-c.ensures in
     let h1 = simp (e1) at c.in-WakePoll.is in
@@ -45,7 +45,7 @@ returns-in-WakePoll c =
 
 pub returns-in-Fixed : goal.returns-in-Fixed
 unfolding pool_of resume_of
-returns-in-Fixed c =
+returns-in-Fixed c bytes records store =
     let e1 = c.queued-queued.ensures in
     let e2 = c.ask_kind-ask.ensures in
     let e3 = c.cursor_of-c.ensures in
@@ -59,7 +59,7 @@ returns-in-Fixed c =
 
 pub returns-in-Eval : goal.returns-in-Eval
 unfolding pool_of resume_of
-returns-in-Eval c =
+returns-in-Eval c bytes records store =
     let e1 = c.ask_kind-ask.ensures in
     let e2 = c.cursor_of-c.ensures in
     let h1 = simp (e1) at c.in-Eval.is in
@@ -75,18 +75,18 @@ returns-in-Eval c =
 
 pub returns-in-Sends : goal.returns-in-Sends
 unfolding pool_of resume_of
-returns-in-Sends c =
+returns-in-Sends c bytes records store =
     let e1 = c.ask_kind-ask.ensures in
     let e2 = c.cursor_of-c.ensures in
     let h1 = simp (e1) at c.in-Sends.is in
-    let e3 = c.end_of.ensures in
+    let e3 = c.end_of-step.ensures in
     let e4 = c.sends_reply-next.ensures in
     let e5 = c.stand_at-in-Sends.ensures in
     simp (e2, e3, e4, e5, h1)
 
 pub returns-in-Trap : goal.returns-in-Trap
 unfolding pool_of resume_of
-returns-in-Trap c =
+returns-in-Trap c bytes records store =
     let e1 = c.ask_kind-ask.ensures in
     let e2 = c.cursor_of-c.ensures in
     let h1 = simp (e1) at c.in-Trap.is in
@@ -96,7 +96,7 @@ returns-in-Trap c =
 
 pub returns-in-Trapped : goal.returns-in-Trapped
 unfolding pool_of resume_of
-returns-in-Trapped c =
+returns-in-Trapped c bytes records store =
     let e1 = c.ask_kind-ask.ensures in
     let e2 = c.cursor_of-c.ensures in
     let h1 = simp (e1) at c.in-Trapped.is in

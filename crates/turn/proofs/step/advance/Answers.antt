@@ -14,14 +14,14 @@ loop-pool-smaller c =
 pub loop-pool-preserved : goal.loop-pool-preserved
 loop-pool-preserved c =
     let l = c.loop-pool.invariant in
-    let kept = c.step.auto.1.1.1 in
+    let kept = c.step.auto in
     let run = sym c.running.ensures ∙ c.loop-pool-test.true in (
-      kept.0 ∙ l.0,
-      kept.1.0 ∙ l.1,
-      kept.1.1.0 ∙ l.2,
-      kept.1.1.1.0 ∙ l.3,
-      kept.1.1.1.1.0 ∙ l.4,
-      kept.1.1.1.1.1.0 ∙ l.5,
+      kept.log ∙ l.0,
+      kept.records ∙ l.1,
+      kept.links ∙ l.2,
+      kept.rows ∙ l.3,
+      kept.keys ∙ l.4,
+      kept.actors ∙ l.5,
       stepped _ _ c.step.ensures run ∙ l.6,
     )
 

@@ -4,7 +4,7 @@ use Rattle.turn.proofs.step.mark_at.Goals as goal
 
 pub returns-then-marks : goal.returns-then-marks
 unfolding pool_of
-returns-then-marks c =
+returns-then-marks c store groups keys actors =
     let e1 = c.marks_at-marks.ensures in
     let h1 = simp (e1) at c.if-marks.true in
     let e2 = c.mark_first.ensures in
@@ -12,7 +12,7 @@ returns-then-marks c =
 
 pub returns-else-marks : goal.returns-else-marks
 unfolding pool_of
-returns-else-marks c =
+returns-else-marks c store groups keys actors =
     let e1 = c.marks_at-marks.ensures in
     let h1 = simp (e1) at c.if-marks.false in
     simp (h1)

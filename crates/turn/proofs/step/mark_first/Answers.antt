@@ -5,7 +5,7 @@ use Rattle.turn.proofs.step.mark_first.Goals as goal
 
 pub returns-in-As : goal.returns-in-As
 unfolding mark_first
-returns-in-As c =
+returns-in-As c store groups keys actors =
     let e1 = c.first.ensures in
     let h1 = simp (e1) at c.in-Entry.is in
     let e2 = c.id_at-id.ensures in
@@ -16,7 +16,7 @@ returns-in-As c =
 
 pub returns-in-Never : goal.returns-in-Never
 unfolding mark_first mark_logged
-returns-in-Never c =
+returns-in-Never c store groups keys actors =
     let e1 = c.first.ensures in
     let h1 = simp (e1) at c.in-Entry.is in
     let e2 = c.id_at-id.ensures in
@@ -26,7 +26,7 @@ returns-in-Never c =
 
 pub returns-in-Nothing : goal.returns-in-Nothing
 unfolding mark_first
-returns-in-Nothing c =
+returns-in-Nothing c store groups keys actors =
     let e1 = c.first.ensures in
     let h1 = simp (e1) at c.in-Nothing.is in
     simp (h1)

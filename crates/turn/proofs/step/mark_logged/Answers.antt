@@ -5,7 +5,7 @@ use Rattle.turn.proofs.step.mark_logged.Goals as goal
 
 pub returns : goal.returns
 unfolding mark_logged order_for_of
-returns c =
+returns c store groups links rows keys actors =
     let e1 = c.counters-before.ensures in
     let e2 = c.compact_at-limit.ensures in
     let e3 = simp (e1, e2) at c.mark-s.ensures in

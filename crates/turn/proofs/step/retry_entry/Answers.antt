@@ -4,7 +4,7 @@ use Rattle.turn.proofs.step.retry_entry.Goals as goal
 
 pub returns-in-As : goal.returns-in-As
 unfolding retry_entry
-returns-in-As c =
+returns-in-As c store groups links keys actors =
     let earlier = c in
     let again = c.in-Entry in
     let id-at = c.id_at-id in
@@ -20,7 +20,7 @@ returns-in-As c =
 
 pub returns-in-Never : goal.returns-in-Never
 unfolding retry_entry retry_logged
-returns-in-Never c =
+returns-in-Never c store groups links keys actors =
     let h1 = c.in-Entry.is in
     let e1 = c.id_at-id.ensures in
     let h2 = simp (e1) at c.in-Never.is in
@@ -28,6 +28,6 @@ returns-in-Never c =
 
 pub returns-in-Nothing : goal.returns-in-Nothing
 unfolding retry_entry
-returns-in-Nothing c =
+returns-in-Nothing c store groups links keys actors =
     let h1 = c.in-Nothing.is in
     simp (h1)

@@ -12,12 +12,12 @@ returns-in-Asks c = step_asks _ _ (c.where_in-w.ensures ∙ at_asks _ (simp c.at
 
 pub returns-then-free : goal.returns-then-free
 returns-then-free c =
-    c.where_in-w.ensures ∙ at_runs _ (simp c.at_kind-kind.ensures at c.in-Runs.is) in
+    let stands = c.where_in-w.ensures ∙ at_runs _ (simp c.at_kind-kind.ensures at c.in-Runs.is) in
     let free = simp c.disk_free-free.ensures at c.if-free.true in
     step_goes _ _ stands _ (c.mark_at.ensures _ _ _ _) _ free c.run_point.ensures
 
 pub returns-else-free : goal.returns-else-free
 returns-else-free c =
-    c.where_in-w.ensures ∙ at_runs _ (simp c.at_kind-kind.ensures at c.in-Runs.is) in
+    let stands = c.where_in-w.ensures ∙ at_runs _ (simp c.at_kind-kind.ensures at c.in-Runs.is) in
     let waits = simp c.disk_free-free.ensures at c.if-free.false in
     step_stops _ _ stands _ (c.mark_at.ensures _ _ _ _) waits
