@@ -3,6 +3,7 @@
 // is required of them: on any tables and any numbers each call ends and equals its definition (specs/). What the
 // theorem of the whole rail says, it says of pools that an opening made.
 #![tactic(auto)]
+
 pub mod open; // an opening
 pub mod admit; // a message from outside
 pub mod run; // a turn runs on, and how it ended
