@@ -256,6 +256,7 @@ one_reads = refl
 one_of_two : (ms a b : List Message) → (ms ≡ a → ⊥) → (ms ≡ b → ⊥) → Memᴰ ms (a ∷ b ∷ []) → ⊥
 one_of_two ms a b not_a not-b (Memᴰ.head e) = not_a e
 one_of_two ms a b not_a not-b (Memᴰ.tail (Memᴰ.head e)) = not-b e
+one_of_two ms a b not_a not-b (Memᴰ.tail (Memᴰ.tail none_left)) = elim none_left [ ]
 
 -- lists whose lengths, or whose first ids, differ
 abbrev first_id : List Message → ℕ
