@@ -1,7 +1,9 @@
 // Reads a log on standard input and prints the log that opening writes, or `refused=N`.
 #![tactic(auto)]
-use libc::STDIN_FILENO;
 
-fn main() {
-    reopening::reopen_fd(STDIN_FILENO);
+use std::io;
+
+fn main(rt: HostRuntime) -> io::Result<()> {
+    reopening::reopen_from(&mut rt.stdin(), &mut rt.stdout())?;
+    Ok(())
 }

@@ -1,30 +1,80 @@
-// Reads each log that an argument names, and prints the name and then the log that opening writes, or `refused=N`.
+// Reads each log that an argument names, and prints the name and then the log that opening writes, or `refused=N`. A
+// file that cannot be opened or read is named on standard error, with the reason, and the next one is taken.
 #![tactic(auto)]
-use libc::STDOUT_FILENO;
 
-fn reopen_file(path: &[u8]) {
-    io::write_all(STDOUT_FILENO, path);
-    io::write_all(STDOUT_FILENO, b"\n");
-    let fd = os::open_read(path);
-    if fd < 0 {
-        os::fail(path);
-        return;
+use std::alloc::Global;
+use std::env::FillError;
+use std::io::{ErrorKind, Write};
+use std::rt::{Env, Files};
+use std::{fs, io, str};
+
+// A path is text to std, so bytes that are none name no file here.
+fn open<R: Files>(rt: &R, path: &[u8]) -> io::Result<R::File> {
+    match str::from_utf8(path) {
+        Ok(path) => fs::open(rt, path),
+        Err(_) => Err(io::Error::from(ErrorKind::InvalidFilename)),
     }
-    reopening::reopen_fd(fd);
-    libc::close(fd);
 }
 
-fn reopen_argument(i: usize) {
-    let mut path = io::buffer();
-    let n = os::arg(i, &mut path);
-    reopen_file(&path[..n]);
+fn reopen_named<R: Files, O: Write>(rt: &R, path: &[u8], out: &mut O) -> io::Result<()> {
+    let mut file = open(rt, path)?;
+    reopening::reopen_from(&mut file, out)?;
+    Ok(())
 }
 
-fn main() {
-    let count = os::arg_count();
-    let mut i: usize = 1;
-    while i < count {
-        reopen_argument(i);
-        i += 1;
+// The system's words for an error, without the number that std puts behind them.
+fn words(said: &str) -> &str {
+    match said.split_once(" (os error ") {
+        Some((words, _)) => words,
+        None => said,
     }
+}
+
+// Writes which file was not read, and why.
+fn report<E: Write>(alloc: Global, path: &[u8], why: io::Error, err: &mut E) -> io::Result<()> {
+    let said = why.to_string(alloc)?;
+    err.write_all(path)?;
+    err.write_all(b": ")?;
+    err.write_all(words(said.as_str()).as_bytes())?;
+    err.write_all(b"\n")
+}
+
+fn reopen_file<R: Files + AllocGlobal, O: Write, E: Write>(
+    rt: &R,
+    path: &[u8],
+    out: &mut O,
+    err: &mut E,
+) -> io::Result<()> {
+    out.write_all(path)?;
+    out.write_all(b"\n")?;
+    match reopen_named(rt, path, out) {
+        Ok(()) => Ok(()),
+        Err(why) => report(rt.alloc(), path, why, err),
+    }
+}
+
+// Whether there is an argument of this number. One that is longer than any path is taken as an empty one.
+fn reopen_argument<R: Env + Files + AllocGlobal, O: Write, E: Write>(
+    rt: &R,
+    i: usize,
+    out: &mut O,
+    err: &mut E,
+) -> io::Result<bool> {
+    let mut path = [0u8; 4096];
+    let n = match rt.arg(i, &mut path) {
+        Ok(n) => n,
+        Err(FillError::TooLong) => 0,
+        Err(FillError::NotPresent) => return Ok(false),
+    };
+    reopen_file(rt, &path[..n], out, err)?;
+    Ok(true)
+}
+
+fn main(rt: HostRuntime) -> io::Result<()> {
+    for i in 1..usize::MAX {
+        if !reopen_argument(&rt, i, &mut rt.stdout(), &mut rt.stderr())? {
+            break;
+        }
+    }
+    Ok(())
 }

@@ -1,5 +1,6 @@
 -- What the log reader makes of a log.
-use Rattle.std.specs.Prelude.{◌≡◌, List, [], ◌∷◌, ℕ, length, replicate}
+use Rattle.std.specs.Prelude.{◌≡◌, List, [], ◌∷◌, ◌++◌, ℕ, min, length, take, replicate, codes, decimal, Option}
+use Rattle.std.specs.Io.KnownBytes.{Appends}
 use Rattle.message_log.specs.Log.{log_number_of}
 use Rattle.message_log.specs.Opened.{Opened, open_log}
 use Rattle.message_log.specs.declared.Order.TheVariants.{Append, Replace, Flush}
@@ -36,3 +37,21 @@ pub record OfSomeFile (r : Reopened) : Type 0 where
   pub n : ℕ
   pub long : length log ≡ 65536
   pub is : r ≡ (reopen_of log n).answer
+
+-- what is printed of an outcome: the new log, which is the first bytes of the lent one; or `refused=N` and an LF
+abbrev pub printed_of : List ℕ → Reopened → List ℕ
+printed_of log (Log n) = take n log
+printed_of log (Refused r) = codes "refused=" ++ decimal r ++ (10 ∷ [])
+
+-- what opening a file of these bytes answers and prints, with whatever behind them in the lent log; of a longer file
+-- than the log, as many are read as show that it is longer
+pub record ReopensFile (file : List ℕ) (r : Reopened) (printed : List ℕ) : Type 0 where
+  pub log : List ℕ
+  pub long : length log ≡ 65536
+  pub begins : take (length file) log ≡ take 65536 file
+  pub is : r ≡ (reopen_of log (min (length file) 65537)).answer
+  pub prints : printed ≡ printed_of (reopen_of log (min (length file) 65537)).log r
+
+-- the same, with what was printed added to what a writer held before, as far as that is known
+abbrev pub PrintsFile : List ℕ → Reopened → Option (List ℕ) → Option (List ℕ) → Type 0
+PrintsFile file r old new = (printed : List ℕ) × ReopensFile file r printed × Appends old new printed

@@ -1,12 +1,16 @@
 // The log reader: opens a log of 65,536 bytes, with a store and tables of its own, and gives the new log or the number
 // of the refusal.
-// `reopen` is that on a slice (specs/Reopened); `reopen_fd` reads the file from a descriptor and prints the outcome.
+// `reopen` is that on a slice (specs/Reopened); `reopen_from` reads the file from a reader and prints the outcome.
 #![tactic(auto)]
-ghost use Rattle.std.specs.Prelude.{◌≡◌, length};
-ghost use Rattle.reopening.specs.Reopened.{reopen_of, reopened_by, OfSomeFile};
 
-use libc::STDOUT_FILENO;
+ghost use Rattle.std.specs.Prelude.{◌≡◌, ◌<◌, length, take, IfOk, IfSome, OnOk};
+ghost use Rattle.std.specs.Io.{ReadsAtMost};
+ghost use Rattle.std.specs.Io.KnownBytes.{Appends, Consumes, IsAtEnd};
+ghost use Rattle.reopening.specs.Reopened.{reopen_of, reopened_by, printed_of, OfSomeFile, PrintsFile};
+
 use message_log::{Answer, Order, RECORDS, STORE};
+use std::io;
+use std::io::{ErrorKind, Read, Write};
 
 #[derive(Drop)]
 pub enum Reopened {
@@ -42,37 +46,64 @@ pub fn reopen(log: &mut [u8], n: usize) -> Reopened
 }
 
 // Prints the new log, or `refused=N`.
-fn print(log: &[u8], r: Reopened) {
+fn print<W: Write>(out: &mut W, log: &[u8], r: &Reopened) -> io::Result<()>
+    ensures { OnOk result (Appends (W.contents out.old) (W.contents out.new) (printed_of log.now r.now)) }
+{
     match r {
         Reopened::Log(size) => {
-            if size <= log.len() {
-                io::write_all(STDOUT_FILENO, &log[..size]);
-            }
+            let size = (*size).min(log.len());
+            out.write_all(&log[..size])
         }
-        Reopened::Refused(number) => {
-            io::write_all(STDOUT_FILENO, b"refused=");
-            io::print_decimal(STDOUT_FILENO, number);
-            io::write_all(STDOUT_FILENO, b"\n");
-        }
+        Reopened::Refused(number) => writeln!(out, "refused={number}"),
     }
 }
 
-// Reads a file into a space of one byte more than the log has, so that a longer file is seen, and prints the outcome.
-fn reopen_in(space: &mut [u8], fd: i32) -> Reopened
-    requires { length space.old ≡ 65537 }
-    ensures { OfSomeFile result }
+// Reads until the space is full or the input ends, and gives how many bytes it put at the front of the space. A read
+// that a signal interrupts is made again.
+fn read_full<R: Read>(reader: &mut R, space: &mut [u8]) -> io::Result<usize>
+    ensures bound { ReadsAtMost result space.new }
+    ensures bytes { IfOk result (λ n. Consumes (R.remaining reader.old) (R.remaining reader.new) (take n space.new)) }
+    ensures end { IfOk result (λ n. n < length space.new → IsAtEnd (R.remaining reader.new)) }
 {
-    let n = io::read_full(fd, space);
-    let r = reopen(&mut space[..65536], n);
-    print(space, r);
-    r
+    let mut n = 0;
+    for _ in 0..u64::MAX {
+        if n == space.len() {
+            return Ok(n);
+        }
+        match reader.read(&mut space[n..]) {
+            Ok(0) => return Ok(n),
+            Ok(more) => n += more,
+            Err(e) => {
+                if e.kind() != ErrorKind::Interrupted {
+                    return Err(e);
+                }
+            }
+        }
+    }
+    Err(io::Error::from(ErrorKind::Interrupted))
+}
+
+// Reads a file into a space of one byte more than the log has, so that a longer file is seen, and prints the outcome.
+fn reopen_in<R: Read, W: Write>(space: &mut [u8], file: &mut R, out: &mut W) -> io::Result<Reopened>
+    requires { length space.old ≡ 65537 }
+    ensures some_file { IfOk result OfSomeFile }
+    ensures known_file { IfOk result (λ r. IfSome (R.remaining file.old) (λ bytes. PrintsFile bytes r (W.contents out.old) (W.contents out.new))) }
+{
+    let n = read_full(file, space)?;
+    let log = &mut space[..65536];
+    let r = reopen(log, n);
+    print(out, log, &r)?;
+    Ok(r)
 }
 
 // Reads a file of at most 65,536 bytes, prints the new log, or `refused=N`, and says which; a longer one is refused,
-// since the log cannot hold it. C's `read` promises no bytes, so all that can be said is that some were reopened.
-pub fn reopen_fd(fd: i32) -> Reopened
-    ensures { OfSomeFile result }
+// since the log cannot hold it. A read or a write that fails is the error that comes back. The system promises no bytes
+// of a file, so of its readers all that can be said is that some were reopened; of a reader whose bytes are known, as
+// one over memory, it is those.
+pub fn reopen_from<R: Read, W: Write>(file: &mut R, out: &mut W) -> io::Result<Reopened>
+    ensures some_file { IfOk result OfSomeFile }
+    ensures known_file { IfOk result (λ r. IfSome (R.remaining file.old) (λ bytes. PrintsFile bytes r (W.contents out.old) (W.contents out.new))) }
 {
     let mut space = [0u8; 65537];
-    reopen_in(&mut space, fd)
+    reopen_in(&mut space, file, out)
 }

@@ -2,12 +2,17 @@
 // output that the Rust's answers make, on standard input (its form is said in the list). Prints each titled script
 // with whether the port's output is the same byte for byte, in just the room that it needs, and how many are.
 #![tactic(auto)]
+
 ghost use Rattle.std.specs.Prelude.{◌≤◌, length};
 
-use libc::{STDIN_FILENO, STDOUT_FILENO};
 use message_log::STORE;
 use replay::replay;
+use std::io;
+use std::io::{Read, Write};
 use wire::number::number_at;
+
+// The most bytes of a list; what stands behind them is not read.
+const LIST: u64 = 262144;
 
 #[derive(Drop)]
 struct Tally {
@@ -148,17 +153,24 @@ fn replayed(
 }
 
 // A title, if there is one, with whether its script was replayed.
-fn print_title(text: &[u8], from: usize, end: usize, passed: bool) {
+fn print_title<W: Write>(
+    text: &[u8],
+    from: usize,
+    end: usize,
+    passed: bool,
+    console: &mut W,
+) -> io::Result<()> {
     if end <= text.len() {
         if from < end {
-            io::write_all(STDOUT_FILENO, &text[from..end]);
+            console.write_all(&text[from..end])?;
             if passed {
-                io::write_all(STDOUT_FILENO, b": the same\n");
+                console.write_all(b": the same\n")?;
             } else {
-                io::write_all(STDOUT_FILENO, b": DIFFERENT\n");
+                console.write_all(b": DIFFERENT\n")?;
             }
         }
     }
+    Ok(())
 }
 
 fn one_if(b: bool) -> u64
@@ -168,14 +180,15 @@ fn one_if(b: bool) -> u64
 }
 
 // The whole list, by its whole lines; a script, the output expected and the port's are held in what is lent.
-fn replay_list(
+fn replay_list<W: Write>(
     text: &[u8],
     script: &mut [u8],
     expected: &mut [u8],
     log: &mut [u8],
     store: &mut [u8],
     out: &mut [u8],
-) -> Tally {
+    console: &mut W,
+) -> io::Result<Tally> {
     let mut n: usize = 0;
     let mut p: usize = 0;
     let mut title: usize = 0;
@@ -186,7 +199,7 @@ fn replay_list(
         let from = p;
         let end = line_end(text, from);
         if text.len() <= end {
-            return Tally { passed, cases };
+            return Ok(Tally { passed, cases });
         }
         let sign = text[from];
         p = end + 1;
@@ -196,7 +209,7 @@ fn replay_list(
             if sign == b'>' {
                 let m = decode(&text[from..end], expected);
                 let good = replayed(&script[..n], &expected[..m], log, store, out);
-                print_title(text, title, title_end, good);
+                print_title(text, title, title_end, good, console)?;
                 title_end = 0;
                 cases += 1;
                 passed += one_if(good);
@@ -208,27 +221,28 @@ fn replay_list(
             }
         }
     }
-    Tally { passed, cases }
+    Ok(Tally { passed, cases })
 }
 
-fn main() {
-    let mut text = [0u8; 262144];
+fn main(rt: HostRuntime) -> io::Result<()> {
+    let mut text = Vec::new(rt.alloc());
+    rt.stdin().take(LIST).read_to_end(&mut text)?;
     let mut script = [0u8; 16384];
     let mut expected = [0u8; 32768];
     let mut log = [0u8; 65536];
     let mut store = [0u8; STORE];
     let mut out = [0u8; 32768];
-    let n = io::read_full(STDIN_FILENO, &mut text);
     let tally = replay_list(
-        &text[..n],
+        &text,
         &mut script,
         &mut expected,
         &mut log,
         &mut store,
         &mut out,
-    );
-    io::print_decimal(STDOUT_FILENO, tally.passed);
-    io::write_all(STDOUT_FILENO, b" of ");
-    io::print_decimal(STDOUT_FILENO, tally.cases);
-    io::write_all(STDOUT_FILENO, b" recorded answers replayed\n");
+        &mut rt.stdout(),
+    )?;
+    println!(rt;
+        "{} of {} recorded answers replayed",
+        tally.passed, tally.cases
+    )
 }

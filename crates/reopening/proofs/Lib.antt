@@ -1,0 +1,2 @@
+-- The laws of the log reader.
+pub mod FileLaws
