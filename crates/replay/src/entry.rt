@@ -126,10 +126,10 @@ fn output_store(out: &mut [u8], d: Done, show: u64, store: &[u8]) -> Done
 }
 
 // The answer and the counters.
-fn output_head(out: &mut [u8], d: Done, s: AnswerNumbers, pool: &PoolCells) -> Done
+fn output_head(out: &mut [u8], d: Done, s: &AnswerNumbers, pool: &PoolCells) -> Done
     ensures { record { out = out.exit.now; at = result.at; code = result.code }
         ≡ output (record { out = out.entry.now; at = d.at; code = d.code })
-        (numbers (entry_numbers s (pool_of pool.now))) }
+        (numbers (entry_numbers s.now (pool_of pool.now))) }
 {
     let counters = state::counters(pool);
     let queued = state::queued(pool);
@@ -186,11 +186,10 @@ pub(crate) fn output_entry(
 {
     let answer = answer::answer_of(called, pool, links, rows);
     let s = numbers::numbers_of(answer);
-    let message = s.message;
     let counters = state::counters(pool);
     let size = counters.size;
-    let a = output_head(out, d, s, pool);
-    let b = output_message(out, a, message, rows, store);
+    let a = output_head(out, d, &s, pool);
+    let b = output_message(out, a, s.message, rows, store);
     let c = output_log(out, b, show, log, size);
     let e = output_tables(out, c, show, records, groups, links, rows, keys, actors);
     output_store(out, e, show, store)

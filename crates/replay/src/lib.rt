@@ -1,8 +1,8 @@
-// The pool behind one function of bytes, for a host in another language and for comparison: a script (settings, lent
-// lengths, file, then a whole list of calls and replies) is run, and each answer, order and log is written out
-// (docs/PROTOCOL.md). `replay` requires nothing and equals its definition, `replay_of` (specs/Replay): the calls
-// decoded from the script, run by the same `call_of` that the theorem of the whole rail is about
-// (crates/theorem/specs/Rail). It keeps nothing from one script to the next.
+// The pool behind one function of bytes: a script (settings, lent lengths, file, then a whole list of calls and replies)
+// is run, and each answer, order and log is written out (docs/PROTOCOL.md). `replay` requires nothing and equals its
+// definition, `replay_of` (specs/Replay): the calls decoded from the script, run by the same `call_of` that the theorem
+// of the whole rail is about (crates/theorem/specs/Rail). It keeps nothing from one script to the next. A host in
+// another language, and the comparison, call it by way of crates/replay_c.
 #![tactic(auto)]
 ghost use Rattle.std.specs.Prelude.{◌≡◌};
 ghost use Rattle.replay.specs.Replay.{replay_of};
@@ -18,8 +18,7 @@ pub mod play; // play.rt: a script from its header to its end
 // Runs a script on the lent log and store and writes its output, whose first 8 bytes count the others. 0: run to its
 // end; 1: the script is malformed; 2: the output has no room for what comes next; 3: the lent log or store has another
 // length than the script says. What was written before stands.
-#[unsafe(no_mangle)]
-pub extern "C" fn replay(script: &[u8], log: &mut [u8], store: &mut [u8], out: &mut [u8]) -> u64
+pub fn replay(script: &[u8], log: &mut [u8], store: &mut [u8], out: &mut [u8]) -> u64
     ensures { record { bytes = log.new; store = store.new; out = out.new; code = result }
         ≡ replay_of script.now log.old store.old out.old }
 {

@@ -169,11 +169,10 @@ fn run_calls(
 }
 
 // Whether an opening was accepted.
-fn is_accepted(called: Called) -> bool
-    ensures { (p : Pool) (links rows : Table) → result ≡ accepted (answer_of called p links rows) }
+fn is_accepted(called: &Called) -> bool
+    ensures { (p : Pool) (links rows : Table) → result ≡ accepted (answer_of called.now p links rows) }
 {
-    let kind = called.kind;
-    match kind {
+    match called.kind {
         AnswerKind::Refused => false,
         AnswerKind::Open => true,
         AnswerKind::Ended => true,
@@ -224,10 +223,10 @@ fn run_opened(
     let called = open::open(
         pool, settings, given, log, n, store, records, groups, links, rows, keys, actors,
     );
+    let goes_on = is_accepted(&called);
     let e = entry::output_entry(
         out, d, show, called, pool, log, records, store, groups, links, rows, keys, actors,
     );
-    let goes_on = is_accepted(called);
     if goes_on {
         return run_calls(
             script, start, show, pool, log, records, store, groups, links, rows, keys, actors, out,
