@@ -4,6 +4,7 @@
 // of the whole rail is about (crates/theorem/specs/Rail). It keeps nothing from one script to the next. A host in
 // another language, and the comparison, call it by way of crates/replay_c.
 #![tactic(auto)]
+
 ghost use Rattle.std.specs.Prelude.{◌≡◌};
 ghost use Rattle.replay.specs.Replay.{replay_of};
 

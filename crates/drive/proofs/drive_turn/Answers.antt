@@ -1,0 +1,9 @@
+-- `drive_turn` meets its contract: the turn, then what it says. Assumes nothing.
+use mathlib.Core.Path.{ap}
+use Rattle.drive.specs.Drive.{driven}
+use Rattle.drive.proofs.drive_turn.Goals as goal
+
+pub returns : goal.returns
+returns c =
+    let e1 = c.show.ensures in
+    simp (e1) (ap driven c.turn-called.ensures)
