@@ -3,6 +3,7 @@
 // them. A function reads its numbers, makes the call, and says what is open; it requires nothing, and equals the
 // definition of its call (specs/Drive). A reply has no texts here: no list that is measured sends a message.
 #![tactic(auto)]
+
 ghost use Rattle.std.specs.Prelude.{◌≡◌, []};
 ghost use Rattle.lists.specs.Links.{Table};
 ghost use Rattle.turn.specs.Words.{pool_of};
