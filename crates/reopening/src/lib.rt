@@ -87,7 +87,8 @@ fn read_full<R: Read>(reader: &mut R, space: &mut [u8]) -> io::Result<usize>
 fn reopen_in<R: Read, W: Write>(space: &mut [u8], file: &mut R, out: &mut W) -> io::Result<Reopened>
     requires { length space.old ≡ 65537 }
     ensures some_file { IfOk result OfSomeFile }
-    ensures known_file { IfOk result (λ r. IfSome (R.remaining file.old) (λ bytes. PrintsFile bytes r (W.contents out.old) (W.contents out.new))) }
+    ensures known_file { IfOk result (λ r. IfSome (R.remaining file.old)
+        (λ bytes. PrintsFile bytes r (W.contents out.old) (W.contents out.new))) }
 {
     let n = read_full(file, space)?;
     let log = &mut space[..65536];
@@ -99,10 +100,11 @@ fn reopen_in<R: Read, W: Write>(space: &mut [u8], file: &mut R, out: &mut W) -> 
 // Reads a file of at most 65,536 bytes, prints the new log, or `refused=N`, and says which; a longer one is refused,
 // since the log cannot hold it. A read or a write that fails is the error that comes back. The system promises no bytes
 // of a file, so of its readers all that can be said is that some were reopened; of a reader whose bytes are known, as
-// one over memory, it is those.
+// one over memory, those are, and what a writer over memory holds then is what it held and what is printed of them.
 pub fn reopen_from<R: Read, W: Write>(file: &mut R, out: &mut W) -> io::Result<Reopened>
     ensures some_file { IfOk result OfSomeFile }
-    ensures known_file { IfOk result (λ r. IfSome (R.remaining file.old) (λ bytes. PrintsFile bytes r (W.contents out.old) (W.contents out.new))) }
+    ensures known_file { IfOk result (λ r. IfSome (R.remaining file.old)
+        (λ bytes. PrintsFile bytes r (W.contents out.old) (W.contents out.new))) }
 {
     let mut space = [0u8; 65537];
     reopen_in(&mut space, file, out)

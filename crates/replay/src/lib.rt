@@ -1,8 +1,8 @@
-// The pool behind one function of bytes: a script (settings, lent lengths, file, then a whole list of calls and replies)
-// is run, and each answer, order and log is written out (docs/PROTOCOL.md). `replay` requires nothing and equals its
-// definition, `replay_of` (specs/Replay): the calls decoded from the script, run by the same `call_of` that the theorem
-// of the whole rail is about (crates/theorem/specs/Rail). It keeps nothing from one script to the next. A host in
-// another language, and the comparison, call it by way of crates/replay_c.
+// The pool behind one function of bytes: a script (settings, lent lengths, file, then a whole list of calls and
+// replies) is run, and each answer, order and log is written out (docs/PROTOCOL.md). `replay` requires nothing and
+// equals its definition, `replay_of` (specs/Replay): the calls decoded from the script, run by the same `call_of` that
+// the theorem of the whole rail is about (crates/theorem/specs/Rail). It keeps nothing from one script to the next. A
+// host in another language, and the comparison, call it by way of crates/replay_c.
 #![tactic(auto)]
 
 ghost use Rattle.std.specs.Prelude.{◌≡◌};

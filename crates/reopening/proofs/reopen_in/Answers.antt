@@ -18,5 +18,7 @@ returns-clause-some_file g c = record {
 pub returns-clause-known_file : goal.returns-clause-known_file
 returns-clause-known_file g c =
     let within = c.in_ok-n.ensures.bound.0 in
-    let known = known_file 65536 c.read_full.new.space c.in_ok-n.n _ _ (omega arith) within c.in_ok-n.ensures.bytes c.in_ok-n.ensures.end in
-    prints_file c.read_full.new.space _ _ _ _ _ _ (omega arith) c.reopen-r.ensures c.in_ok-print.ensures known
+    let read = c.in_ok-n.ensures in
+    let space = c.read_full.new.space in
+    let known = known_file 65536 space c.in_ok-n.n _ _ (omega arith) within read.bytes read.end in
+    prints_file space _ _ _ _ _ _ (omega arith) c.reopen-r.ensures c.in_ok-print.ensures known
