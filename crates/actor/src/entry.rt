@@ -48,11 +48,11 @@ fn keep_at(
     id: Logged,
     to: usize,
 )
-    ensures { record { store = store.exit.now; links = links.new; rows = rows.new }
+    ensures { record { store = store.new; links = links.new; rows = rows.new }
         ≡ keep_at
-        (record { store = store.entry.now; links = links.old; rows = rows.old })
+        (record { store = store.old; links = links.old; rows = rows.old })
         entry
-        (record { name = name.entry.now; body = body.now; caller = caller; id = id })
+        (record { name = name.now; body = body.now; caller = caller; id = id })
         to }
 {
     store_entry(store, entry, name, body);
@@ -79,10 +79,10 @@ pub fn keep(
     id: Logged,
     to: usize,
 )
-    ensures { record { store = store.exit.now; links = links.new; rows = rows.new }
+    ensures { record { store = store.new; links = links.new; rows = rows.new }
         ≡ keep_of
-        (record { store = store.entry.now; links = links.old; rows = rows.old })
-        (record { name = name.entry.now; body = body.now; caller = caller; id = id })
+        (record { store = store.old; links = links.old; rows = rows.old })
+        (record { name = name.now; body = body.now; caller = caller; id = id })
         to }
 {
     match lists::first(links, lists::FREE) {

@@ -167,7 +167,7 @@ pub fn admit_check(
     ensures { (bytes : List ℕ) (records : Table) (store : List ℕ) (rows keys actors : Table) →
         result ≡ judged (admit_refusals_first
         (record {
-          pool = pool_of pool.entry.now;
+          pool = pool_of pool.now;
           bytes = bytes;
           records = records;
           store = store;
@@ -266,7 +266,7 @@ pub fn reply_check(
     ensures { (bytes : List ℕ) (records : Table) (store : List ℕ) (groups keys actors : Table) →
         result ≡ judged (reply_refusals
         (record {
-          pool = pool_of pool.entry.now;
+          pool = pool_of pool.now;
           bytes = bytes;
           records = records;
           store = store;

@@ -169,7 +169,7 @@ pub extern "C" fn drive_open(
 ) -> Shown
     ensures { record {
       state = record {
-        pool = pool_of pool.exit.now;
+        pool = pool_of pool.new;
         bytes = log.new;
         records = records.new;
         store = store.new;
@@ -182,7 +182,7 @@ pub extern "C" fn drive_open(
       shown = result;
     }
         ≡ driven (open_of (record {
-          settings = settings_in settings.entry.now;
+          settings = settings_in settings.now;
           groups_given = given.now;
           bytes = log.old;
           size = n;
@@ -220,7 +220,7 @@ pub extern "C" fn drive_admit(
     ensures { (keys actors : Table) →
         record {
           state = record {
-            pool = pool_of pool.exit.now;
+            pool = pool_of pool.new;
             bytes = log.new;
             records = records.new;
             store = store.new;
@@ -234,7 +234,7 @@ pub extern "C" fn drive_admit(
         }
         ≡ driven (admit_of
         (record {
-          pool = pool_of pool.entry.now;
+          pool = pool_of pool.old;
           bytes = log.old;
           records = records.old;
           store = store.old;
@@ -268,7 +268,7 @@ pub extern "C" fn drive_turn(
 ) -> Shown
     ensures { record {
       state = record {
-        pool = pool_of pool.exit.now;
+        pool = pool_of pool.new;
         bytes = log.new;
         records = records.new;
         store = store.now;
@@ -281,7 +281,7 @@ pub extern "C" fn drive_turn(
       shown = result;
     }
         ≡ driven (turn_of (record {
-          pool = pool_of pool.entry.now;
+          pool = pool_of pool.old;
           bytes = log.old;
           records = records.old;
           store = store.now;
@@ -313,7 +313,7 @@ pub extern "C" fn drive_reply(
 ) -> Shown
     ensures { record {
       state = record {
-        pool = pool_of pool.exit.now;
+        pool = pool_of pool.new;
         bytes = log.new;
         records = records.new;
         store = store.new;
@@ -327,7 +327,7 @@ pub extern "C" fn drive_reply(
     }
         ≡ driven (reply_of
         (record {
-          pool = pool_of pool.entry.now;
+          pool = pool_of pool.old;
           bytes = log.old;
           records = records.old;
           store = store.old;

@@ -97,8 +97,8 @@ pub fn live_len(keys: &[KeyRow], g: usize) -> u8
 
 // An actor is queued to run, once however often it is woken before its turn.
 pub fn schedule(keys: &mut [KeyRow], actors: &mut [ActorRow], g: usize, key: u8)
-    ensures { record { keys = keys.exit.now; actors = actors.new }
-        ≡ schedule_of keys.entry.now actors.old g key }
+    ensures { record { keys = keys.new; actors = actors.new }
+        ≡ schedule_of keys.old actors.old g key }
 {
     let there = live(keys, g, key);
     if there {
@@ -121,8 +121,8 @@ fn mode_for(eval: bool) -> Mode
 
 // A new actor of this key, queued to run.
 fn spawn_key(keys: &mut [KeyRow], actors: &mut [ActorRow], g: usize, key: u8, eval: bool)
-    ensures { record { keys = keys.exit.now; actors = actors.new }
-        ≡ spawn_key keys.entry.now actors.old g key eval }
+    ensures { record { keys = keys.new; actors = actors.new }
+        ≡ spawn_key keys.old actors.old g key eval }
 {
     let row = slab_row(g);
     slab::insert_at(keys, row);
@@ -134,8 +134,8 @@ fn spawn_key(keys: &mut [KeyRow], actors: &mut [ActorRow], g: usize, key: u8, ev
 
 // A new actor, queued to run, and its key.
 pub fn spawn(keys: &mut [KeyRow], actors: &mut [ActorRow], g: usize, eval: bool) -> Key
-    ensures { record { keys = keys.exit.now; actors = actors.new; key = result }
-        ≡ spawn_of keys.entry.now actors.old g eval }
+    ensures { record { keys = keys.new; actors = actors.new; key = result }
+        ≡ spawn_of keys.old actors.old g eval }
 {
     let row = slab_row(g);
     match slab::vacant_at(keys, row) {
@@ -163,8 +163,8 @@ fn idle_key(keys: &[KeyRow], actors: &[ActorRow], g: usize, key: u8) -> bool
 // An idle actor of the group, taken from its idle list: the last whose actor is still there and idle. It and those
 // after it leave the list.
 pub fn pop_idle(keys: &mut [KeyRow], actors: &[ActorRow], g: usize) -> Key
-    ensures { record { keys = keys.exit.now; key = result }
-        ≡ pop_idle_of keys.entry.now actors.now g }
+    ensures { record { keys = keys.new; key = result }
+        ≡ pop_idle_of keys.old actors.now g }
 {
     let row = idle_row(g);
     let mut n = keys::count_at(keys, row);

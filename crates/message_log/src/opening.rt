@@ -425,8 +425,8 @@ fn write_image(
         × (length records.old ≡ 256)
         × (fit_left (take count left.now) ≡ true)
         × (length (image (from_store 0 (take count left.now) store.now)) ≤ length log.old) }
-    ensures { record { log = log.exit.now; table = records.new; size = result }
-        ≡ imaged log.entry.now records.old
+    ensures { record { log = log.new; table = records.new; size = result }
+        ≡ imaged log.old records.old
         (from_store 0 (take count left.now) store.now) }
 {
     let mut p: usize = 0;
@@ -498,14 +498,14 @@ fn accept(
         × (length rows.now ≡ 257)
         × Accepted (take n log.old) count next rows.now }
     ensures { record {
-      log = log.exit.now;
+      log = log.new;
       store = store.new;
       table = records.new;
       left = left.new;
       step = result;
     }
-        ≡ opened_log_by log.entry.now store.old records.old left.old
-        (read_file (take n log.entry.now)) }
+        ≡ opened_log_by log.old store.old records.old left.old
+        (read_file (take n log.old)) }
 {
     store_rows(&log[..n], rows, count, store, left);
     let size = write_image(log, records, store, left, count);
@@ -532,13 +532,13 @@ pub fn open_log(
     left: &mut [LeftRow],
 ) -> Answered
     ensures { record {
-      log = log.exit.now;
+      log = log.new;
       store = store.new;
       table = records.new;
       left = left.new;
       step = result;
     }
-        ≡ open_log log.entry.now n store.old records.old left.old }
+        ≡ open_log log.old n store.old records.old left.old }
 {
     if sizes_fit(log.len(), n, store.len(), records.len(), left.len()) {
         let mut rows = [[0u64; 4]; RECORDS + 1];

@@ -1,6 +1,6 @@
 // The log's steps: append, mark, retry and sync.
-// The counters are lent by `&mut` to `append`, `mark`, `retry` and `sync`, which are proved by walks
-// (tools/stepped.py). The work is in `append_step`, `mark_step`, `retry_step` and `sync_step`, by value.
+// The counters are lent by `&mut` to `append`, `mark`, `retry` and `sync`. The work is in `append_step`, `mark_step`,
+// `retry_step` and `sync_step`, by value.
 ghost use Rattle.std.specs.Prelude.{◌≡◌, [], ◌+◌, ◌-◌, ◌^◌, ◌≤◌, ◌<◌, length, get_or, set};
 ghost use Rattle.text.specs.Format.{untried};
 ghost use Rattle.message_log.specs.Log.{state, row, row_at, row_len, row_tries, row_span, CanAppend, new_message, logged};
@@ -462,7 +462,7 @@ fn sync_step(counters: Counters) -> AnsweredDue
 
 // Orders a flush, where a record was appended since the last one.
 pub fn sync(counters: &mut Counters) -> Due
-    ensures { record { counters = counters.exit.now; due = result } ≡ sync_log counters.entry.now }
+    ensures { record { counters = counters.new; due = result } ≡ sync_log counters.old }
 {
     let s = sync_step(*counters);
     *counters = s.counters;

@@ -108,7 +108,7 @@ fn singles_up(bytes: &mut [u8], from: usize, n: usize, to: usize) -> usize
 // n bytes moved down from `from` to `to`, and the steps that this took. Refused, with no step: a place above the
 // bytes, and bytes that do not lie inside the slice.
 pub fn move_down(bytes: &mut [u8], from: usize, n: usize, to: usize) -> Steps
-    ensures { record { bytes = bytes.exit.now; steps = result } ≡ move_down bytes.entry.now from n to }
+    ensures { record { bytes = bytes.new; steps = result } ≡ move_down bytes.old from n to }
 {
     if from < to {
         return Steps {
@@ -137,7 +137,7 @@ pub fn move_down(bytes: &mut [u8], from: usize, n: usize, to: usize) -> Steps
 // n bytes moved up from `from` to `to`, and the steps that this took. Refused, with no step: a place below the bytes,
 // and one where they would not lie inside the slice.
 pub fn move_up(bytes: &mut [u8], from: usize, n: usize, to: usize) -> Steps
-    ensures { record { bytes = bytes.exit.now; steps = result } ≡ move_up bytes.entry.now from n to }
+    ensures { record { bytes = bytes.new; steps = result } ≡ move_up bytes.old from n to }
 {
     if to < from {
         return Steps {

@@ -31,7 +31,7 @@ fn admit_logged(
     ensures { (groups keys actors : Table) →
         record {
           state = record {
-            pool = pool_of pool.exit.now;
+            pool = pool_of pool.new;
             bytes = log.new;
             records = records.new;
             store = store.new;
@@ -41,11 +41,11 @@ fn admit_logged(
             keys = keys;
             actors = actors;
           };
-          answer = answer_of result (pool_of pool.exit.now) links.new rows.new;
+          answer = answer_of result (pool_of pool.new) links.new rows.new;
         }
         ≡ admit_logged
         (record {
-          pool = pool_of pool.entry.now;
+          pool = pool_of pool.old;
           bytes = log.old;
           records = records.old;
           store = store.old;
@@ -96,7 +96,7 @@ fn admit_called(
     ensures { (bytes : List ℕ) (records groups keys actors : Table) →
         record {
           state = record {
-            pool = pool_of pool.exit.now;
+            pool = pool_of pool.new;
             bytes = bytes;
             records = records;
             store = store.new;
@@ -106,11 +106,11 @@ fn admit_called(
             keys = keys;
             actors = actors;
           };
-          answer = answer_of result (pool_of pool.exit.now) links.new rows.new;
+          answer = answer_of result (pool_of pool.new) links.new rows.new;
         }
         ≡ admit_called
         (record {
-          pool = pool_of pool.entry.now;
+          pool = pool_of pool.old;
           bytes = bytes;
           records = records;
           store = store.old;
@@ -151,7 +151,7 @@ pub fn admit(
     ensures { (keys actors : Table) →
         record {
           state = record {
-            pool = pool_of pool.exit.now;
+            pool = pool_of pool.new;
             bytes = log.new;
             records = records.new;
             store = store.new;
@@ -161,11 +161,11 @@ pub fn admit(
             keys = keys;
             actors = actors;
           };
-          answer = answer_of result (pool_of pool.exit.now) links.new rows.new;
+          answer = answer_of result (pool_of pool.new) links.new rows.new;
         }
         ≡ admit_of
         (record {
-          pool = pool_of pool.entry.now;
+          pool = pool_of pool.old;
           bytes = log.old;
           records = records.old;
           store = store.old;

@@ -68,7 +68,7 @@ pub fn turn(
 ) -> Called
     ensures { record {
       state = record {
-        pool = pool_of pool.exit.now;
+        pool = pool_of pool.new;
         bytes = log.new;
         records = records.new;
         store = store.now;
@@ -78,11 +78,11 @@ pub fn turn(
         keys = keys.new;
         actors = actors.new;
       };
-      answer = answer_of result (pool_of pool.exit.now) links.new rows.new;
+      answer = answer_of result (pool_of pool.new) links.new rows.new;
     }
         ≡ turn_of
         (record {
-          pool = pool_of pool.entry.now;
+          pool = pool_of pool.old;
           bytes = log.old;
           records = records.old;
           store = store.now;
@@ -135,7 +135,7 @@ fn stored(
 ) -> Called
     ensures { record {
       state = record {
-        pool = pool_of pool.exit.now;
+        pool = pool_of pool.new;
         bytes = log.new;
         records = records.new;
         store = store.now;
@@ -145,11 +145,11 @@ fn stored(
         keys = keys.new;
         actors = actors.new;
       };
-      answer = answer_of result (pool_of pool.exit.now) links.new rows.new;
+      answer = answer_of result (pool_of pool.new) links.new rows.new;
     }
         ≡ stored_of
         (record {
-          pool = pool_of pool.entry.now;
+          pool = pool_of pool.old;
           bytes = log.old;
           records = records.old;
           store = store.now;
@@ -175,7 +175,7 @@ fn failed(pool: &mut PoolCells) -> Called
     ensures { (bytes : List ℕ) (records : Table) (store : List ℕ) (groups links rows keys actors : Table) →
         record {
           state = record {
-            pool = pool_of pool.exit.now;
+            pool = pool_of pool.new;
             bytes = bytes;
             records = records;
             store = store;
@@ -185,11 +185,11 @@ fn failed(pool: &mut PoolCells) -> Called
             keys = keys;
             actors = actors;
           };
-          answer = answer_of result (pool_of pool.exit.now) links rows;
+          answer = answer_of result (pool_of pool.new) links rows;
         }
         ≡ failed_of
         (record {
-          pool = pool_of pool.entry.now;
+          pool = pool_of pool.old;
           bytes = bytes;
           records = records;
           store = store;
@@ -217,7 +217,7 @@ fn collect_send(
     ensures { (bytes : List ℕ) (records groups keys actors : Table) →
         record {
           state = record {
-            pool = pool_of pool.exit.now;
+            pool = pool_of pool.new;
             bytes = bytes;
             records = records;
             store = store.new;
@@ -227,11 +227,11 @@ fn collect_send(
             keys = keys;
             actors = actors;
           };
-          answer = answer_of result (pool_of pool.exit.now) links.new rows.new;
+          answer = answer_of result (pool_of pool.new) links.new rows.new;
         }
         ≡ collect_send
         (record {
-          pool = pool_of pool.entry.now;
+          pool = pool_of pool.old;
           bytes = bytes;
           records = records;
           store = store.old;
@@ -268,7 +268,7 @@ fn resume_at(
 )
     ensures { (bytes : List ℕ) (records : Table) (store : List ℕ) →
         record {
-          pool = pool_of pool.exit.now;
+          pool = pool_of pool.new;
           bytes = bytes;
           records = records;
           store = store;
@@ -280,7 +280,7 @@ fn resume_at(
         }
         ≡ resume_at
         (record {
-          pool = pool_of pool.entry.now;
+          pool = pool_of pool.old;
           bytes = bytes;
           records = records;
           store = store;
@@ -316,7 +316,7 @@ fn resumed(
 ) -> Called
     ensures { record {
       state = record {
-        pool = pool_of pool.exit.now;
+        pool = pool_of pool.new;
         bytes = log.new;
         records = records.new;
         store = store.now;
@@ -326,11 +326,11 @@ fn resumed(
         keys = keys.new;
         actors = actors.new;
       };
-      answer = answer_of result (pool_of pool.exit.now) links.new rows.new;
+      answer = answer_of result (pool_of pool.new) links.new rows.new;
     }
         ≡ resumed_of
         (record {
-          pool = pool_of pool.entry.now;
+          pool = pool_of pool.old;
           bytes = log.old;
           records = records.old;
           store = store.now;
@@ -364,7 +364,7 @@ pub fn reply(
 ) -> Called
     ensures { record {
       state = record {
-        pool = pool_of pool.exit.now;
+        pool = pool_of pool.new;
         bytes = log.new;
         records = records.new;
         store = store.new;
@@ -374,11 +374,11 @@ pub fn reply(
         keys = keys.new;
         actors = actors.new;
       };
-      answer = answer_of result (pool_of pool.exit.now) links.new rows.new;
+      answer = answer_of result (pool_of pool.new) links.new rows.new;
     }
         ≡ reply_of
         (record {
-          pool = pool_of pool.entry.now;
+          pool = pool_of pool.old;
           bytes = log.old;
           records = records.old;
           store = store.old;
@@ -419,7 +419,7 @@ fn sync_log(pool: &mut PoolCells) -> Called
     ensures { (bytes : List ℕ) (records : Table) (store : List ℕ) (groups links rows keys actors : Table) →
         record {
           state = record {
-            pool = pool_of pool.exit.now;
+            pool = pool_of pool.new;
             bytes = bytes;
             records = records;
             store = store;
@@ -429,11 +429,11 @@ fn sync_log(pool: &mut PoolCells) -> Called
             keys = keys;
             actors = actors;
           };
-          answer = answer_of result (pool_of pool.exit.now) links rows;
+          answer = answer_of result (pool_of pool.new) links rows;
         }
         ≡ sync_did
         (record {
-          pool = pool_of pool.entry.now;
+          pool = pool_of pool.old;
           bytes = bytes;
           records = records;
           store = store;
@@ -462,7 +462,7 @@ pub fn sync(pool: &mut PoolCells) -> Called
     ensures { (bytes : List ℕ) (records : Table) (store : List ℕ) (groups links rows keys actors : Table) →
         record {
           state = record {
-            pool = pool_of pool.exit.now;
+            pool = pool_of pool.new;
             bytes = bytes;
             records = records;
             store = store;
@@ -472,11 +472,11 @@ pub fn sync(pool: &mut PoolCells) -> Called
             keys = keys;
             actors = actors;
           };
-          answer = answer_of result (pool_of pool.exit.now) links rows;
+          answer = answer_of result (pool_of pool.new) links rows;
         }
         ≡ sync_of
         (record {
-          pool = pool_of pool.entry.now;
+          pool = pool_of pool.old;
           bytes = bytes;
           records = records;
           store = store;
@@ -499,7 +499,7 @@ pub fn close(pool: &mut PoolCells) -> Called
     ensures { (bytes : List ℕ) (records : Table) (store : List ℕ) (groups links rows keys actors : Table) →
         record {
           state = record {
-            pool = pool_of pool.exit.now;
+            pool = pool_of pool.new;
             bytes = bytes;
             records = records;
             store = store;
@@ -509,11 +509,11 @@ pub fn close(pool: &mut PoolCells) -> Called
             keys = keys;
             actors = actors;
           };
-          answer = answer_of result (pool_of pool.exit.now) links rows;
+          answer = answer_of result (pool_of pool.new) links rows;
         }
         ≡ close_of
         (record {
-          pool = pool_of pool.entry.now;
+          pool = pool_of pool.old;
           bytes = bytes;
           records = records;
           store = store;

@@ -67,7 +67,7 @@ fn open_pool(
     keys: &mut [KeyRow],
 ) -> Called
     ensures { record {
-      groups = groups.exit.now;
+      groups = groups.new;
       links = links.new;
       rows = rows.new;
       keys = keys.new;
@@ -78,7 +78,7 @@ fn open_pool(
         (record { settings = settings; given = given.now; left = left.now; counters = counters })
         order
         (record {
-          groups = groups.entry.now;
+          groups = groups.old;
           links = links.old;
           rows = rows.old;
           keys = keys.old;
@@ -111,7 +111,7 @@ pub fn open(
 ) -> Called
     ensures { record {
       state = record {
-        pool = pool_of pool.exit.now;
+        pool = pool_of pool.new;
         bytes = log.new;
         records = records.new;
         store = store.new;
@@ -121,7 +121,7 @@ pub fn open(
         keys = keys.new;
         actors = actors.now;
       };
-      answer = answer_of result (pool_of pool.exit.now) links.new rows.new;
+      answer = answer_of result (pool_of pool.new) links.new rows.new;
     }
         ≡ open_of
         (record {

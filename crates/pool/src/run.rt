@@ -50,7 +50,7 @@ fn answered(pool: &PoolCells, links: &[LinkRow], keys: &[KeyRow]) -> Called
     ensures { (bytes : List ℕ) (records : Table) (store : List ℕ) (groups rows actors : Table) →
         record {
           state = record {
-            pool = pool_of pool.entry.now;
+            pool = pool_of pool.now;
             bytes = bytes;
             records = records;
             store = store;
@@ -60,11 +60,11 @@ fn answered(pool: &PoolCells, links: &[LinkRow], keys: &[KeyRow]) -> Called
             keys = keys.now;
             actors = actors;
           };
-          answer = answer_of result (pool_of pool.entry.now) links.now rows;
+          answer = answer_of result (pool_of pool.now) links.now rows;
         }
         ≡ answered_of
         (record {
-          pool = pool_of pool.entry.now;
+          pool = pool_of pool.now;
           bytes = bytes;
           records = records;
           store = store;
@@ -100,7 +100,7 @@ pub(crate) fn run(
 ) -> Called
     ensures { record {
       state = record {
-        pool = pool_of pool.exit.now;
+        pool = pool_of pool.new;
         bytes = log.new;
         records = records.new;
         store = store.now;
@@ -110,11 +110,11 @@ pub(crate) fn run(
         keys = keys.new;
         actors = actors.new;
       };
-      answer = answer_of result (pool_of pool.exit.now) links.new rows.new;
+      answer = answer_of result (pool_of pool.new) links.new rows.new;
     }
         ≡ run_of
         (record {
-          pool = pool_of pool.entry.now;
+          pool = pool_of pool.old;
           bytes = log.old;
           records = records.old;
           store = store.now;

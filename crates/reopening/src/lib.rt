@@ -35,7 +35,7 @@ fn answered(a: Answer) -> Reopened
 
 // Opens the log whose file is the first n bytes.
 pub fn reopen(log: &mut [u8], n: usize) -> Reopened
-    ensures { record { log = log.exit.now; answer = result } ≡ reopen_of log.entry.now n }
+    ensures { record { log = log.new; answer = result } ≡ reopen_of log.old n }
 {
     let mut store = [0u8; STORE];
     let mut records = [[0u64; 4]; RECORDS];

@@ -33,8 +33,8 @@ use wire::output::Done;
 
 // Two texts, with a 1 and their lengths before them.
 fn output_texts(out: &mut [u8], d: Done, name: &[u8], body: &[u8]) -> Done
-    ensures { record { out = out.exit.now; at = result.at; code = result.code }
-        ≡ output_texts (record { out = out.entry.now; at = d.at; code = d.code })
+    ensures { record { out = out.new; at = result.at; code = result.code }
+        ≡ output_texts (record { out = out.old; at = d.at; code = d.code })
         name.now body.now }
 {
     let lengths = [1, name.len() as u64, body.len() as u64];
@@ -45,8 +45,8 @@ fn output_texts(out: &mut [u8], d: Done, name: &[u8], body: &[u8]) -> Done
 
 // The message that an answer shows, from its part of the body store.
 fn output_message(out: &mut [u8], d: Done, m: Found, rows: &[MessageRow], store: &[u8]) -> Done
-    ensures { record { out = out.exit.now; at = result.at; code = result.code }
-        ≡ output_message (record { out = out.entry.now; at = d.at; code = d.code }) m
+    ensures { record { out = out.new; at = result.at; code = result.code }
+        ≡ output_message (record { out = out.old; at = d.at; code = d.code }) m
         rows.now store.now }
 {
     match m {
@@ -70,8 +70,8 @@ fn output_message(out: &mut [u8], d: Done, m: Found, rows: &[MessageRow], store:
 
 // The file.
 fn output_log(out: &mut [u8], d: Done, show: u64, log: &[u8], size: usize) -> Done
-    ensures { record { out = out.exit.now; at = result.at; code = result.code }
-        ≡ output_log show (record { out = out.entry.now; at = d.at; code = d.code }) log.now size }
+    ensures { record { out = out.new; at = result.at; code = result.code }
+        ≡ output_log show (record { out = out.old; at = d.at; code = d.code }) log.now size }
 {
     if show < 1 {
         return d;
@@ -92,10 +92,10 @@ fn output_tables(
     keys: &[KeyRow],
     actors: &[ActorRow],
 ) -> Done
-    ensures { record { out = out.exit.now; at = result.at; code = result.code }
-        ≡ output_tables show (record { out = out.entry.now; at = d.at; code = d.code })
+    ensures { record { out = out.new; at = result.at; code = result.code }
+        ≡ output_tables show (record { out = out.old; at = d.at; code = d.code })
         (record {
-          records = records.entry.now;
+          records = records.now;
           groups = groups.now;
           links = links.now;
           rows = rows.now;
@@ -116,8 +116,8 @@ fn output_tables(
 
 // The body store.
 fn output_store(out: &mut [u8], d: Done, show: u64, store: &[u8]) -> Done
-    ensures { record { out = out.exit.now; at = result.at; code = result.code }
-        ≡ output_store show (record { out = out.entry.now; at = d.at; code = d.code }) store.now }
+    ensures { record { out = out.new; at = result.at; code = result.code }
+        ≡ output_store show (record { out = out.old; at = d.at; code = d.code }) store.now }
 {
     if show < 3 {
         return d;
@@ -127,8 +127,8 @@ fn output_store(out: &mut [u8], d: Done, show: u64, store: &[u8]) -> Done
 
 // The answer and the counters.
 fn output_head(out: &mut [u8], d: Done, s: &AnswerNumbers, pool: &PoolCells) -> Done
-    ensures { record { out = out.exit.now; at = result.at; code = result.code }
-        ≡ output (record { out = out.entry.now; at = d.at; code = d.code })
+    ensures { record { out = out.new; at = result.at; code = result.code }
+        ≡ output (record { out = out.old; at = d.at; code = d.code })
         (numbers (entry_numbers s.now (pool_of pool.now))) }
 {
     let counters = state::counters(pool);
@@ -167,11 +167,11 @@ pub(crate) fn output_entry(
     keys: &[KeyRow],
     actors: &[ActorRow],
 ) -> Done
-    ensures { record { out = out.exit.now; at = result.at; code = result.code }
-        ≡ output_entry show (record { out = out.entry.now; at = d.at; code = d.code })
+    ensures { record { out = out.new; at = result.at; code = result.code }
+        ≡ output_entry show (record { out = out.old; at = d.at; code = d.code })
         (record {
           state = record {
-            pool = pool_of pool.entry.now;
+            pool = pool_of pool.now;
             bytes = log.now;
             records = records.now;
             store = store.now;
@@ -181,7 +181,7 @@ pub(crate) fn output_entry(
             keys = keys.now;
             actors = actors.now;
           };
-          answer = answer_of called (pool_of pool.entry.now) links.now rows.now;
+          answer = answer_of called (pool_of pool.now) links.now rows.now;
         }) }
 {
     let answer = answer::answer_of(called, pool, links, rows);

@@ -40,7 +40,7 @@ fn step(
     requires { (call.name ≤ call.body) × (call.body ≤ call.end) × (call.end ≤ length script.now) }
     ensures { record {
       state = record {
-        pool = pool_of pool.exit.now;
+        pool = pool_of pool.new;
         bytes = log.new;
         records = records.new;
         store = store.new;
@@ -50,11 +50,11 @@ fn step(
         keys = keys.new;
         actors = actors.new;
       };
-      answer = answer_of result (pool_of pool.exit.now) links.new rows.new;
+      answer = answer_of result (pool_of pool.new) links.new rows.new;
     }
         ≡ call_of
         (record {
-          pool = pool_of pool.entry.now;
+          pool = pool_of pool.old;
           bytes = log.old;
           records = records.old;
           store = store.old;
@@ -123,11 +123,11 @@ fn run_calls(
     ensures { record {
       bytes = log.new;
       store = store.new;
-      output = record { out = out.exit.now; at = result.at; code = result.code };
+      output = record { out = out.new; at = result.at; code = result.code };
     }
         ≡ play show
         (record {
-          pool = pool_of pool.entry.now;
+          pool = pool_of pool.old;
           bytes = log.old;
           records = records.old;
           store = store.old;
@@ -137,7 +137,7 @@ fn run_calls(
           keys = keys.old;
           actors = actors.old;
         })
-        (record { out = out.entry.now; at = d.at; code = d.code })
+        (record { out = out.old; at = d.at; code = d.code })
         (calls_at (length script.now) script.now start) }
 {
     let mut p = start;
@@ -202,7 +202,7 @@ fn run_opened(
     ensures { record {
       bytes = log.new;
       store = store.new;
-      output = record { out = out.exit.now; at = result.at; code = result.code };
+      output = record { out = out.new; at = result.at; code = result.code };
     }
         ≡ play_opened show script.now start
         (open_of (record {
@@ -218,7 +218,7 @@ fn run_opened(
           keys = keys.old;
           actors = actors.old;
         }))
-        (record { out = out.entry.now; at = d.at; code = d.code }) }
+        (record { out = out.old; at = d.at; code = d.code }) }
 {
     let called = open::open(
         pool, settings, given, log, n, store, records, groups, links, rows, keys, actors,
@@ -266,10 +266,10 @@ pub(crate) fn play(
     ensures { record {
       bytes = log.new;
       store = store.new;
-      output = record { out = out.exit.now; at = result.at; code = result.code };
+      output = record { out = out.new; at = result.at; code = result.code };
     }
         ≡ play_script script.now log.old store.old
-        (record { out = out.entry.now; at = 8; code = 0 }) }
+        (record { out = out.old; at = 8; code = 0 }) }
 {
     let read = script::read_header(script);
     match read {

@@ -42,8 +42,8 @@ pub struct Routed {
 
 // The batch's first message is over.
 fn undeliverable_first(links: &mut [LinkRow], rows: &[MessageRow], left: u64) -> Where
-    ensures { record { links = links.exit.now; at = at_of result }
-        ≡ undeliverable links.entry.now rows.now left }
+    ensures { record { links = links.new; at = at_of result }
+        ≡ undeliverable links.old rows.now left }
 {
     step::over_first(links, rows, lists::BATCH);
     let fewer = lists::saturating_sub(left, 1);
@@ -52,8 +52,8 @@ fn undeliverable_first(links: &mut [LinkRow], rows: &[MessageRow], left: u64) ->
 
 // A message came to an actor's mailbox: it is idle no more, and queued to run.
 fn wake_at(keys: &mut [KeyRow], actors: &mut [ActorRow], g: usize, key: u8)
-    ensures { record { keys = keys.exit.now; actors = actors.new }
-        ≡ wake_at keys.entry.now actors.old g key }
+    ensures { record { keys = keys.new; actors = actors.new }
+        ≡ wake_at keys.old actors.old g key }
 {
     let slot = roster::slot_at(g, key);
     state::delivered_at(actors, slot);
@@ -62,7 +62,7 @@ fn wake_at(keys: &mut [KeyRow], actors: &mut [ActorRow], g: usize, key: u8)
 
 // The batch's first message goes to the end of a mailbox; queued changes as the mailbox does.
 fn deliver_to(links: &mut [LinkRow], slot: usize, queued: u64) -> u64
-    ensures { record { links = links.exit.now; queued = result } ≡ deliver_to links.entry.now slot queued }
+    ensures { record { links = links.new; queued = result } ≡ deliver_to links.old slot queued }
 {
     let mailbox = lists::mailbox(slot);
     let before = lists::length_of(links, mailbox);
@@ -83,12 +83,12 @@ fn deliver_first(
     left: u64,
 ) -> Routed
     ensures { record {
-      links = links.exit.now;
+      links = links.new;
       keys = keys.new;
       actors = actors.new;
       routed = routed_of result;
     }
-        ≡ deliver (turn_tables links.entry.now keys.old actors.old queued) g key left }
+        ≡ deliver (turn_tables links.old keys.old actors.old queued) g key left }
 {
     let slot = roster::slot_at(g, key);
     let more = deliver_to(links, slot, queued);
@@ -110,13 +110,13 @@ fn deliver_key(
     left: u64,
 ) -> Routed
     ensures { record {
-      links = links.exit.now;
+      links = links.new;
       keys = keys.new;
       actors = actors.new;
       routed = routed_of result;
     }
         ≡ deliver_key rows.now
-        (turn_tables links.entry.now keys.old actors.old queued) g key left }
+        (turn_tables links.old keys.old actors.old queued) g key left }
 {
     match key {
         Key::At(k) => deliver_first(links, keys, actors, g, k, queued, left),
@@ -138,13 +138,13 @@ fn route_least(
     left: u64,
 ) -> Routed
     ensures { record {
-      links = links.exit.now;
+      links = links.new;
       keys = keys.new;
       actors = actors.new;
       routed = routed_of result;
     }
         ≡ route_least rows.now
-        (turn_tables links.entry.now keys.old actors.old queued) g left }
+        (turn_tables links.old keys.old actors.old queued) g left }
 {
     let key = roster::least_loaded(keys, links, g);
     deliver_key(links, rows, keys, actors, g, key, queued, left)
@@ -162,13 +162,13 @@ fn route_spawned(
     left: u64,
 ) -> Routed
     ensures { record {
-      links = links.exit.now;
+      links = links.new;
       keys = keys.new;
       actors = actors.new;
       routed = routed_of result;
     }
         ≡ route_spawned rows.now
-        (turn_tables links.entry.now keys.old actors.old queued) g eval left }
+        (turn_tables links.old keys.old actors.old queued) g eval left }
 {
     match roster::spawn(keys, actors, g, eval) {
         Key::At(k) => deliver_first(links, keys, actors, g, k, queued, left),
@@ -188,13 +188,13 @@ fn route_new(
     left: u64,
 ) -> Routed
     ensures { record {
-      links = links.exit.now;
+      links = links.new;
       keys = keys.new;
       actors = actors.new;
       routed = routed_of result;
     }
         ≡ route_new groups.now rows.now
-        (turn_tables links.entry.now keys.old actors.old queued) g left }
+        (turn_tables links.old keys.old actors.old queued) g left }
 {
     let s = settings::group_at(groups, g);
     let ceiling = s.ceiling;
@@ -222,13 +222,13 @@ fn pick(
     left: u64,
 ) -> Routed
     ensures { record {
-      links = links.exit.now;
+      links = links.new;
       keys = keys.new;
       actors = actors.new;
       routed = routed_of result;
     }
         ≡ pick_of groups.now rows.now
-        (turn_tables links.entry.now keys.old actors.old queued) g left }
+        (turn_tables links.old keys.old actors.old queued) g left }
 {
     match roster::pop_idle(keys, actors, g) {
         Key::At(k) => deliver_first(links, keys, actors, g, k, queued, left),
@@ -250,13 +250,13 @@ fn route_one(
     left: u64,
 ) -> Routed
     ensures { record {
-      links = links.exit.now;
+      links = links.new;
       keys = keys.new;
       actors = actors.new;
       routed = routed_of result;
     }
         ≡ route_one (programs groups.now count store.now) rows.now
-        (turn_tables links.entry.now keys.old actors.old queued) entry left }
+        (turn_tables links.old keys.old actors.old queued) entry left }
 {
     let long = message::name_len_at(rows, entry);
     match settings::by_name(groups, count, store, entry, long) {
@@ -281,13 +281,13 @@ pub fn route(
     left: u64,
 ) -> Routed
     ensures { record {
-      links = links.exit.now;
+      links = links.new;
       keys = keys.new;
       actors = actors.new;
       routed = routed_of result;
     }
         ≡ route_of (programs groups.now count store.now) rows.now
-        (turn_tables links.entry.now keys.old actors.old queued) left }
+        (turn_tables links.old keys.old actors.old queued) left }
 {
     if left == 0 {
         let at = words::tick_clock();
@@ -316,13 +316,13 @@ fn route_booted(
     booted: bool,
 ) -> Routed
     ensures { record {
-      links = links.exit.now;
+      links = links.new;
       keys = keys.new;
       actors = actors.new;
       routed = routed_of result;
     }
         ≡ route_booted rows.now
-        (turn_tables links.entry.now keys.old actors.old queued) g left booted }
+        (turn_tables links.old keys.old actors.old queued) g left booted }
 {
     if booted {
         return route_spawned(links, rows, keys, actors, g, false, queued, left);
@@ -342,13 +342,13 @@ pub fn route_reply(
     reply: Reply,
 ) -> Routed
     ensures { record {
-      links = links.exit.now;
+      links = links.new;
       keys = keys.new;
       actors = actors.new;
       routed = routed_of result;
     }
         ≡ route_reply rows.now
-        (turn_tables links.entry.now keys.old actors.old queued) g left reply }
+        (turn_tables links.old keys.old actors.old queued) g left reply }
 {
     let came = question::yes_in(reply);
     match came {

@@ -21,7 +21,7 @@ fn batch_size(n: u64) -> u64
 
 // All of pending is to be routed.
 fn batch(links: &mut [LinkRow]) -> Where
-    ensures { record { links = links.exit.now; at = at_of result } ≡ batch_of links.entry.now }
+    ensures { record { links = links.new; at = at_of result } ≡ batch_of links.old }
 {
     lists::move_all(links, lists::PENDING, lists::BATCH);
     let n = lists::length_of(links, lists::BATCH);
@@ -31,8 +31,8 @@ fn batch(links: &mut [LinkRow]) -> Where
 
 // One message more of the inbox is taken in, or the batch begins.
 pub fn intake(links: &mut [LinkRow], queued: u64, backlog: u64, left: u64) -> Where
-    ensures { record { links = links.exit.now; at = at_of result }
-        ≡ intake_of links.entry.now queued backlog left }
+    ensures { record { links = links.new; at = at_of result }
+        ≡ intake_of links.old queued backlog left }
 {
     if left == 0 {
         return batch(links);

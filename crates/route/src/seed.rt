@@ -21,8 +21,8 @@ pub fn seed(
     actors: &mut [ActorRow],
     g: usize,
 ) -> Where
-    ensures { record { keys = keys.exit.now; actors = actors.new; at = at_of result }
-        ≡ seed_of groups.now count keys.entry.now actors.old g }
+    ensures { record { keys = keys.new; actors = actors.new; at = at_of result }
+        ≡ seed_of groups.now count keys.old actors.old g }
 {
     if count <= g {
         return words::intake(lists::MESSAGES);
@@ -46,8 +46,8 @@ pub fn seed(
 
 // Boot was answered: yes spawns the actor.
 fn seed_booted(keys: &mut [KeyRow], actors: &mut [ActorRow], g: usize, booted: bool) -> Where
-    ensures { record { keys = keys.exit.now; actors = actors.new; at = at_of result }
-        ≡ seed_booted keys.entry.now actors.old g booted }
+    ensures { record { keys = keys.new; actors = actors.new; at = at_of result }
+        ≡ seed_booted keys.old actors.old g booted }
 {
     let next = at::next_group(g);
     if booted {
@@ -59,8 +59,8 @@ fn seed_booted(keys: &mut [KeyRow], actors: &mut [ActorRow], g: usize, booted: b
 
 // The reply to Boot; one that does not fit changes nothing.
 pub fn seed_reply(keys: &mut [KeyRow], actors: &mut [ActorRow], g: usize, reply: Reply) -> Where
-    ensures { record { keys = keys.exit.now; actors = actors.new; at = at_of result }
-        ≡ seed_reply keys.entry.now actors.old g reply }
+    ensures { record { keys = keys.new; actors = actors.new; at = at_of result }
+        ≡ seed_reply keys.old actors.old g reply }
 {
     let came = question::yes_in(reply);
     match came {

@@ -174,6 +174,75 @@ fn print_title<W: Write>(
 }
 
 fn one_if(b: bool) -> u64
+    ensures { result ≤ 1 }fn replayed(
+    script: &[u8],
+    expected: &[u8],
+    log: &mut [u8],
+    store: &mut [u8],
+    out: &mut [u8],
+) -> bool {
+    let n = expected.len();
+    let l = number_at(script, 16) as usize;
+    let m = number_at(script, 24) as usize;
+    if out.len() < n {
+        return false;
+    }
+    if log.len() < l {
+        return false;
+    }
+    if store.len() < m {
+        return false;
+    }
+    if replay(script, &mut log[..l], &mut store[..m], &mut out[..n]) != 0 {
+        return false;
+    }
+    same(out, expected)
+}
+
+// A title, if there is one, with whether its script was replayed.
+fn print_title<W: Write>(
+    text: &[u8],
+    from: usize,
+    end: usize,
+    passed: bool,
+    console: &mut W,
+) -> io::Result<()> {
+    if end <= text.len() {
+        if from < end {
+            console.write_all(&text[from..end])?;
+            if passed {
+                console.write_all(b": the same\n")?;
+            } else {
+                console.write_all(b": DIFFERENT\n")?;
+            }
+        }
+    }
+    Ok(())
+}
+
+fn one_if(b: bool) -> u64
+    ensures { result ≤ 1 }fn print_title<W: Write>(
+    text: &[u8],
+    from: usize,
+    end: usize,
+    passed: bool,
+    console: &mut W,
+) -> io::Result<()> {
+    if end <= text.len() {
+        if from < end {
+            console.write_all(&text[from..end])?;
+            if passed {
+                console.write_all(b": the same\n")?;
+            } else {
+                console.write_all(b": DIFFERENT\n")?;
+            }
+        }
+    }
+    Ok(())
+}
+
+fn one_if(b: bool) -> u64
+    ensures { result ≤ 1 }fn one_if(b: bool) -> u64
     ensures { result ≤ 1 }
 {
     if b { 1 } else { 0 }

@@ -44,7 +44,7 @@ fn put_left_row(rows: &mut [MessageRow], entry: usize, row: LeftRow)
 
 // The first n messages left get their rows, and go from the free entries to pending, in order.
 pub fn put_left(links: &mut [LinkRow], rows: &mut [MessageRow], left: &[LeftRow], n: usize)
-    ensures { record { links = links.exit.now; rows = rows.new } ≡ put_left links.entry.now
+    ensures { record { links = links.new; rows = rows.new } ≡ put_left links.old
         rows.old left.now 0 n }
 {
     let mut i: usize = 0;

@@ -268,8 +268,8 @@ pub fn eval_start(
     slot: usize,
     queued: u64,
 ) -> EvalStep
-    ensures { record { links = links.exit.now; actors = actors.new; step = eval_step_of result }
-        ≡ eval_start links.entry.now actors.old slot queued }
+    ensures { record { links = links.new; actors = actors.new; step = eval_step_of result }
+        ≡ eval_start links.old actors.old slot queued }
 {
     let waits = state::has_run(actors, slot);
     if waits {
@@ -302,8 +302,8 @@ fn eval_over(
     actors: &mut [ActorRow],
     slot: usize,
 ) -> EvalWords
-    ensures { record { links = links.exit.now; actors = actors.new; next = eval_next_of result }
-        ≡ eval_over (step_tables links.entry.now rows.now actors.old) slot }
+    ensures { record { links = links.new; actors = actors.new; next = eval_next_of result }
+        ≡ eval_over (step_tables links.old rows.now actors.old) slot }
 {
     step::over_first(links, rows, lists::HAND);
     let mailbox = lists::mailbox(slot);
@@ -326,8 +326,8 @@ fn eval_tell(
     slot: usize,
     outcome: Outcome,
 ) -> EvalWords
-    ensures { record { links = links.exit.now; actors = actors.new; next = eval_next_of result }
-        ≡ eval_tell (step_tables links.entry.now rows.now actors.old) slot outcome }
+    ensures { record { links = links.new; actors = actors.new; next = eval_next_of result }
+        ≡ eval_tell (step_tables links.old rows.now actors.old) slot outcome }
 {
     let found = lists::first(links, lists::HAND);
     let caller = step::caller_first(rows, found);
@@ -345,8 +345,8 @@ fn eval_finish(
     slot: usize,
     outcome: Outcome,
 ) -> EvalWords
-    ensures { record { links = links.exit.now; actors = actors.new; next = eval_next_of result }
-        ≡ eval_finish (step_tables links.entry.now rows.now actors.old) slot outcome }
+    ensures { record { links = links.new; actors = actors.new; next = eval_next_of result }
+        ≡ eval_finish (step_tables links.old rows.now actors.old) slot outcome }
 {
     let none = EvalRun::Nothing;
     state::running_at(actors, slot, none);
@@ -363,8 +363,8 @@ fn eval_clocked(
     slot: usize,
     clock: u64,
 ) -> EvalWords
-    ensures { record { links = links.exit.now; actors = actors.new; next = eval_next_of result }
-        ≡ eval_clocked (step_tables links.entry.now rows.now actors.old) slot clock }
+    ensures { record { links = links.new; actors = actors.new; next = eval_next_of result }
+        ≡ eval_clocked (step_tables links.old rows.now actors.old) slot clock }
 {
     let until = state::deadline_of(actors, slot);
     if until <= clock {
@@ -383,8 +383,8 @@ fn eval_booted(
     slot: usize,
     booted: bool,
 ) -> EvalWords
-    ensures { record { links = links.exit.now; actors = actors.new; next = eval_next_of result }
-        ≡ eval_booted (step_tables links.entry.now rows.now actors.old) slot booted }
+    ensures { record { links = links.new; actors = actors.new; next = eval_next_of result }
+        ≡ eval_booted (step_tables links.old rows.now actors.old) slot booted }
 {
     if booted {
         asks_for(EvalKind::StartClock)
@@ -402,8 +402,8 @@ fn eval_started(
     limit: Limit,
     clock: u64,
 ) -> EvalWords
-    ensures { record { links = links.exit.now; actors = actors.new; next = eval_next_of result }
-        ≡ eval_started links.entry.now actors.old slot limit clock }
+    ensures { record { links = links.new; actors = actors.new; next = eval_next_of result }
+        ≡ eval_started links.old actors.old slot limit clock }
 {
     let until = deadline(clock, limit);
     let run = EvalRun::Until(until);
@@ -421,8 +421,8 @@ fn eval_ran(
     slot: usize,
     status: Status,
 ) -> EvalWords
-    ensures { record { links = links.exit.now; actors = actors.new; next = eval_next_of result }
-        ≡ eval_ran (step_tables links.entry.now rows.now actors.old) slot status }
+    ensures { record { links = links.new; actors = actors.new; next = eval_next_of result }
+        ≡ eval_ran (step_tables links.old rows.now actors.old) slot status }
 {
     match status {
         Status::Done => {
@@ -462,8 +462,8 @@ fn eval_dispatched(
     slot: usize,
     count: u64,
 ) -> EvalWords
-    ensures { record { links = links.exit.now; actors = actors.new; next = eval_next_of result }
-        ≡ eval_dispatched (step_tables links.entry.now rows.now actors.old) slot count }
+    ensures { record { links = links.new; actors = actors.new; next = eval_next_of result }
+        ≡ eval_dispatched (step_tables links.old rows.now actors.old) slot count }
 {
     if 0 < count {
         let ns = state::deadline_of(actors, slot);
@@ -482,8 +482,8 @@ fn clock_reply(
     slot: usize,
     reply: Reply,
 ) -> EvalWords
-    ensures { record { links = links.exit.now; actors = actors.new; next = eval_next_of result }
-        ≡ eval_clock_reply (step_tables links.entry.now rows.now actors.old) slot reply }
+    ensures { record { links = links.new; actors = actors.new; next = eval_next_of result }
+        ≡ eval_clock_reply (step_tables links.old rows.now actors.old) slot reply }
 {
     let came = question::clock_in(reply);
     match came {
@@ -500,8 +500,8 @@ fn boot_reply(
     slot: usize,
     reply: Reply,
 ) -> EvalWords
-    ensures { record { links = links.exit.now; actors = actors.new; next = eval_next_of result }
-        ≡ boot_reply (step_tables links.entry.now rows.now actors.old) slot reply }
+    ensures { record { links = links.new; actors = actors.new; next = eval_next_of result }
+        ≡ boot_reply (step_tables links.old rows.now actors.old) slot reply }
 {
     let came = question::yes_in(reply);
     match came {
@@ -519,8 +519,8 @@ fn start_reply(
     limit: Limit,
     reply: Reply,
 ) -> EvalWords
-    ensures { record { links = links.exit.now; actors = actors.new; next = eval_next_of result }
-        ≡ start_reply links.entry.now actors.old slot limit reply }
+    ensures { record { links = links.new; actors = actors.new; next = eval_next_of result }
+        ≡ start_reply links.old actors.old slot limit reply }
 {
     let came = question::clock_in(reply);
     match came {
@@ -538,8 +538,8 @@ fn run_reply(
     start: bool,
     reply: Reply,
 ) -> EvalWords
-    ensures { record { links = links.exit.now; actors = actors.new; next = eval_next_of result }
-        ≡ eval_run_reply (step_tables links.entry.now rows.now actors.old) slot start reply }
+    ensures { record { links = links.new; actors = actors.new; next = eval_next_of result }
+        ≡ eval_run_reply (step_tables links.old rows.now actors.old) slot start reply }
 {
     let came = question::ran_in(reply);
     match came {
@@ -556,8 +556,8 @@ fn dispatch_reply(
     slot: usize,
     reply: Reply,
 ) -> EvalWords
-    ensures { record { links = links.exit.now; actors = actors.new; next = eval_next_of result }
-        ≡ eval_dispatch_reply (step_tables links.entry.now rows.now actors.old) slot reply }
+    ensures { record { links = links.new; actors = actors.new; next = eval_next_of result }
+        ≡ eval_dispatch_reply (step_tables links.old rows.now actors.old) slot reply }
 {
     let came = question::count_in(reply);
     match came {
@@ -575,8 +575,8 @@ fn tell_reply(
     outcome: Outcome,
     reply: Reply,
 ) -> EvalWords
-    ensures { record { links = links.exit.now; actors = actors.new; next = eval_next_of result }
-        ≡ tell_reply (step_tables links.entry.now rows.now actors.old) slot outcome reply }
+    ensures { record { links = links.new; actors = actors.new; next = eval_next_of result }
+        ≡ tell_reply (step_tables links.old rows.now actors.old) slot outcome reply }
 {
     let told = question::is_told(reply);
     if told {
@@ -597,8 +597,8 @@ pub fn step_eval(
     outcome: Outcome,
     reply: Reply,
 ) -> EvalWords
-    ensures { record { links = links.exit.now; actors = actors.new; next = eval_next_of result }
-        ≡ step_eval (step_tables links.entry.now rows.now actors.old) slot limit
+    ensures { record { links = links.new; actors = actors.new; next = eval_next_of result }
+        ≡ step_eval (step_tables links.old rows.now actors.old) slot limit
         (eval_ask_of ask outcome) reply }
 {
     match ask {

@@ -149,8 +149,8 @@ fn ends(step: StepWords) -> FixedWords
 
 // A step begins: the program is started the first time, and else resumed. The number of the question.
 pub fn fixed_start(actors: &mut [ActorRow], slot: usize) -> u64
-    ensures { record { actors = actors.exit.now; ask = fixed_ask_of (fixed_kind_of result) }
-        ≡ fixed_start actors.entry.now slot }
+    ensures { record { actors = actors.new; ask = fixed_ask_of (fixed_kind_of result) }
+        ≡ fixed_start actors.old slot }
 {
     let before = state::is_started(actors, slot);
     state::started_at(actors, slot);
@@ -159,7 +159,7 @@ pub fn fixed_start(actors: &mut [ActorRow], slot: usize) -> u64
 
 // It raised: the message that it was at goes to the step's hand.
 fn fixed_failed(links: &mut [LinkRow], slot: usize) -> FixedWords
-    ensures { record { links = links.exit.now; next = fixed_next_of result } ≡ fixed_failed links.entry.now slot }
+    ensures { record { links = links.new; next = fixed_next_of result } ≡ fixed_failed links.old slot }
 {
     let hand = lists::hand(slot);
     lists::move_first(links, hand, lists::HAND);
@@ -169,8 +169,8 @@ fn fixed_failed(links: &mut [LinkRow], slot: usize) -> FixedWords
 
 // Run came back. Back in receive() or at its end, the message that it had is over.
 fn fixed_ran(links: &mut [LinkRow], rows: &[MessageRow], slot: usize, status: Status) -> FixedWords
-    ensures { record { links = links.exit.now; next = fixed_next_of result }
-        ≡ fixed_ran links.entry.now rows.now slot status }
+    ensures { record { links = links.new; next = fixed_next_of result }
+        ≡ fixed_ran links.old rows.now slot status }
 {
     let hand = lists::hand(slot);
     match status {
@@ -206,8 +206,8 @@ fn fixed_drained(
     queued: u64,
     count: u64,
 ) -> FixedStep
-    ensures { record { links = links.exit.now; actors = actors.new; step = fixed_step_of result }
-        ≡ fixed_drained links.entry.now actors.old slot queued count }
+    ensures { record { links = links.new; actors = actors.new; step = fixed_step_of result }
+        ≡ fixed_drained links.old actors.old slot queued count }
 {
     if 0 < count {
         let next = asks(FixedKind::Resume);
@@ -240,8 +240,8 @@ fn fixed_pushed(
     queued: u64,
     taken: bool,
 ) -> FixedStep
-    ensures { record { links = links.exit.now; actors = actors.new; step = fixed_step_of result }
-        ≡ fixed_pushed links.entry.now actors.old slot queued taken }
+    ensures { record { links = links.new; actors = actors.new; step = fixed_step_of result }
+        ≡ fixed_pushed links.old actors.old slot queued taken }
 {
     if taken {
         state::consumed_at(actors, slot);
@@ -262,8 +262,8 @@ fn fixed_pushed(
 
 // Dispatch told how many host calls are in flight: it waits for them, and with none it is stuck.
 fn fixed_dispatched(links: &mut [LinkRow], slot: usize, count: u64) -> FixedWords
-    ensures { record { links = links.exit.now; next = fixed_next_of result }
-        ≡ fixed_dispatched links.entry.now slot count }
+    ensures { record { links = links.new; next = fixed_next_of result }
+        ≡ fixed_dispatched links.old slot count }
 {
     if 0 < count {
         let end = step::forever();
@@ -280,8 +280,8 @@ fn run_reply(
     start: bool,
     reply: Reply,
 ) -> FixedWords
-    ensures { record { links = links.exit.now; next = fixed_next_of result }
-        ≡ run_reply links.entry.now rows.now slot start reply }
+    ensures { record { links = links.new; next = fixed_next_of result }
+        ≡ run_reply links.old rows.now slot start reply }
 {
     let came = question::ran_in(reply);
     match came {
@@ -298,8 +298,8 @@ fn drain_reply(
     queued: u64,
     reply: Reply,
 ) -> FixedStep
-    ensures { record { links = links.exit.now; actors = actors.new; step = fixed_step_of result }
-        ≡ drain_reply links.entry.now actors.old slot queued reply }
+    ensures { record { links = links.new; actors = actors.new; step = fixed_step_of result }
+        ≡ drain_reply links.old actors.old slot queued reply }
 {
     let came = question::count_in(reply);
     match came {
@@ -319,8 +319,8 @@ fn push_reply(
     queued: u64,
     reply: Reply,
 ) -> FixedStep
-    ensures { record { links = links.exit.now; actors = actors.new; step = fixed_step_of result }
-        ≡ push_reply links.entry.now actors.old slot queued reply }
+    ensures { record { links = links.new; actors = actors.new; step = fixed_step_of result }
+        ≡ push_reply links.old actors.old slot queued reply }
 {
     let came = question::yes_in(reply);
     match came {
@@ -335,8 +335,8 @@ fn push_reply(
 
 // The reply to Dispatch; one that does not fit changes nothing.
 fn dispatch_reply(links: &mut [LinkRow], slot: usize, reply: Reply) -> FixedWords
-    ensures { record { links = links.exit.now; next = fixed_next_of result }
-        ≡ dispatch_reply links.entry.now slot reply }
+    ensures { record { links = links.new; next = fixed_next_of result }
+        ≡ dispatch_reply links.old slot reply }
 {
     let came = question::count_in(reply);
     match came {
@@ -355,8 +355,8 @@ pub fn step_fixed(
     ask: FixedKind,
     reply: Reply,
 ) -> FixedStep
-    ensures { record { links = links.exit.now; actors = actors.new; step = fixed_step_of result }
-        ≡ step_fixed (step_tables links.entry.now rows.now actors.old) slot queued
+    ensures { record { links = links.new; actors = actors.new; step = fixed_step_of result }
+        ≡ step_fixed (step_tables links.old rows.now actors.old) slot queued
         (fixed_ask_of ask) reply }
 {
     match ask {

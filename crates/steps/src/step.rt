@@ -239,8 +239,8 @@ pub fn idle_at(actors: &mut [ActorRow], slot: usize)
 
 // The first message of the mailbox goes to the step's hand; where there is none the actor is idle.
 pub fn take_mail(links: &mut [LinkRow], actors: &mut [ActorRow], slot: usize, queued: u64) -> Mail
-    ensures { record { links = links.exit.now; actors = actors.new; mail = result }
-        ≡ take_mail links.entry.now actors.old slot queued }
+    ensures { record { links = links.new; actors = actors.new; mail = result }
+        ≡ take_mail links.old actors.old slot queued }
 {
     let mailbox = lists::mailbox(slot);
     let waiting = lists::length_of(links, mailbox);

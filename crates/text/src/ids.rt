@@ -41,6 +41,7 @@ fn read_digits(s: &[u8]) -> IdRead
 }
 
 // Whether a 0 stands before another byte.
+#[tactic(auto, using(crate::proofs::IdLaws::zero_short, crate::proofs::IdLaws::zero_first))]
 fn leading_zero(s: &[u8]) -> bool
     ensures { result ≡ leading_zero s.now }
 {

@@ -1,8 +1,7 @@
 // A line reader that remembers the log and how far it has read, lent by `&mut`: each call hands back the next whole
 // line and moves on past it.
-// The work is in `next_at`, on a slice and a place. `reader` and `next`, which have the struct, and `next_from`, which
-// makes one, are proved by walks (tools/held.py). A pass over a file makes one reader and lends it to `next`, line by
-// line; `next_from` has plain parameters, so whoever reads a single line needs no walk.
+// The work is in `next_at`, on a slice and a place. A pass over a file makes one reader and lends it to `next`, line by
+// line; `next_from` has plain parameters, for whoever reads a single line.
 ghost use Rattle.std.specs.Prelude.{◌≡◌, drop};
 ghost use Rattle.text.specs.Format.{lines};
 ghost use Rattle.text.specs.Line.{first_text};

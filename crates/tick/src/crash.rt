@@ -79,8 +79,8 @@ fn crashed_entry(
     entry: usize,
     dead: u64,
 ) -> u64
-    ensures { record { links = links.exit.now; rows = rows.new; dead = result }
-        ≡ crashed_entry groups.now (dying links.entry.now rows.old dead) g from entry }
+    ensures { record { links = links.new; rows = rows.new; dead = result }
+        ≡ crashed_entry groups.now (dying links.old rows.old dead) g from entry }
 {
     let s = settings::group_at(groups, g);
     let retry = s.retry;
@@ -103,8 +103,8 @@ fn handle_crash(
     from: usize,
     dead: u64,
 ) -> u64
-    ensures { record { links = links.exit.now; rows = rows.new; dead = result }
-        ≡ handle_crash groups.now (dying links.entry.now rows.old dead) g from }
+    ensures { record { links = links.new; rows = rows.new; dead = result }
+        ≡ handle_crash groups.now (dying links.old rows.old dead) g from }
 {
     match lists::first(links, from) {
         Found::Entry(e) => crashed_entry(groups, links, rows, g, from, e, dead),
@@ -120,8 +120,8 @@ pub fn crash(
     c: Cursor,
     losses: Losses,
 ) -> Losses
-    ensures { record { links = links.exit.now; rows = rows.new; losses = result }
-        ≡ crash_of groups.now links.entry.now rows.old c losses }
+    ensures { record { links = links.new; rows = rows.new; losses = result }
+        ≡ crash_of groups.now links.old rows.old c losses }
 {
     let crashes = lists::saturating_add(losses.crashes, 1);
     let dead = handle_crash(groups, links, rows, c.group, lists::HAND, losses.dead);
@@ -144,7 +144,7 @@ fn trapped_next(keys: &[KeyRow], c: Cursor, from: u8) -> Where
 
 // The reply to Trap; one that does not fit changes nothing.
 pub fn trap_reply(keys: &mut [KeyRow], c: Cursor, reply: Reply) -> Where
-    ensures { record { keys = keys.exit.now; at = at_of result } ≡ trap_reply keys.entry.now c reply }
+    ensures { record { keys = keys.new; at = at_of result } ≡ trap_reply keys.old c reply }
 {
     let came = question::yes_in(reply);
     match came {
@@ -170,7 +170,7 @@ fn next_asked(key: u8) -> u8
 
 // The reply to Trapped; one that does not fit changes nothing.
 pub fn trapped_reply(keys: &mut [KeyRow], c: Cursor, key: u8, reply: Reply) -> Where
-    ensures { record { keys = keys.exit.now; at = at_of result } ≡ trapped_reply keys.entry.now c key reply }
+    ensures { record { keys = keys.new; at = at_of result } ≡ trapped_reply keys.old c key reply }
 {
     let came = question::yes_in(reply);
     let after = next_asked(key);
@@ -196,9 +196,9 @@ fn crash_trapped_key(
     queued: u64,
     losses: Losses,
 ) -> Crashed
-    ensures { record { links = links.exit.now; rows = rows.new; keys = keys.new; crashed = crashed_of result }
+    ensures { record { links = links.new; rows = rows.new; keys = keys.new; crashed = crashed_of result }
         ≡ crash_trapped_key groups.now
-        (retiring links.entry.now rows.old keys.old queued losses) c key left }
+        (retiring links.old rows.old keys.old queued losses) c key left }
 {
     let slot = roster::slot_at(c.group, key);
     settle::retire(keys, c.group, key);
@@ -230,9 +230,9 @@ pub fn crash_trapped(
     queued: u64,
     losses: Losses,
 ) -> Crashed
-    ensures { record { links = links.exit.now; rows = rows.new; keys = keys.new; crashed = crashed_of result }
+    ensures { record { links = links.new; rows = rows.new; keys = keys.new; crashed = crashed_of result }
         ≡ crash_trapped groups.now
-        (retiring links.entry.now rows.old keys.old queued losses) c left }
+        (retiring links.old rows.old keys.old queued losses) c left }
 {
     let next = at::ready_after(c);
     if left == 0 {

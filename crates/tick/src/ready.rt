@@ -38,7 +38,7 @@ fn rests(actors: &[ActorRow], slot: usize, waiting: u64) -> bool
 
 // A step of a fixed actor begins.
 fn begin_fixed(actors: &mut [ActorRow], c: Cursor, slot: usize) -> Where
-    ensures { record { actors = actors.exit.now; at = at_of result } ≡ begin_fixed actors.entry.now c slot }
+    ensures { record { actors = actors.new; at = at_of result } ≡ begin_fixed actors.old c slot }
 {
     let ask = fixed::fixed_start(actors, slot);
     words::fixed(c, ask)
@@ -52,8 +52,8 @@ fn begin_eval(
     slot: usize,
     queued: u64,
 ) -> Begun
-    ensures { record { links = links.exit.now; actors = actors.new; begun = begun_of result }
-        ≡ begin_eval links.entry.now actors.old c slot queued }
+    ensures { record { links = links.new; actors = actors.new; begun = begun_of result }
+        ≡ begin_eval links.old actors.old c slot queued }
 {
     let s = eval::eval_start(links, actors, slot, queued);
     let next = s.next;
@@ -73,8 +73,8 @@ fn begin_step(
     slot: usize,
     queued: u64,
 ) -> Begun
-    ensures { record { links = links.exit.now; actors = actors.new; begun = begun_of result }
-        ≡ begin_step links.entry.now actors.old c slot queued }
+    ensures { record { links = links.new; actors = actors.new; begun = begun_of result }
+        ≡ begin_step links.old actors.old c slot queued }
 {
     let mode = state::mode_at(actors, slot);
     state::began_at(actors, slot);
@@ -100,8 +100,8 @@ fn ready_key(
     queued: u64,
     stepped: bool,
 ) -> Begun
-    ensures { record { links = links.exit.now; actors = actors.new; begun = begun_of result }
-        ≡ ready_key (readying links.entry.now keys.now actors.old queued stepped) c }
+    ensures { record { links = links.new; actors = actors.new; begun = begun_of result }
+        ≡ ready_key (readying links.old keys.now actors.old queued stepped) c }
 {
     let next = at::ready_after(c);
     let there = roster::live(keys, c.group, c.key);
@@ -137,8 +137,8 @@ pub fn ready(
     clock: u64,
     pops: u64,
 ) -> Begun
-    ensures { record { links = links.exit.now; keys = keys.new; actors = actors.new; begun = begun_of result }
-        ≡ ready_of (readying links.entry.now keys.old actors.old queued stepped) g
+    ensures { record { links = links.new; keys = keys.new; actors = actors.new; begun = begun_of result }
+        ≡ ready_of (readying links.old keys.old actors.old queued stepped) g
         clock pops }
 {
     let after = at::next_group(g);

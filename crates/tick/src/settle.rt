@@ -57,8 +57,8 @@ fn leftover(
     consumed: bool,
     queued: u64,
 ) -> u64
-    ensures { record { links = links.exit.now; queued = result }
-        ≡ leftover_of links.entry.now rows.now slot consumed queued }
+    ensures { record { links = links.new; queued = result }
+        ≡ leftover_of links.old rows.now slot consumed queued }
 {
     let mailbox = lists::mailbox(slot);
     let before = lists::length_of(links, mailbox);
@@ -83,9 +83,9 @@ fn release(
     c: Cursor,
     queued: u64,
 ) -> u64
-    ensures { record { links = links.exit.now; keys = keys.new; queued = result }
+    ensures { record { links = links.new; keys = keys.new; queued = result }
         ≡ release_of rows.now
-        (turn_tables links.entry.now keys.old actors.now queued) c }
+        (turn_tables links.old keys.old actors.now queued) c }
 {
     let slot = roster::slot_at(c.group, c.key);
     let consumed = state::has_consumed(actors, slot);
@@ -95,8 +95,8 @@ fn release(
 
 // Parked on a host call, it waits.
 fn block_at(keys: &mut [KeyRow], actors: &mut [ActorRow], c: Cursor, until: Wake)
-    ensures { record { keys = keys.exit.now; actors = actors.new }
-        ≡ block_at keys.entry.now actors.old c until }
+    ensures { record { keys = keys.new; actors = actors.new }
+        ≡ block_at keys.old actors.old c until }
 {
     let slot = roster::slot_at(c.group, c.key);
     state::blocked_at(actors, slot, until);
@@ -106,8 +106,8 @@ fn block_at(keys: &mut [KeyRow], actors: &mut [ActorRow], c: Cursor, until: Wake
 
 // It handed the thread on: it runs again from the back of the ready list.
 fn yield_at(keys: &mut [KeyRow], actors: &mut [ActorRow], c: Cursor)
-    ensures { record { keys = keys.exit.now; actors = actors.new }
-        ≡ yield_at keys.entry.now actors.old c }
+    ensures { record { keys = keys.new; actors = actors.new }
+        ≡ yield_at keys.old actors.old c }
 {
     let slot = roster::slot_at(c.group, c.key);
     state::yielded_at(actors, slot);
@@ -116,8 +116,8 @@ fn yield_at(keys: &mut [KeyRow], actors: &mut [ActorRow], c: Cursor)
 
 // An actor that goes on is put into a list of its group: idle, waiting or ready.
 fn park(keys: &mut [KeyRow], actors: &mut [ActorRow], c: Cursor, step: StepWords)
-    ensures { record { keys = keys.exit.now; actors = actors.new }
-        ≡ park_at keys.entry.now actors.old c (parked_of step) }
+    ensures { record { keys = keys.new; actors = actors.new }
+        ≡ park_at keys.old actors.old c (parked_of step) }
 {
     let parked = step::parked_kind(step.end);
     match parked {
@@ -142,13 +142,13 @@ pub fn settle(
     queued: u64,
 ) -> Settled
     ensures { record {
-      links = links.exit.now;
+      links = links.new;
       keys = keys.new;
       actors = actors.new;
       settled = settled_of result;
     }
         ≡ settle_of rows.now
-        (turn_tables links.entry.now keys.old actors.old queued) c (step_of step) }
+        (turn_tables links.old keys.old actors.old queued) c (step_of step) }
 {
     let next = at::ready_after(c);
     let kind = step::step_kind(step.end);

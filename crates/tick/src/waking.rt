@@ -27,7 +27,7 @@ fn at_most_64(n: u64) -> u64
 
 // A group's waiting list is gone through from its front, and grows anew; past the last group the turn is over.
 pub fn wake(keys: &mut [KeyRow], count: usize, g: usize, clock: u64) -> Where
-    ensures { record { keys = keys.exit.now; at = at_of result } ≡ wake_of keys.entry.now count g clock }
+    ensures { record { keys = keys.new; at = at_of result } ≡ wake_of keys.old count g clock }
 {
     if count <= g {
         return words::rest();
@@ -67,8 +67,8 @@ fn polls(actors: &[ActorRow], slot: usize) -> bool
 
 // Awake, it is queued to run; else it waits on, unless it is idle.
 fn woken_to(keys: &mut [KeyRow], actors: &mut [ActorRow], g: usize, key: u8, awake: bool)
-    ensures { record { keys = keys.exit.now; actors = actors.new }
-        ≡ woken_to keys.entry.now actors.old g key awake }
+    ensures { record { keys = keys.new; actors = actors.new }
+        ≡ woken_to keys.old actors.old g key awake }
 {
     let slot = roster::slot_at(g, key);
     let idle = state::is_idle(actors, slot);
@@ -93,8 +93,8 @@ fn wake_one(
     clock: u64,
     left: u64,
 ) -> Where
-    ensures { record { keys = keys.exit.now; actors = actors.new; at = at_of result }
-        ≡ wake_one (keyed keys.entry.now actors.old) g key clock left }
+    ensures { record { keys = keys.new; actors = actors.new; at = at_of result }
+        ≡ wake_one (keyed keys.old actors.old) g key clock left }
 {
     let there = roster::live(keys, g, key);
     if there {
@@ -123,8 +123,8 @@ pub fn wake_next(
     clock: u64,
     left: u64,
 ) -> Where
-    ensures { record { keys = keys.exit.now; actors = actors.new; at = at_of result }
-        ≡ wake_next (keyed keys.entry.now actors.old) g clock left }
+    ensures { record { keys = keys.new; actors = actors.new; at = at_of result }
+        ≡ wake_next (keyed keys.old actors.old) g clock left }
 {
     let n = keys::count_at(keys, roster::ready_row(g)) as u64;
     let pops = at_most_64(n);
@@ -151,8 +151,8 @@ pub fn poll_reply(
     left: u64,
     reply: Reply,
 ) -> Where
-    ensures { record { keys = keys.exit.now; actors = actors.new; at = at_of result }
-        ≡ poll_reply (keyed keys.entry.now actors.old) (who_of g key) clock left reply }
+    ensures { record { keys = keys.new; actors = actors.new; at = at_of result }
+        ≡ poll_reply (keyed keys.old actors.old) (who_of g key) clock left reply }
 {
     let came = question::count_in(reply);
     match came {

@@ -120,7 +120,7 @@ pub(crate) fn go(
 )
     ensures { (bytes : List ℕ) (records : Table) →
         record {
-          pool = pool_of pool.exit.now;
+          pool = pool_of pool.new;
           bytes = bytes;
           records = records;
           store = store.now;
@@ -132,7 +132,7 @@ pub(crate) fn go(
         }
         ≡ go_of
         (record {
-          pool = pool_of pool.entry.now;
+          pool = pool_of pool.old;
           bytes = bytes;
           records = records;
           store = store.now;

@@ -68,7 +68,7 @@ pub fn resume(
 )
     ensures { (bytes : List ℕ) (records : Table) (store : List ℕ) →
         record {
-          pool = pool_of pool.exit.now;
+          pool = pool_of pool.new;
           bytes = bytes;
           records = records;
           store = store;
@@ -80,7 +80,7 @@ pub fn resume(
         }
         ≡ resume_of
         (record {
-          pool = pool_of pool.entry.now;
+          pool = pool_of pool.old;
           bytes = bytes;
           records = records;
           store = store;

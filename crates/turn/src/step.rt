@@ -23,7 +23,7 @@ use points::words::{AtKind, Where};
 fn mark_logged(pool: &mut PoolCells, log: &mut [u8], records: &mut [RecordRow], id: LogId)
     ensures { (store : List ℕ) (groups links rows keys actors : Table) →
         record {
-          pool = pool_of pool.exit.now;
+          pool = pool_of pool.new;
           bytes = log.new;
           records = records.new;
           store = store;
@@ -35,7 +35,7 @@ fn mark_logged(pool: &mut PoolCells, log: &mut [u8], records: &mut [RecordRow], 
         }
         ≡ mark_logged
         (record {
-          pool = pool_of pool.entry.now;
+          pool = pool_of pool.old;
           bytes = log.old;
           records = records.old;
           store = store;
@@ -66,7 +66,7 @@ fn mark_first(
 )
     ensures { (store : List ℕ) (groups keys actors : Table) →
         record {
-          pool = pool_of pool.exit.now;
+          pool = pool_of pool.new;
           bytes = log.new;
           records = records.new;
           store = store;
@@ -78,7 +78,7 @@ fn mark_first(
         }
         ≡ mark_first
         (record {
-          pool = pool_of pool.entry.now;
+          pool = pool_of pool.old;
           bytes = log.old;
           records = records.old;
           store = store;
@@ -113,7 +113,7 @@ fn mark_at(
 )
     ensures { (store : List ℕ) (groups keys actors : Table) →
         record {
-          pool = pool_of pool.exit.now;
+          pool = pool_of pool.new;
           bytes = log.new;
           records = records.new;
           store = store;
@@ -125,7 +125,7 @@ fn mark_at(
         }
         ≡ mark_at
         (record {
-          pool = pool_of pool.entry.now;
+          pool = pool_of pool.old;
           bytes = log.old;
           records = records.old;
           store = store;
@@ -153,7 +153,7 @@ fn retry_logged(
 )
     ensures { (store : List ℕ) (groups links rows keys actors : Table) →
         record {
-          pool = pool_of pool.exit.now;
+          pool = pool_of pool.new;
           bytes = log.new;
           records = records.new;
           store = store;
@@ -165,7 +165,7 @@ fn retry_logged(
         }
         ≡ retry_logged
         (record {
-          pool = pool_of pool.entry.now;
+          pool = pool_of pool.old;
           bytes = log.old;
           records = records.old;
           store = store;
@@ -195,7 +195,7 @@ fn retry_entry(
 )
     ensures { (store : List ℕ) (groups links keys actors : Table) →
         record {
-          pool = pool_of pool.exit.now;
+          pool = pool_of pool.new;
           bytes = log.new;
           records = records.new;
           store = store;
@@ -207,7 +207,7 @@ fn retry_entry(
         }
         ≡ retry_entry
         (record {
-          pool = pool_of pool.entry.now;
+          pool = pool_of pool.old;
           bytes = log.old;
           records = records.old;
           store = store;
@@ -246,7 +246,7 @@ fn run_point(
     w: Where,
 )
     ensures { record {
-      pool = pool_of pool.exit.now;
+      pool = pool_of pool.new;
       bytes = log.new;
       records = records.new;
       store = store.now;
@@ -258,7 +258,7 @@ fn run_point(
     }
         ≡ ran_of
         (record {
-          pool = pool_of pool.entry.now;
+          pool = pool_of pool.old;
           bytes = log.old;
           records = records.old;
           store = store.now;
@@ -288,7 +288,7 @@ fn step(
     actors: &mut [ActorRow],
 )
     ensures { record {
-      pool = pool_of pool.exit.now;
+      pool = pool_of pool.new;
       bytes = log.new;
       records = records.new;
       store = store.now;
@@ -300,7 +300,7 @@ fn step(
     }
         ≡ turn_step
         (record {
-          pool = pool_of pool.entry.now;
+          pool = pool_of pool.old;
           bytes = log.old;
           records = records.old;
           store = store.now;
@@ -341,7 +341,7 @@ pub fn advance(
     actors: &mut [ActorRow],
 )
     ensures { record {
-      pool = pool_of pool.exit.now;
+      pool = pool_of pool.new;
       bytes = log.new;
       records = records.new;
       store = store.now;
@@ -353,7 +353,7 @@ pub fn advance(
     }
         ≡ advanced
         (record {
-          pool = pool_of pool.entry.now;
+          pool = pool_of pool.old;
           bytes = log.old;
           records = records.old;
           store = store.now;

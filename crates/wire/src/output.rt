@@ -31,8 +31,8 @@ fn fits_behind(at: usize, n: usize, long: usize) -> bool
 
 // Bytes.
 pub fn output_bytes(out: &mut [u8], d: Done, s: &[u8]) -> Done
-    ensures { record { out = out.exit.now; at = result.at; code = result.code }
-        ≡ output (record { out = out.entry.now; at = d.at; code = d.code }) s.now }
+    ensures { record { out = out.new; at = result.at; code = result.code }
+        ≡ output (record { out = out.old; at = d.at; code = d.code }) s.now }
 {
     if d.code == 0 {
         let at = d.at;
@@ -47,8 +47,8 @@ pub fn output_bytes(out: &mut [u8], d: Done, s: &[u8]) -> Done
 
 // Numbers.
 pub fn output_numbers(out: &mut [u8], d: Done, ns: &[u64]) -> Done
-    ensures { record { out = out.exit.now; at = result.at; code = result.code }
-        ≡ output (record { out = out.entry.now; at = d.at; code = d.code }) (numbers ns.now) }
+    ensures { record { out = out.new; at = result.at; code = result.code }
+        ≡ output (record { out = out.old; at = d.at; code = d.code }) (numbers ns.now) }
 {
     if d.code == 0 {
         let at = d.at;
@@ -63,8 +63,8 @@ pub fn output_numbers(out: &mut [u8], d: Done, ns: &[u64]) -> Done
 
 // The table of open records.
 pub fn output_records(out: &mut [u8], d: Done, t: &[RecordRow]) -> Done
-    ensures { record { out = out.exit.now; at = result.at; code = result.code }
-        ≡ output_rows (record { out = out.entry.now; at = d.at; code = d.code }) t.now }
+    ensures { record { out = out.new; at = result.at; code = result.code }
+        ≡ output_rows (record { out = out.old; at = d.at; code = d.code }) t.now }
 {
     let mut e = d;
     let mut i: usize = 0;
@@ -79,8 +79,8 @@ pub fn output_records(out: &mut [u8], d: Done, t: &[RecordRow]) -> Done
 
 // The table of links.
 pub fn output_links(out: &mut [u8], d: Done, t: &[LinkRow]) -> Done
-    ensures { record { out = out.exit.now; at = result.at; code = result.code }
-        ≡ output_rows (record { out = out.entry.now; at = d.at; code = d.code }) t.now }
+    ensures { record { out = out.new; at = result.at; code = result.code }
+        ≡ output_rows (record { out = out.old; at = d.at; code = d.code }) t.now }
 {
     let mut e = d;
     let mut i: usize = 0;
@@ -95,8 +95,8 @@ pub fn output_links(out: &mut [u8], d: Done, t: &[LinkRow]) -> Done
 
 // The table of messages.
 pub fn output_messages(out: &mut [u8], d: Done, t: &[MessageRow]) -> Done
-    ensures { record { out = out.exit.now; at = result.at; code = result.code }
-        ≡ output_rows (record { out = out.entry.now; at = d.at; code = d.code }) t.now }
+    ensures { record { out = out.new; at = result.at; code = result.code }
+        ≡ output_rows (record { out = out.old; at = d.at; code = d.code }) t.now }
 {
     let mut e = d;
     let mut i: usize = 0;
@@ -111,8 +111,8 @@ pub fn output_messages(out: &mut [u8], d: Done, t: &[MessageRow]) -> Done
 
 // The table of actors.
 pub fn output_actors(out: &mut [u8], d: Done, t: &[ActorRow]) -> Done
-    ensures { record { out = out.exit.now; at = result.at; code = result.code }
-        ≡ output_rows (record { out = out.entry.now; at = d.at; code = d.code }) t.now }
+    ensures { record { out = out.new; at = result.at; code = result.code }
+        ≡ output_rows (record { out = out.old; at = d.at; code = d.code }) t.now }
 {
     let mut e = d;
     let mut i: usize = 0;
@@ -127,8 +127,8 @@ pub fn output_actors(out: &mut [u8], d: Done, t: &[ActorRow]) -> Done
 
 // The table of groups.
 pub fn output_groups(out: &mut [u8], d: Done, t: &[GroupRow]) -> Done
-    ensures { record { out = out.exit.now; at = result.at; code = result.code }
-        ≡ output_rows (record { out = out.entry.now; at = d.at; code = d.code }) t.now }
+    ensures { record { out = out.new; at = result.at; code = result.code }
+        ≡ output_rows (record { out = out.old; at = d.at; code = d.code }) t.now }
 {
     let mut e = d;
     let mut i: usize = 0;
@@ -143,8 +143,8 @@ pub fn output_groups(out: &mut [u8], d: Done, t: &[GroupRow]) -> Done
 
 // The lists of keys.
 pub fn output_keys(out: &mut [u8], d: Done, t: &[KeyRow]) -> Done
-    ensures { record { out = out.exit.now; at = result.at; code = result.code }
-        ≡ output_keys (record { out = out.entry.now; at = d.at; code = d.code }) t.now }
+    ensures { record { out = out.new; at = result.at; code = result.code }
+        ≡ output_keys (record { out = out.old; at = d.at; code = d.code }) t.now }
 {
     let mut e = d;
     let mut i: usize = 0;

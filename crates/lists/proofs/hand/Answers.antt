@@ -1,5 +1,4 @@
--- `hand` meets its contract: each way out follows from what the calls ensured and the tests said. Mechanical
--- answers, as tools/answers.py writes them. Assumes nothing.
+-- `hand` meets its contract: each way out follows from what the calls ensured and the tests said. Mechanical answers. Assumes nothing.
 use borrow.Author.Tests.{le-ltb, lt-ltb}
 use Rattle.lists.specs.Links.{hand_of}
 use Rattle.lists.proofs.hand.Goals as goal

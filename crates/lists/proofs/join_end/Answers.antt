@@ -1,5 +1,4 @@
--- `join_end` meets its contract: each way out follows from what the calls ensured and the tests said. Mechanical
--- answers, as tools/answers.py writes them. Assumes nothing.
+-- `join_end` meets its contract: each way out follows from what the calls ensured and the tests said. Mechanical answers. Assumes nothing.
 use borrow.Author.Tests.{eq-eqb, ne_eqb}
 use Rattle.lists.specs.Links.{join_end}
 use Rattle.lists.proofs.join_end.Goals as goal

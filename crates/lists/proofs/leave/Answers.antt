@@ -1,5 +1,4 @@
--- `leave` meets its contract: each way out follows from what the calls ensured and the tests said. Mechanical
--- answers, as tools/answers.py writes them. Assumes nothing.
+-- `leave` meets its contract: each way out follows from what the calls ensured and the tests said. Mechanical answers. Assumes nothing.
 use Rattle.lists.specs.Links.{leave_of}
 use Rattle.lists.proofs.leave.Goals as goal
 

@@ -1,5 +1,4 @@
--- `length_of` meets its contract: each way out follows from what the calls ensured and the tests said. Mechanical
--- answers, as tools/answers.py writes them. Assumes nothing.
+-- `length_of` meets its contract: each way out follows from what the calls ensured and the tests said. Mechanical answers. Assumes nothing.
 use Rattle.lists.proofs.length_of.Goals as goal
 
 pub returns : goal.returns

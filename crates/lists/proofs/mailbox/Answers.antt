@@ -1,5 +1,4 @@
--- `mailbox` meets its contract: each way out follows from what the calls ensured and the tests said. Mechanical
--- answers, as tools/answers.py writes them. Assumes nothing.
+-- `mailbox` meets its contract: each way out follows from what the calls ensured and the tests said. Mechanical answers. Assumes nothing.
 use borrow.Author.Tests.{le-ltb, lt-ltb}
 use Rattle.lists.specs.Links.{mailbox_of}
 use Rattle.lists.proofs.mailbox.Goals as goal

@@ -1,5 +1,4 @@
--- `move_all_lem` meets its contract: each way out follows from what the calls ensured and the tests said. Mechanical
--- answers, as tools/answers.py writes them. Assumes nothing.
+-- `move_all_lem` meets its contract: each way out follows from what the calls ensured and the tests said. Mechanical answers. Assumes nothing.
 use borrow.Author.Tests.{eq-eqb, le-leb, lt-leb, ne_eqb}
 use Rattle.lists.specs.Links.{move_all}
 use Rattle.lists.proofs.move_all.Goals as goal

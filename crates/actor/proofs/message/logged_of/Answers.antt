@@ -1,5 +1,4 @@
--- `message::logged_of` meets its contract: each way out follows from what the calls ensured and the tests said. Mechanical
--- answers, as tools/answers.py writes them. Assumes nothing.
+-- `message::logged_of` meets its contract: each way out follows from what the calls ensured and the tests said. Mechanical answers. Assumes nothing.
 use borrow.Author.Tests.{eq-eqb, ne_eqb}
 use Rattle.actor.proofs.message.logged_of.Goals as goal
 

@@ -1,5 +1,4 @@
--- `question::clock_in` meets its contract: each way out follows from what the calls ensured and the tests said. Mechanical
--- answers, as tools/answers.py writes them. Assumes nothing.
+-- `question::clock_in` meets its contract: each way out follows from what the calls ensured and the tests said. Mechanical answers. Assumes nothing.
 use Rattle.actor.proofs.question.clock_in.Goals as goal
 
 pub returns-in-Yes : goal.returns-in-Yes

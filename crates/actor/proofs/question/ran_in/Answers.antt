@@ -1,5 +1,4 @@
--- `question::ran_in` meets its contract: each way out follows from what the calls ensured and the tests said. Mechanical
--- answers, as tools/answers.py writes them. Assumes nothing.
+-- `question::ran_in` meets its contract: each way out follows from what the calls ensured and the tests said. Mechanical answers. Assumes nothing.
 use Rattle.actor.proofs.question.ran_in.Goals as goal
 
 pub returns-in-Yes : goal.returns-in-Yes

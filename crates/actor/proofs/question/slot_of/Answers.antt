@@ -1,5 +1,4 @@
--- `question::slot_of` meets its contract: each way out follows from what the calls ensured and the tests said. Mechanical
--- answers, as tools/answers.py writes them. Assumes nothing.
+-- `question::slot_of` meets its contract: each way out follows from what the calls ensured and the tests said. Mechanical answers. Assumes nothing.
 use borrow.Author.Tests.{le-leb, lt-leb}
 use Rattle.actor.specs.Questions.{slot_of}
 use Rattle.actor.proofs.question.slot_of.Goals as goal

@@ -1,5 +1,4 @@
--- `keys::append` meets its contract: each way out follows from what the calls ensured and the tests said. Mechanical
--- answers, as tools/answers.py writes them. Assumes nothing.
+-- `keys::append` meets its contract: each way out follows from what the calls ensured and the tests said. Mechanical answers. Assumes nothing.
 use borrow.Author.Tests.{le-ltb, lt-ltb}
 use Rattle.lists.specs.KeyLists.{key_appended}
 use Rattle.lists.proofs.keys.append.Goals as goal

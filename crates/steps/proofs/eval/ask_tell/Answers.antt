@@ -1,5 +1,4 @@
--- `eval::ask_tell` meets its contract: each way out follows from what the calls ensured and the tests said. Mechanical
--- answers, as tools/answers.py writes them. Assumes nothing.
+-- `eval::ask_tell` meets its contract: each way out follows from what the calls ensured and the tests said. Mechanical answers. Assumes nothing.
 use Rattle.steps.proofs.eval.ask_tell.Goals as goal
 
 pub returns-in-From : goal.returns-in-From

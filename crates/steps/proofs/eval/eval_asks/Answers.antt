@@ -1,5 +1,5 @@
 -- `eval::eval_asks` meets its contract: each way out follows from what the calls ensured and the tests said.
--- Mechanical answers, as tools/answers.py writes them. Assumes nothing.
+-- Mechanical answers. Assumes nothing.
 use Rattle.steps.specs.StepEval.{eval_asks}
 use Rattle.steps.proofs.eval.eval_asks.Goals as goal
 

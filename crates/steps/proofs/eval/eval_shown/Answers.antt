@@ -1,5 +1,4 @@
--- `eval::eval_shown` meets its contract: each way out follows from what the calls ensured and the tests said. Mechanical
--- answers, as tools/answers.py writes them. Assumes nothing.
+-- `eval::eval_shown` meets its contract: each way out follows from what the calls ensured and the tests said. Mechanical answers. Assumes nothing.
 use Rattle.steps.specs.StepEval.{eval_shown}
 use Rattle.steps.proofs.eval.eval_shown.Goals as goal
 

@@ -1,5 +1,5 @@
 -- `eval::step_eval` meets its contract: each way out follows from what the calls ensured and the tests said.
--- Mechanical answers, as tools/answers.py writes them. Assumes nothing.
+-- Mechanical answers. Assumes nothing.
 use Rattle.steps.specs.StepEval.{step_eval}
 use Rattle.steps.proofs.eval.step_eval.Goals as goal
 

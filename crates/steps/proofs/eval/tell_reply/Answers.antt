@@ -1,5 +1,5 @@
 -- `eval::tell_reply` meets its contract: each way out follows from what the calls ensured and the tests said.
--- Mechanical answers, as tools/answers.py writes them. Assumes nothing.
+-- Mechanical answers. Assumes nothing.
 use Rattle.steps.specs.StepEval.{tell_reply}
 use Rattle.steps.proofs.eval.tell_reply.Goals as goal
 

@@ -1,5 +1,5 @@
 -- `fixed::asks_run` meets its contract: each way out follows from what the calls ensured and the tests said.
--- Mechanical answers, as tools/answers.py writes them. Assumes nothing.
+-- Mechanical answers. Assumes nothing.
 use Rattle.steps.proofs.fixed.asks_run.Goals as goal
 
 pub returns-then-start : goal.returns-then-start

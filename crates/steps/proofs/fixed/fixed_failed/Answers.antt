@@ -1,5 +1,5 @@
 -- `fixed::fixed_failed` meets its contract: each way out follows from what the calls ensured and the tests said.
--- Mechanical answers, as tools/answers.py writes them. Assumes nothing.
+-- Mechanical answers. Assumes nothing.
 use Rattle.steps.specs.StepFixed.{fixed_failed}
 use Rattle.steps.proofs.fixed.fixed_failed.Goals as goal
 

@@ -1,5 +1,4 @@
--- `step::idle_at` meets its contract: each way out follows from what the calls ensured and the tests said. Mechanical
--- answers, as tools/answers.py writes them. Assumes nothing.
+-- `step::idle_at` meets its contract: each way out follows from what the calls ensured and the tests said. Mechanical answers. Assumes nothing.
 use Rattle.steps.specs.Steps.{idled_at}
 use Rattle.steps.proofs.step.idle_at.Goals as goal
 

@@ -1,5 +1,4 @@
--- `step::over_first` meets its contract: each way out follows from what the calls ensured and the tests said. Mechanical
--- answers, as tools/answers.py writes them. Assumes nothing.
+-- `step::over_first` meets its contract: each way out follows from what the calls ensured and the tests said. Mechanical answers. Assumes nothing.
 use Rattle.steps.specs.Steps.{over_first}
 use Rattle.steps.proofs.step.over_first.Goals as goal
 

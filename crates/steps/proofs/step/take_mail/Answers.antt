@@ -1,5 +1,4 @@
--- `step::take_mail` meets its contract: each way out follows from what the calls ensured and the tests said. Mechanical
--- answers, as tools/answers.py writes them. Assumes nothing.
+-- `step::take_mail` meets its contract: each way out follows from what the calls ensured and the tests said. Mechanical answers. Assumes nothing.
 use borrow.Author.Tests.{eq-eqb, ne_eqb}
 use Rattle.steps.specs.Steps.{take_mail}
 use Rattle.steps.proofs.step.take_mail.Goals as goal
