@@ -1,5 +1,5 @@
 -- `play::step` meets its contract: by the call, each the definition of what was called. Assumes nothing.
-use mathlib.Core.Path.{refl}
+use Rattle.std.proofs.Common.{rules}
 use Rattle.theorem.specs.Rail.{call_of}
 use Rattle.replay.proofs.play.step.Goals as goal
 
@@ -26,7 +26,7 @@ returns-in-Reply c =
 
 pub returns-in-Sync : goal.returns-in-Sync
 unfolding call_of
-returns-in-Sync c = simp c.in-Sync.is (c.sync.ensures _ _ _ _ _ _ _ _)
+returns-in-Sync c = simp c.in-Sync.is (search rules)
 
 pub returns-in-Close : goal.returns-in-Close
 unfolding call_of
