@@ -78,35 +78,35 @@ fn main() {
     let here = PathBuf::from(env::var("CARGO_MANIFEST_DIR").unwrap());
     let out = PathBuf::from(env::var("OUT_DIR").unwrap());
     if env::var_os("CARGO_FEATURE_PORT").is_some() {
-        println!("cargo::rerun-if-env-changed=FELDWYGOR_LIB");
-        if !link(&here, "replay_c") {
-            println!(
-                "cargo::error=the port is not built: no libreplay_c.a (rt lib in crates/replay_c, or FELDWYGOR_LIB)"
-            );
-        }
-        // the calls one at a time, which `bench` alone measures; where they are not built, it says so
-        if link(&here, "drive") {
-            println!("cargo::rustc-cfg=drive");
-        }
+        let folder = here.join(env::var("FELDWYGOR_LIB").unwrap_or("../target/staticlib".into()));
+        link_port(&folder);
+        link_drive(&folder);
     }
     if take_rust(&here, &out) && compile_slab(&out) {
         println!("cargo::rustc-cfg=oracle");
     }
 }
 
-/// Links the static library of a crate, if it is built: it lies in the crate's out/, where `rt lib` puts it, or in the
-/// folder that FELDWYGOR_LIB names.
-fn link(here: &Path, name: &str) -> bool {
-    let built = here.join("../crates").join(name).join("out");
-    let folder = env::var("FELDWYGOR_LIB").map_or(built, |named| here.join(named));
-    let archive = folder.join(format!("lib{name}.a"));
+fn link_port(folder: &Path) {
+    println!("cargo::rerun-if-env-changed=FELDWYGOR_LIB");
+    let archive = folder.join("libreplay.a");
     println!("cargo::rerun-if-changed={}", archive.display());
     if !archive.exists() {
-        return false;
+        println!("cargo::error=the port is not built: no libreplay.a (tools/archives replay, or FELDWYGOR_LIB)");
+        return;
     }
     println!("cargo::rustc-link-search=native={}", folder.display());
-    println!("cargo::rustc-link-lib=static={name}");
-    true
+    println!("cargo::rustc-link-lib=static=replay");
+}
+
+/// The calls one at a time, which `bench` alone measures; where they are not built, it says so.
+fn link_drive(folder: &Path) {
+    let archive = folder.join("libdrive.a");
+    println!("cargo::rerun-if-changed={}", archive.display());
+    if archive.exists() {
+        println!("cargo::rustc-link-lib=static=drive");
+        println!("cargo::rustc-cfg=drive");
+    }
 }
 
 /// True where the Rust is at hand and is what the swaps were written for.

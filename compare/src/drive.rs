@@ -214,7 +214,7 @@ impl Block {
 #[cfg(not(drive))]
 impl Block {
     pub fn open(&mut self, _: &Settings, _: Vec<u8>, _: usize) -> Said {
-        panic!("built without crates/drive (rt lib, in its folder)")
+        panic!("built without crates/drive (tools/archives drive)")
     }
 
     pub fn admit(&mut self, _: &[u8], _: &[u8], _: Option<u64>) -> Said {

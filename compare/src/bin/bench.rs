@@ -92,7 +92,7 @@ fn run(runs: usize) {
     if drive::AT_HAND {
         table::driven(&rows);
     } else {
-        println!("The port call by call is not built: rt lib, in the folder crates/drive.");
+        println!("The port call by call is not built: tools/archives drive.");
     }
     println!();
     let opened: Vec<Opened> = files().into_iter().map(|(what, file)| opened(what, file, runs, &path)).collect();
