@@ -3,8 +3,8 @@
 // list k, and the entry after entry k. Its one invariant is `Good` (specs/Family.antt): the links are well formed, and
 // every entry stands in one list, at one place. Every operation takes constant time (but `start`, which writes every
 // row), requires nothing, and equals a definition of specs/Links.antt whatever the table holds. What each does to
-// every list is said by theorems: `move_first_lem`, `move_first_to_front_lem`, `move_all` (proofs/Moves.antt), `first_is`,
-// `after_is`, `no_circle`, `nowhere_else` (proofs/Family.antt), `started` (proofs/AtStart.antt).
+// every list is said by theorems: `move_first_lem`, `move_first_to_front_lem`, `move_all_lem` (proofs/Moves.antt),
+// `first_is`, `after_is`, `no_circle`, `nowhere_else` (proofs/Family.antt), `started` (proofs/AtStart.antt).
 #![tactic(auto)]
 
 ghost use Rattle.std.specs.Prelude.{◌≡◌, ◌+◌, ◌-◌, ◌<◌, [], length};

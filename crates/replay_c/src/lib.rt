@@ -1,5 +1,5 @@
 // The pool for a host in another language: the C function `replay`, which is that of crates/replay and promises the
-// same. Its header is in docs/PROTOCOL.md; `rt lib`, in this folder, builds out/libreplay_c.a.
+// same. Its header is in docs/PROTOCOL.md; tools/archives builds libreplay.a of it.
 #![tactic(auto)]
 
 ghost use Rattle.std.specs.Prelude.{◌≡◌};

@@ -1,4 +1,4 @@
--- `saturating-add` meets its contract: the test says whether the sum fits. Assumes nothing.
+-- `saturating_add` meets its contract: the test says whether the sum fits. Assumes nothing.
 use Prim.Native.Nat.{◌+◌, ◌≤◌, ◌<◌}
 use native.Mathlib.Omega.{arith}
 use Rattle.lists.specs.Links.{capped}

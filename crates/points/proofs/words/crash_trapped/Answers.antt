@@ -1,4 +1,4 @@
--- `words::crash-trapped` meets its contract: the key's word means the key. Assumes nothing.
+-- `words::crash_trapped` meets its contract: the key's word means the key. Assumes nothing.
 use Rattle.points.specs.Words.{point_kind_of, at_kind_of, at_of}
 use Rattle.points.proofs.words.crash_trapped.Goals as goal
 

@@ -1,4 +1,4 @@
--- `calls::collect-send` meets its contract: by its calls and its tests. Assumes nothing.
+-- `calls::collect_send` meets its contract: by its calls and its tests. Assumes nothing.
 use Rattle.pool.specs.Calls.{collect_send}
 use Rattle.answers.specs.Answers.{shown}
 use Rattle.pool.proofs.calls.collect_send.Goals as goal

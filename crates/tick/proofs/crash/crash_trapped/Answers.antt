@@ -1,4 +1,4 @@
--- `crash::crash-trapped` meets its contract: by whether one is left to retire; the next key leaves the list of the trapped before its actor is retired. Assumes nothing.
+-- `crash::crash_trapped` meets its contract: by whether one is left to retire; the next key leaves the list of the trapped before its actor is retired. Assumes nothing.
 use Rattle.tick.specs.Crash.{crash_trapped}
 use borrow.Author.Tests.{eq-eqb, ne_eqb}
 use mathlib.Core.Path.{◌∙◌}
