@@ -10,7 +10,7 @@ use borrow.Author.Tests.{ltb-true, leb-true}
 use lib.Dec.{leb, ltb}
 use lib.ListN.{length, take, drop, length-append}
 use Rattle.text.specs.Format.{LF, ATTEMPTS, Message, record_text, record_line, done_line, line, print_id, retry_text}
-use Rattle.text.specs.Format.{retry_line, message_lines}
+use Rattle.text.specs.Format.{retry_line}
 use Rattle.text.specs.Line.{put, done, retry, read_line}
 use Rattle.text.specs.Bytes.{Free, write}
 use Rattle.text.proofs.FormatLaws.{record_text_free, print_id_free, retry_text_free}

@@ -9,7 +9,7 @@ use borrow.Author.Tests.{eqb-true}
 use lib.Dec.{eqb, ltb}
 use lib.ListN.{length, length-append}
 use Rattle.text.specs.Format.{TAB, LF, BACKSLASH, escape_byte, escape, escaped, unescape, unescape_next, print_id}
-use Rattle.text.specs.Format.{ATTEMPTS, read_id, Message, record_text, record_line, line}
+use Rattle.text.specs.Format.{read_id, Message, record_text, record_line, line}
 use Rattle.text.specs.Format.{retry_text, retry_line, attempts_line}
 use Rattle.text.specs.Format.{message_lines}
 use Rattle.text.specs.Format.{join_head, split, all_but_last, lines, fields}

@@ -19,7 +19,7 @@ use Rattle.message_log.specs.declared.AnsweredDue.{AnsweredDue}
 use Rattle.message_log.specs.declared.table.Found.TheVariants.{At, Missing}
 use Rattle.message_log.specs.Log.{row, Wal, state, open_rows, DidAppend, DidMark, turned_away, extended, Rewritten}
 use Rattle.message_log.specs.Log.{rewrite, row_at, row_len, row_tries, nothing_due, with_tried, retry_written, retried_at}
-use Rattle.message_log.specs.Log.{retry_found, counts_tries, retry_of}
+use Rattle.message_log.specs.Log.{counts_tries, retry_of}
 use Rattle.message_log.specs.Log.{compacted, with_record, logged, new_message, append_refusal, appended, append_of}
 use Rattle.message_log.specs.Log.{search_row, without_row, keeps, grown, line_behind, all_anew, marked_done, mark_of, sync_log}
 use Rattle.message_log.specs.Table.{found_of}

@@ -1,5 +1,5 @@
 -- What was read is the file, as far as the space goes.
-use Rattle.std.proofs.Common.{◌≡◌, ℕ, ◌+◌, ◌≤◌, ◌<◌, List, [], ◌++◌, None, Some, IfSome, inl, inr, arith, length}
+use Rattle.std.proofs.Common.{◌≡◌, ℕ, ◌+◌, ◌≤◌, ◌<◌, List, ◌++◌, None, Some, IfSome, inl, inr, arith, length}
 use Rattle.std.proofs.Common.{take, min, sym, ap, ◌∙◌, subst, length-append, append-nil, take_all, length-take-le}
 use Rattle.std.specs.Prelude.{Option, ◌⊎◌}
 use Rattle.std.proofs.lemmas.Bool.{cases_lt}

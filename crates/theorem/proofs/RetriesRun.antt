@@ -34,7 +34,6 @@ use Rattle.actor.specs.declared.message.Logged.{Logged}
 use Rattle.actor.specs.declared.message.Logged.TheVariants as logged
 use Rattle.actor.specs.Messages.{message_at, put_message, tried_of}
 use Rattle.actor.proofs.Back.{message_put, message_other}
-use Rattle.points.specs.declared.at.At.{At}
 use Rattle.points.specs.declared.at.At.TheVariants as at
 use Rattle.points.specs.declared.at.Point.{Point}
 use Rattle.points.specs.declared.at.Point.TheVariants as point

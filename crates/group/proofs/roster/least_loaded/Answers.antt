@@ -2,7 +2,6 @@
 -- measure is what is left. Assumes nothing.
 use mathlib.Core.Path.{refl, sym, ◌∙◌}
 use native.Mathlib.Omega.{arith}
-use Rattle.lists.specs.declared.keys.Key.TheVariants as found
 use Rattle.group.specs.Roster.{least_of}
 use Rattle.group.proofs.Loops.{least_more, least_end}
 use Rattle.group.proofs.roster.least_loaded.Goals as goal

@@ -1,7 +1,6 @@
 -- One reader goes over the file, and what each turn keeps is said of the place where it is (proofs/PassLaws); what is
 -- left of the file falls. Assumes nothing.
-use Rattle.std.proofs.Common.{◌≡◌, length}
-use Rattle.message_log.specs.declared.opening.Passing.{Passing}
+use Rattle.std.proofs.Common.{◌≡◌}
 use Rattle.message_log.proofs.PassLaws.{Inv, left}
 use Rattle.message_log.proofs.opening.scan.Given as goal
 

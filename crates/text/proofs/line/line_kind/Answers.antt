@@ -7,14 +7,6 @@ use lib.Seq.{length-take-le}
 use native.Mathlib.Omega.{arith}
 use Prim.Native.Nat.{◌+◌, ◌<◌}
 use mathlib.Core.Path.{sym, ap, ◌∙◌}
-use Rattle.text.proofs.line.line_kind.Reads as reads
-use Rattle.text.proofs.line.line_kind.Lts as lts
-use Rattle.text.proofs.ids.read_id.Reads as read-id-reads
-use Rattle.text.proofs.line.done_kind.Reads as done-kind-reads
-use Rattle.text.proofs.line.find.Reads as find-reads
-use Rattle.text.proofs.line.find_from.Reads as find-from-reads
-use Rattle.text.proofs.line.put_kind.Reads as put-kind-reads
-use Rattle.text.proofs.line.retry_kind.Reads as retry-kind-reads
 use Rattle.text.proofs.line.line_kind.Goals as goal
 
 pub returns-then-a-n : goal.returns-then-a-n

@@ -7,12 +7,6 @@ use mathlib.Core.Path.{◌∙◌}
 use lib.ListN.{length}
 use Prim.Native.Nat.{◌≤◌}
 use native.Mathlib.Omega.{arith}
-use Rattle.text.proofs.record.encode_retry.Reads as reads
-use Rattle.text.proofs.record.encode_retry.Lts as lts
-use Rattle.text.proofs.escape.put.Reads as put_reads
-use Rattle.text.proofs.ids.print_id.Reads as print-id-reads
-use Rattle.text.proofs.record.put_id.Reads as put-id-reads
-use Rattle.text.proofs.record.retry_len.Reads as retry-len-reads
 use Rattle.text.proofs.record.encode_retry.Goals as goal
 
 pub returns-then-out-len : goal.returns-then-out-len

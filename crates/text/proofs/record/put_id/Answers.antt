@@ -6,9 +6,6 @@ use borrow.Rule.Slice.PartMut.{put_mid}
 use native.Mathlib.Omega.{arith}
 use Prim.Native.Nat.{◌-◌}
 use mathlib.Core.Path.{ap, ◌∙◌}
-use Rattle.text.proofs.record.put_id.Reads as reads
-use Rattle.text.proofs.record.put_id.Lts as lts
-use Rattle.text.proofs.ids.print_id.Reads as print-id-reads
 use Rattle.text.proofs.record.put_id.Goals as goal
 
 pub print_id-requires : goal.print_id-requires

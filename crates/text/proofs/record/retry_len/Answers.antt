@@ -2,9 +2,6 @@
 use Rattle.text.proofs.IdLaws.{print_short}
 use Rattle.text.proofs.RecordLaws.{retry_length}
 use native.Mathlib.Omega.{arith}
-use Rattle.text.proofs.record.retry_len.Reads as reads
-use Rattle.text.proofs.record.retry_len.Lts as lts
-use Rattle.text.proofs.ids.id_len.Reads as id-len-reads
 use Rattle.text.proofs.record.retry_len.Goals as goal
 
 pub overflow_add-result : goal.overflow_add-result
