@@ -1,7 +1,7 @@
 #!/usr/bin/env python3
 """Spells the repository's own definitions and lemmas as today's Rattle does: words in snake case, a prime as an
-apostrophe. Types, modules and facts keep their capitals. It was run once, after port.py, when the repository was
-brought from an older Rattle to today's (docs/PORT.md).
+apostrophe. Types, modules and facts keep their capitals. It was run once, when the repository was brought from an
+older Rattle to today's (docs/PORT.md), after the toolchain's own script for that.
 
 usage: tools/respell.py [FOLDER]      FOLDER is a checkout, this one by default
 
@@ -16,8 +16,10 @@ import re
 import sys
 
 NAME = r"[^\s(){}.;,@\"«»`\[\]]+"
-DECLARED = re.compile(r"(?m)^( *)((?:(?:pub|abbrev|unfoldable|private|instance) )*)(" + NAME + r")((?: [({][^\n]*)?) :(?= |$)")
-WORDS = {"use", "module", "open", "where", "let", "in", "record", "data", "mutual", "elim", "unfolding", "ruleset", "mod", "as"}
+DECLARED = re.compile(
+    r"(?m)^( *)((?:(?:pub|abbrev|unfoldable|private|instance) )*)(" + NAME + r")((?: [({][^\n]*)?) :(?= |$)"
+)
+WORDS = set("use module open where let in record data mutual elim unfolding ruleset mod as".split())
 IMPORT = re.compile(r"\buse ([^\s;{]+)\.\{([^}]*)\}")
 
 
@@ -85,7 +87,8 @@ def foreign(text):
 
 
 def turned(path, text, new):
-    """A lemma's new ending is written in .antt files alone, and never behind a dot: there the name is another's."""
+    """A file in today's spelling. The ending `_lem` is not written behind a dot, where the name is another's; and, of
+    a name that was in snake case before, in .antt files alone."""
     left = foreign(text)
 
     def one(m):
@@ -93,7 +96,8 @@ def turned(path, text, new):
         to = new.get(name)
         if to is None or name in left:
             return name
-        if to != respelled(name) and (text[m.start() - 1 : m.start()] == "." or name == respelled(name) and not path.endswith(".antt")):
+        same = name == respelled(name) and not path.endswith(".antt")
+        if to != respelled(name) and (text[m.start() - 1 : m.start()] == "." or same):
             return respelled(name)
         return to
 
@@ -105,7 +109,17 @@ def main(argv):
     new, said = table(root)
     print("\n".join(said))
     paths = []
-    for pattern in ("crates/*/src/**/*.rt", "crates/*/specs/**/*.antt", "crates/*/proofs/**/*.antt", "crates/*/must-fail/*.edit", "wrong/**/*.edit", "wrong/**/*.patch", "docs/*.md", "README.md", "CONTRIBUTING.md"):
+    for pattern in (
+        "crates/*/src/**/*.rt",
+        "crates/*/specs/**/*.antt",
+        "crates/*/proofs/**/*.antt",
+        "crates/*/must-fail/*.edit",
+        "wrong/**/*.edit",
+        "wrong/**/*.patch",
+        "docs/*.md",
+        "README.md",
+        "CONTRIBUTING.md",
+    ):
         paths += glob.glob(os.path.join(root, pattern), recursive=True)
     n = 0
     for path in sorted(paths):
