@@ -1,4 +1,4 @@
--- Moves inside a lent slice (docs/RULES.md, 2): n bytes put in another place in steps of eight and of one, and how
+-- Moves inside a lent slice: n bytes put in another place in steps of eight and of one, and how
 -- many steps of each that takes.
 use Rattle.std.specs.Prelude.{true, false, ◌&&◌, ◌≡◌, List, ℕ, zero, suc, ◌+◌, ◌*◌, ◌/◌, ◌%◌, ◌≤◌, leb, length}
 use Rattle.text.specs.Bytes.{write, part}

@@ -2,7 +2,7 @@
 -- moments; a list of calls; an accepted opening; what holds after every list; and what holds of every call of it.
 -- The world goes by the calls, their arguments and the answers that the host gets. Of the pool's insides it looks at
 -- the six places; what holds is said of these, of queued, and of the keys that are given out.
--- The calls are defined in crates/pool/specs, disk and moments in crates/log/specs/Recovery
+-- The calls are defined in crates/pool/specs, disk and moments in crates/message_log/specs/Recovery
 -- (docs/RULES.md, 3), the places in specs/Places (docs/RULES.md, 7). The theorem is `whole_rail`, in
 -- proofs/Rail.antt; proofs/WrongPools.antt has pools that it rules out.
 use Rattle.std.specs.Prelude.{◌≡◌, Bool, true, false, ◌⊎◌, ℕ, ◌+◌, ◌*◌, ◌<◌, ◌≤◌, eqb, ltb, length, drop}
@@ -113,7 +113,7 @@ orders_in (shows o) = 1
 -- ---- the world
 
 -- journal: the disk, the moments, the messages logged and not done now, and the moment of the last confirmed flush or
--- replace (crates/log/specs/Recovery). The log is carried along in it, as there; nothing here is decided by it.
+-- replace (crates/message_log/specs/Recovery). The log is carried along in it, as there; nothing here is decided by it.
 -- next: the next id, by the file at the opening, and one more with each record's order.
 -- logged: the ids logged or handed back; done: the ids marked; both as orders went out.
 pub record World : Type 0 where
