@@ -109,3 +109,63 @@ pub fn reopen_from<R: Read, W: Write>(file: &mut R, out: &mut W) -> io::Result<R
     let mut space = [0u8; 65537];
     reopen_in(&mut space, file, out)
 }
+
+#[cfg(test)]
+mod tests {
+    use super::{Reopened, reopen_from};
+    use std::io;
+    use std::io::{ErrorKind, Read};
+
+    // A file whose first read is interrupted and whose second gives a record. Then it ends or fails.
+    #[derive(Drop)]
+    struct Stub {
+        reads: u8,
+        fails: bool,
+    }
+
+    impl Read for Stub {
+        fn read(&mut self, buf: &mut [u8]) -> io::Result<usize> {
+            self.reads = self.reads.saturating_add(1);
+            match self.reads {
+                1 => Err(io::Error::from(ErrorKind::Interrupted)),
+                2 if buf.len() >= 8 => {
+                    buf[..8].copy_from_slice(b"1\trow\ty\n");
+                    Ok(8)
+                }
+                _ if self.fails => Err(io::Error::from(ErrorKind::UnexpectedEof)),
+                _ => Ok(0),
+            }
+        }
+    }
+
+    fn opened(rt: &HostRuntime, fails: bool) -> io::Result<Vec<u8>> {
+        let mut out = Vec::new(rt.alloc());
+        reopen_from(&mut Stub { reads: 0, fails }, &mut out)?;
+        Ok(out)
+    }
+
+    #[test]
+    fn the_new_log_is_printed(rt: HostRuntime) -> io::Result<()> {
+        let mut out = Vec::new(rt.alloc());
+        let mut file: &[u8] = b"3\trow\tx\n1\trow\ty\n3\n";
+        let answer = reopen_from(&mut file, &mut out)?;
+        assert!(rt; matches!(answer, Reopened::Log(8)));
+        assert!(rt; out.as_slice() == b"1\trow\ty\n".as_slice());
+        Ok(())
+    }
+
+    #[test]
+    fn an_interrupted_read_is_made_again(rt: HostRuntime) -> io::Result<()> {
+        let out = opened(&rt, false)?;
+        assert!(rt; out.as_slice() == b"1\trow\ty\n".as_slice());
+        Ok(())
+    }
+
+    #[test]
+    fn a_failed_read_is_not_the_end(rt: HostRuntime) {
+        match opened(&rt, true) {
+            Ok(_) => assert!(rt; false),
+            Err(e) => assert!(rt; e.kind() == ErrorKind::UnexpectedEof),
+        }
+    }
+}
