@@ -1,5 +1,6 @@
 // Reads each log that an argument names, and prints the name and then the log that opening writes, or `refused=N`. A
-// file that cannot be opened or read is named on standard error, with the reason, and the next one is taken.
+// file that cannot be opened is named on standard error, with the reason, and the next one is taken. A read or a write
+// that fails is the error that the program ends with.
 #![tactic(auto)]
 
 use std::alloc::Global;
@@ -16,12 +17,6 @@ fn open<R: Files>(rt: &R, path: &[u8]) -> io::Result<R::File> {
     }
 }
 
-fn reopen_named<R: Files, O: Write>(rt: &R, path: &[u8], out: &mut O) -> io::Result<()> {
-    let mut file = open(rt, path)?;
-    reopening::reopen_from(&mut file, out)?;
-    Ok(())
-}
-
 // The system's words for an error, without the number that std puts behind them.
 fn words(said: &str) -> &str {
     match said.split_once(" (os error ") {
@@ -30,7 +25,7 @@ fn words(said: &str) -> &str {
     }
 }
 
-// Writes which file was not read, and why.
+// Writes which file was not opened, and why.
 fn report<E: Write>(alloc: Global, path: &[u8], why: io::Error, err: &mut E) -> io::Result<()> {
     let said = why.to_string(alloc)?;
     err.write_all(path)?;
@@ -47,8 +42,11 @@ fn reopen_file<R: Files + AllocGlobal, O: Write, E: Write>(
 ) -> io::Result<()> {
     out.write_all(path)?;
     out.write_all(b"\n")?;
-    match reopen_named(rt, path, out) {
-        Ok(()) => Ok(()),
+    match open(rt, path) {
+        Ok(mut file) => {
+            reopening::reopen_from(&mut file, out)?;
+            Ok(())
+        }
         Err(why) => report(rt.alloc(), path, why, err),
     }
 }
