@@ -1,6 +1,6 @@
 -- What the log reader makes of a log.
 use Rattle.std.specs.Prelude.{◌≡◌, List, [], ◌∷◌, ◌++◌, ℕ, min, length, take, replicate, codes, decimal, Option}
-use Rattle.std.specs.Io.KnownBytes.{Appends}
+use Rattle.std.specs.Io.KnownBytes.{Appends, Consumes}
 use Rattle.message_log.specs.Log.{log_number_of}
 use Rattle.message_log.specs.Opened.{Opened, open_log}
 use Rattle.message_log.specs.declared.Order.TheVariants.{Append, Replace, Flush}
@@ -55,3 +55,7 @@ pub record ReopensFile (file : List ℕ) (r : Reopened) (printed : List ℕ) : T
 -- the same, with what was printed added to what a writer held before, as far as that is known
 abbrev pub PrintsFile : List ℕ → Reopened → Option (List ℕ) → Option (List ℕ) → Type 0
 PrintsFile file r old new = (printed : List ℕ) × ReopensFile file r printed × Appends old new printed
+
+-- of what a reader had left, as far as that is known, it gave some first bytes and has the others
+abbrev pub HasTheRest : Option (List ℕ) → Option (List ℕ) → Type 0
+HasTheRest old new = (given : List ℕ) × Consumes old new given

@@ -6,7 +6,7 @@
 ghost use Rattle.std.specs.Prelude.{◌≡◌, ◌<◌, length, take, IfOk, IfSome, OnOk};
 ghost use Rattle.std.specs.Io.{ReadsAtMost};
 ghost use Rattle.std.specs.Io.KnownBytes.{Appends, Consumes, IsAtEnd};
-ghost use Rattle.reopening.specs.Reopened.{reopen_of, reopened_by, printed_of, OfSomeFile, PrintsFile};
+ghost use Rattle.reopening.specs.Reopened.{reopen_of, reopened_by, printed_of, OfSomeFile, PrintsFile, HasTheRest};
 
 use message_log::{Answer, Order, RECORDS, STORE};
 use std::io;
@@ -64,6 +64,7 @@ fn read_full<R: Read>(reader: &mut R, space: &mut [u8]) -> io::Result<usize>
     ensures bound { ReadsAtMost result space.new }
     ensures bytes { IfOk result (λ n. Consumes (R.remaining reader.old) (R.remaining reader.new) (take n space.new)) }
     ensures end { IfOk result (λ n. n < length space.new → IsAtEnd (R.remaining reader.new)) }
+    ensures left { HasTheRest (R.remaining reader.old) (R.remaining reader.new) }
 {
     let mut n = 0;
     for _ in 0..u64::MAX {
@@ -89,6 +90,7 @@ fn reopen_in<R: Read, W: Write>(space: &mut [u8], file: &mut R, out: &mut W) -> 
     ensures some_file { IfOk result OfSomeFile }
     ensures known_file { IfOk result (λ r. IfSome (R.remaining file.old)
         (λ bytes. PrintsFile bytes r (W.contents out.old) (W.contents out.new))) }
+    ensures left { HasTheRest (R.remaining file.old) (R.remaining file.new) }
 {
     let n = read_full(file, space)?;
     let log = &mut space[..65536];
@@ -101,10 +103,13 @@ fn reopen_in<R: Read, W: Write>(space: &mut [u8], file: &mut R, out: &mut W) -> 
 // since the log cannot hold it. A read or a write that fails is the error that comes back. The system promises no bytes
 // of a file, so of its readers all that can be said is that some were reopened; of a reader whose bytes are known, as
 // one over memory, those are, and what a writer over memory holds then is what it held and what is printed of them.
+// After an error too, such a reader has lost some first bytes of what it had left, and nothing else; how much of what
+// was to be printed a writer then holds, its library does not say.
 pub fn reopen_from<R: Read, W: Write>(file: &mut R, out: &mut W) -> io::Result<Reopened>
     ensures some_file { IfOk result OfSomeFile }
     ensures known_file { IfOk result (λ r. IfSome (R.remaining file.old)
         (λ bytes. PrintsFile bytes r (W.contents out.old) (W.contents out.new))) }
+    ensures left { HasTheRest (R.remaining file.old) (R.remaining file.new) }
 {
     let mut space = [0u8; 65537];
     reopen_in(&mut space, file, out)
