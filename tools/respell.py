@@ -40,38 +40,30 @@ def laws_and_definitions(root):
 
 
 def declared(paths):
-    """The names that files declare, each with whether one of them stands at the left margin."""
-    found = {}
+    """The names that files declare and that are not types. Names that stay as they are come first, so that another
+    one gives way to them."""
+    found = set()
     for path in paths:
-        for indent, _, name, _ in DECLARED.findall(text_of(path)):
-            if name in WORDS or not re.match(r"[a-zμ]", name) and not re.match(r"LETTER-", name):
-                continue
-            found[name] = found.get(name, False) or indent == ""
-    return found
+        for _, _, name, _ in DECLARED.findall(text_of(path)):
+            if name not in WORDS and re.match(r"[a-zμ]|LETTER-", name):
+                found.add(name)
+    return sorted(found, key=lambda n: (respelled(n) != n, n))
 
 
 def table(root):
     """Old name to new, and what was said of names that fall together."""
     specs, laws = laws_and_definitions(root)
-    defined, proved = declared(specs), declared(laws)
-    new, said = {}, []
-    taken = {}
-    for name in sorted(defined, key=lambda n: (respelled(n) != n, n)):
-        to = respelled(name)
-        if to in taken and taken[to] != name:
-            said.append(f"two definitions: {taken[to]} {name}")
-            to += "_of"
-        taken[to] = name
-        new[name] = to
-    for name in sorted(proved, key=lambda n: (respelled(n) != n, n)):
-        if name in new:
-            continue
-        to = respelled(name)
-        if to in taken and taken[to] != name:
-            said.append(f"a lemma beside {taken[to]}: {name}")
-            to += "_lem"
-        taken[to] = name
-        new[name] = to
+    new, said, taken = {}, [], {}
+    for paths, ending, clash in ((specs, "_of", "two definitions"), (laws, "_lem", "a lemma beside")):
+        for name in declared(paths):
+            if name in new:
+                continue
+            to = respelled(name)
+            if to in taken:
+                said.append(f"{clash}: {taken[to]} {name}")
+                to += ending
+            taken[to] = name
+            new[name] = to
     return {a: b for a, b in new.items() if a != b}, said
 
 
