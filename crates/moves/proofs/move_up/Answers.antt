@@ -24,7 +24,6 @@ returns-then-bytes-to-2 c =
 
 pub returns : goal.returns
 returns c =
-    let earlier = c in
     let args = c.args in
     let if1 = c.if-to-from in
     let if2 = c.if-bytes-to in

@@ -111,7 +111,6 @@ slice_bounds-encode_record-end-in-loop-i-2 c =
 
 pub overflow_add-p : goal.overflow_add-p
 overflow_add-p c =
-    let earlier = c in
     let args = c.args in
     let pre = c.requires in
     let loop = c.loop-i in
@@ -129,7 +128,6 @@ overflow_add-p c =
 
 pub put_tries-p-requires : goal.put_tries-p-requires
 put_tries-p-requires c =
-    let earlier = c in
     let args = c.args in
     let pre = c.requires in
     let loop = c.loop-i in
@@ -144,19 +142,16 @@ put_tries-p-requires c =
 
 pub overflow_add-i : goal.overflow_add-i
 overflow_add-i c =
-    let earlier = c in
     let loop-test = c.loop-i-test in
     omega (arith, loop-test.true)
 
 pub loop-i-smaller : goal.loop-i-smaller
 loop-i-smaller c =
-    let earlier = c in
     let loop-test = c.loop-i-test in
     omega (arith, loop-test.true)
 
 pub loop-i-preserved : goal.loop-i-preserved
 loop-i-preserved c =
-    let earlier = c in
     let args = c.args in
     let pre = c.requires in
     let loop = c.loop-i in

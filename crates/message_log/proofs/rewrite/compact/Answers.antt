@@ -32,7 +32,6 @@ pack-requires c =
 
 pub spread-requires : goal.spread-requires
 spread-requires c =
-    let earlier = c in
     let args = c.args in
     let if1 = c.if-records-rows in
     let image_len_lem = c.image_len in
@@ -55,7 +54,6 @@ spread-requires c =
 
 pub returns : goal.returns
 returns c =
-    let earlier = c in
     let args = c.args in
     let if1 = c.if-records-rows in
     let image_len_lem = c.image_len in

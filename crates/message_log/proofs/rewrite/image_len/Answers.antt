@@ -67,7 +67,6 @@ returns-else-fits_behind-2 c =
 
 pub overflow_add-to-then-fits_behind-3 : goal.overflow_add-to-then-fits_behind-3
 overflow_add-to-then-fits_behind-3 c =
-    let earlier = c in
     let args = c.args in
     let loop = c.loop-i in
     let tries-len = c.tries_len-tries in
@@ -80,7 +79,6 @@ overflow_add-to-then-fits_behind-3 c =
 
 pub loop-i-preserved : goal.loop-i-preserved
 loop-i-preserved c =
-    let earlier = c in
     let args = c.args in
     let loop = c.loop-i in
     let loop-test = c.loop-i-test in
@@ -99,7 +97,6 @@ loop-i-preserved c =
 
 pub returns-else-fits_behind-3 : goal.returns-else-fits_behind-3
 returns-else-fits_behind-3 c =
-    let earlier = c in
     let args = c.args in
     let loop = c.loop-i in
     let loop-test = c.loop-i-test in

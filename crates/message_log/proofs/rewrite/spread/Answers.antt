@@ -66,7 +66,6 @@ move_up-requires c =
 
 pub bounds-records-i : goal.bounds-records-i
 bounds-records-i c =
-    let earlier = c in
     let pre = c.requires in
     let loop = c.loop-i in
     let loop-test = c.loop-i-test in
@@ -74,7 +73,6 @@ bounds-records-i c =
 
 pub loop-i-preserved : goal.loop-i-preserved
 loop-i-preserved c =
-    let earlier = c in
     let args = c.args in
     let pre = c.requires in
     let loop = c.loop-i in

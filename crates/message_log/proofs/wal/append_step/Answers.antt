@@ -85,8 +85,6 @@ returns-in_default c =
 pub append_record-requires : goal.append_record-requires
 append_record-requires c =
     let args = c.args in
-    let if1 = c.if-name-gt-NAME in
-    let if2 = c.if-body-gt-BODY in
     let if3 = c.if-records-count in
     let if4 = c.if-next in
     let if5 = c.if-log-live in

@@ -24,7 +24,6 @@ overflow_add-tried c =
 
 pub returns-then-fits_behind : goal.returns-then-fits_behind
 returns-then-fits_behind c =
-    let earlier = c in
     let args = c.args in
     let retry-len = c.retry_len-n in
     let less-tries = c.less_tries-rest in

@@ -19,7 +19,6 @@ returns-in_default c =
 
 pub returns-then-counts_tries : goal.returns-then-counts_tries
 returns-then-counts_tries c =
-    let earlier = c in
     let args = c.args in
     let counts-tries = c.counts_tries in
     let if1 = c.if-counts_tries in

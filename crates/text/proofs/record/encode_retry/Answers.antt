@@ -36,7 +36,6 @@ put-b-requires c =
 
 pub put_id-c-requires : goal.put_id-c-requires
 put_id-c-requires c =
-    let earlier = c in
     let args = c.args in
     let retry-len = c.retry_len-len in
     let if1 = c.if-out-len in
@@ -55,7 +54,6 @@ put_id-c-requires c =
 
 pub put-n-requires : goal.put-n-requires
 put-n-requires c =
-    let earlier = c in
     let args = c.args in
     let retry-len = c.retry_len-len in
     let if1 = c.if-out-len in
@@ -77,7 +75,6 @@ put-n-requires c =
 
 pub shape_of-out : goal.shape_of-out
 shape_of-out c =
-    let earlier = c in
     let print-id = c.print_id-a in
     let put = c.put-b in
     let put_id = c.put_id-c in
@@ -86,7 +83,6 @@ shape_of-out c =
 
 pub returns : goal.returns
 returns c =
-    let earlier = c in
     let args = c.args in
     let retry-len = c.retry_len-len in
     let if1 = c.if-out-len in

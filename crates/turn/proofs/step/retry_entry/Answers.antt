@@ -5,7 +5,6 @@ use Rattle.turn.proofs.step.retry_entry.Goals as goal
 pub returns-in-As : goal.returns-in-As
 unfolding retry_entry
 returns-in-As c store groups links keys actors =
-    let earlier = c in
     let again = c.in-Entry in
     let id-at = c.id_at-id in
     let attempts-at = c.attempts_at-attempts in

@@ -6,7 +6,6 @@ use Rattle.turn.proofs.step.retry_logged.Goals as goal
 pub returns : goal.returns
 unfolding retry_logged order_for_of
 returns c store groups links rows keys actors =
-    let earlier = c in
     let counters = c.counters-before in
     let retry = c.retry-s in
     let waiting = c.waiting-disk in

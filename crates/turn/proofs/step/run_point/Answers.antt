@@ -4,7 +4,6 @@ use Rattle.turn.proofs.step.run_point.Goals as goal
 
 pub returns : goal.returns
 returns c =
-    let earlier = c in
     let again-at = c.again_at-again in
     let go = c.go in
     let retry-entry = c.retry_entry in
