@@ -1,14 +1,13 @@
 -- What is written to a table is read back, and every other row is as it was. Assumes nothing.
+use Rattle.std.specs.Prelude.{Option, Some, None}
+use Rattle.message_log.specs.declared.LogId.{LogId}
+use Rattle.actor.specs.declared.message.CallerId.{CallerId}
 use mathlib.Core.Path.{◌≡◌, refl, ap, ◌∙◌}
 use mathlib.Core.Logic.{◌≢◌}
 use mathlib.Core.List.{List, []}
 use Prim.Native.Nat.{ℕ, ◌<◌}
 use lib.ListN.{length, get_or}
 use lib.Seq.{get_or-set_same, get_or-set_other}
-use Rattle.actor.specs.declared.message.Caller.{Caller}
-use Rattle.actor.specs.declared.message.Caller.TheVariants.{From, Nobody}
-use Rattle.actor.specs.declared.message.Logged.{Logged}
-use Rattle.actor.specs.declared.message.Logged.TheVariants.{As, Never}
 use Rattle.actor.specs.declared.message.Message.{Message}
 use Rattle.actor.specs.declared.state.Actor.{Actor}
 use Rattle.actor.specs.Messages.{caller_of, caller_tag, caller_number, logged_of, logged_tag, logged_number, message_of}
@@ -18,13 +17,13 @@ use Rattle.actor.proofs.Onto.{onto_back}
 
 -- ---- a message's row
 
-caller_back : (c : Caller) → caller_of (caller_tag c) (caller_number c) ≡ c
-caller_back (From id) = refl
-caller_back Nobody = refl
+caller_back : (c : Option CallerId) → caller_of (caller_tag c) (caller_number c) ≡ c
+caller_back (Some id) = refl
+caller_back None = refl
 
-logged_back : (l : Logged) → logged_of (logged_tag l) (logged_number l) ≡ l
-logged_back (As id) = refl
-logged_back Never = refl
+logged_back : (l : Option LogId) → logged_of (logged_tag l) (logged_number l) ≡ l
+logged_back (Some id) = refl
+logged_back None = refl
 
 pub message_back : (m : Message) → message_of (message_cells m) ≡ m
 message_back m = rw (caller_back m.caller, logged_back m.id)

@@ -1,5 +1,4 @@
 -- Laws of a message's row and entry, and of an actor's state.
 pub mod Onto
 pub mod Back
-pub mod Loops
 pub mod Parts

@@ -1,25 +1,21 @@
 -- An actor that is written over an earlier row: what is as it was keeps its cell, and what is written is read back. So
 -- a change of one flag is a change of one cell. Assumes nothing.
+use Rattle.std.specs.Prelude.{Option, Some, None}
 use mathlib.Core.Path.{◌≡◌, refl, sym, ap, ◌∙◌}
 use mathlib.Core.Bool.{Bool, true, false}
 use mathlib.Core.List.{List, [], ◌∷◌}
-use Prim.Native.Nat.{ℕ, ◌≤◌}
+use Prim.Native.Nat.{ℕ}
 use native.Mathlib.Omega.{arith}
 use native.Mathlib.Decide.{ℕ_discrete}
 use borrow.Author.Tests.{eq-eqb, ne_eqb}
 use lib.Dec.{eqb}
 use lib.ListN.{length, get_or, set}
-use lib.Seq.{set_out, set-get_or}
+use lib.Seq.{set-get_or}
 use Rattle.actor.specs.declared.state.Mode.{Mode}
 use Rattle.actor.specs.declared.state.Mode.TheVariants as mode
-use Rattle.actor.specs.declared.state.Wake.{Wake}
-use Rattle.actor.specs.declared.state.Wake.TheVariants as wake
-use Rattle.actor.specs.declared.state.EvalRun.{EvalRun}
-use Rattle.actor.specs.declared.state.EvalRun.TheVariants as run
 use Rattle.actor.specs.declared.state.Actor.{Actor}
-use Rattle.actor.specs.Actors.{mode_of, bool_of, wake_time_of, eval_run_of, actor_of, flag_onto, mode_onto, wake_tag_onto}
-use Rattle.actor.specs.Actors.{wake_number_onto, run_tag_onto, run_number_onto, actor_onto, flagged, numbered}
-use Rattle.actor.specs.Actors.{unnumbered, blocked_cells, woken_cells, put_actor}
+use Rattle.actor.specs.Actors.{mode_of, bool_of, tagged_number, actor_of, flag_onto, mode_onto, tag_onto, number_onto}
+use Rattle.actor.specs.Actors.{actor_onto, flagged, numbered, unnumbered, blocked_cells, woken_cells}
 use Rattle.actor.specs.Actors.{delivered_to, scheduled_as, began_step, started_as, idled_as, consumed_as, yielded_as}
 use Rattle.actor.specs.Actors.{running_to, blocked_to, woken_as}
 
@@ -40,36 +36,22 @@ mode_own n = go (ℕ_discrete n 0)
     go (no e) = simp (ne_eqb n 0 e)
 
 module _ (tag n : ℕ) where
-  wake_tag_own : wake_tag_onto tag (wake_time_of tag n) ≡ tag
-  wake_tag_own = go (ℕ_discrete tag 0)
+  tag_own : tag_onto tag (tagged_number tag n) ≡ tag
+  tag_own = go (ℕ_discrete tag 0)
     where
-      go : Dec (tag ≡ 0) → wake_tag_onto tag (wake_time_of tag n) ≡ tag
+      go : Dec (tag ≡ 0) → tag_onto tag (tagged_number tag n) ≡ tag
       go (yes e) = simp (eq-eqb tag 0 e) (sym e)
       go (no e) = simp (ne_eqb tag 0 e)
 
-  wake_number_own : wake_number_onto tag n (wake_time_of tag n) ≡ n
-  wake_number_own = go (ℕ_discrete tag 0)
+  number_own : number_onto tag n (tagged_number tag n) ≡ n
+  number_own = go (ℕ_discrete tag 0)
     where
-      go : Dec (tag ≡ 0) → wake_number_onto tag n (wake_time_of tag n) ≡ n
-      go (yes e) = simp (eq-eqb tag 0 e)
-      go (no e) = simp (ne_eqb tag 0 e)
-
-  run_tag_own : run_tag_onto tag (eval_run_of tag n) ≡ tag
-  run_tag_own = go (ℕ_discrete tag 0)
-    where
-      go : Dec (tag ≡ 0) → run_tag_onto tag (eval_run_of tag n) ≡ tag
-      go (yes e) = simp (eq-eqb tag 0 e) (sym e)
-      go (no e) = simp (ne_eqb tag 0 e)
-
-  run_number_own : run_number_onto tag n (eval_run_of tag n) ≡ n
-  run_number_own = go (ℕ_discrete tag 0)
-    where
-      go : Dec (tag ≡ 0) → run_number_onto tag n (eval_run_of tag n) ≡ n
+      go : Dec (tag ≡ 0) → number_onto tag n (tagged_number tag n) ≡ n
       go (yes e) = simp (eq-eqb tag 0 e)
       go (no e) = simp (ne_eqb tag 0 e)
 
 -- all of these, for a row whose other cells stay
-ruleset own = (mode_own, flag_own, wake_tag_own, wake_number_own, run_tag_own, run_number_own)
+ruleset own = (mode_own, flag_own, tag_own, number_own)
 
 -- ---- what is written is read back
 
@@ -88,13 +70,9 @@ mode_back : (n : ℕ) (m : Mode) → mode_of (mode_onto n m) ≡ m
 mode_back n mode.Fixed = refl
 mode_back n mode.Eval = rw (raised n)
 
-wake_back : (tag n : ℕ) (w : Wake) → wake_time_of (wake_tag_onto tag w) (wake_number_onto tag n w) ≡ w
-wake_back tag n (wake.At ns) = rw (raised tag)
-wake_back tag n wake.Never = refl
-
-run_back : (tag n : ℕ) (r : EvalRun) → eval_run_of (run_tag_onto tag r) (run_number_onto tag n r) ≡ r
-run_back tag n (run.Until ns) = rw (raised tag)
-run_back tag n run.Nothing = refl
+number_back : (tag n : ℕ) (o : Option ℕ) → tagged_number (tag_onto tag o) (number_onto tag n o) ≡ o
+number_back tag n (Some ns) = rw (raised tag)
+number_back tag n None = refl
 
 pub onto_back : (c : List ℕ) (a : Actor) → actor_of (actor_onto c a) ≡ a
 unfolding actor_of actor_onto
@@ -108,8 +86,8 @@ onto_back c a =
       flag_back (get_or c 5 0) a.scheduled,
       flag_back (get_or c 6 0) a.blocked,
       flag_back (get_or c 7 0) a.consumed,
-      wake_back (get_or c 8 0) (get_or c 9 0) a.wake_at,
-      run_back (get_or c 10 0) (get_or c 11 0) a.run,
+      number_back (get_or c 8 0) (get_or c 9 0) a.wake_at,
+      number_back (get_or c 10 0) (get_or c 11 0) a.run,
     )
 
 -- ---- the cells of a row of twelve that a change of the actor changes
@@ -132,111 +110,113 @@ twelve P f (c0 ∷ c1 ∷ c2 ∷ c3 ∷ c4 ∷ c5 ∷ c6 ∷ c7 ∷ c8 ∷ c9 �
     f c0 c1 c2 c3 c4 c5 c6 c7 c8 c9 c10 c11
 twelve P f (c0 ∷ c1 ∷ c2 ∷ c3 ∷ c4 ∷ c5 ∷ c6 ∷ c7 ∷ c8 ∷ c9 ∷ c10 ∷ c11 ∷ x ∷ r) h = absurd (omega arith)
 
-pub delivered_cells : (c : List ℕ) → length c ≡ 12 → set c 3 0 ≡ actor_onto c (delivered_to (actor_of c))
+pub delivered_cells : (c : List ℕ) → length c ≡ 12 → actor_onto c (delivered_to (actor_of c)) ≡ set c 3 0
 unfolding actor_onto actor_of
 delivered_cells =
     twelve
-    (λ c. set c 3 0 ≡ actor_onto c (delivered_to (actor_of c)))
+    (λ c. actor_onto c (delivered_to (actor_of c)) ≡ set c 3 0)
     (λ c0 c1 c2 c3 c4 c5 c6 c7 c8 c9 c10 c11. simp own)
 
-pub scheduled_cells : (c : List ℕ) → length c ≡ 12 → flagged c 5 ≡ actor_onto c (scheduled_as (actor_of c) true)
+pub scheduled_cells : (c : List ℕ) → length c ≡ 12 → actor_onto c (scheduled_as (actor_of c) true) ≡ flagged c 5
 unfolding actor_onto actor_of
 scheduled_cells =
     twelve
-    (λ c. flagged c 5 ≡ actor_onto c (scheduled_as (actor_of c) true))
+    (λ c. actor_onto c (scheduled_as (actor_of c) true) ≡ flagged c 5)
     (λ c0 c1 c2 c3 c4 c5 c6 c7 c8 c9 c10 c11. simp own)
 
-pub unscheduled_cells : (c : List ℕ) → length c ≡ 12 → set c 5 0 ≡ actor_onto c (scheduled_as (actor_of c) false)
+pub unscheduled_cells : (c : List ℕ) → length c ≡ 12 → actor_onto c (scheduled_as (actor_of c) false) ≡ set c 5 0
 unfolding actor_onto actor_of
 unscheduled_cells =
     twelve
-    (λ c. set c 5 0 ≡ actor_onto c (scheduled_as (actor_of c) false))
+    (λ c. actor_onto c (scheduled_as (actor_of c) false) ≡ set c 5 0)
     (λ c0 c1 c2 c3 c4 c5 c6 c7 c8 c9 c10 c11. simp own)
 
-pub began_cells : (c : List ℕ) → length c ≡ 12 → set (flagged c 2) 4 0 ≡ actor_onto c (began_step (actor_of c))
+pub began_cells : (c : List ℕ) → length c ≡ 12 → actor_onto c (began_step (actor_of c)) ≡ set (flagged c 2) 4 0
 unfolding actor_onto actor_of
 began_cells =
     twelve
-    (λ c. set (flagged c 2) 4 0 ≡ actor_onto c (began_step (actor_of c)))
+    (λ c. actor_onto c (began_step (actor_of c)) ≡ set (flagged c 2) 4 0)
     (λ c0 c1 c2 c3 c4 c5 c6 c7 c8 c9 c10 c11. simp own)
 
-pub started_cells : (c : List ℕ) → length c ≡ 12 → flagged c 1 ≡ actor_onto c (started_as (actor_of c))
+pub started_cells : (c : List ℕ) → length c ≡ 12 → actor_onto c (started_as (actor_of c)) ≡ flagged c 1
 unfolding actor_onto actor_of
 started_cells =
     twelve
-    (λ c. flagged c 1 ≡ actor_onto c (started_as (actor_of c)))
+    (λ c. actor_onto c (started_as (actor_of c)) ≡ flagged c 1)
     (λ c0 c1 c2 c3 c4 c5 c6 c7 c8 c9 c10 c11. simp own)
 
-pub idled_cells : (c : List ℕ) → length c ≡ 12 → flagged c 3 ≡ actor_onto c (idled_as (actor_of c))
+pub idled_cells : (c : List ℕ) → length c ≡ 12 → actor_onto c (idled_as (actor_of c)) ≡ flagged c 3
 unfolding actor_onto actor_of
 idled_cells =
     twelve
-    (λ c. flagged c 3 ≡ actor_onto c (idled_as (actor_of c)))
+    (λ c. actor_onto c (idled_as (actor_of c)) ≡ flagged c 3)
     (λ c0 c1 c2 c3 c4 c5 c6 c7 c8 c9 c10 c11. simp own)
 
-pub consumed_cells : (c : List ℕ) → length c ≡ 12 → flagged c 7 ≡ actor_onto c (consumed_as (actor_of c))
+pub consumed_cells : (c : List ℕ) → length c ≡ 12 → actor_onto c (consumed_as (actor_of c)) ≡ flagged c 7
 unfolding actor_onto actor_of
 consumed_cells =
     twelve
-    (λ c. flagged c 7 ≡ actor_onto c (consumed_as (actor_of c)))
+    (λ c. actor_onto c (consumed_as (actor_of c)) ≡ flagged c 7)
     (λ c0 c1 c2 c3 c4 c5 c6 c7 c8 c9 c10 c11. simp own)
 
-pub yielded_cells : (c : List ℕ) → length c ≡ 12 → flagged c 4 ≡ actor_onto c (yielded_as (actor_of c))
+pub yielded_cells : (c : List ℕ) → length c ≡ 12 → actor_onto c (yielded_as (actor_of c)) ≡ flagged c 4
 unfolding actor_onto actor_of
 yielded_cells =
     twelve
-    (λ c. flagged c 4 ≡ actor_onto c (yielded_as (actor_of c)))
+    (λ c. actor_onto c (yielded_as (actor_of c)) ≡ flagged c 4)
     (λ c0 c1 c2 c3 c4 c5 c6 c7 c8 c9 c10 c11. simp own)
 
-pub until_cells : (ns : ℕ) (c : List ℕ) → length c ≡ 12 → numbered c 10 11 ns
-    ≡ actor_onto c (running_to (actor_of c) (run.Until ns))
+pub until_cells : (ns : ℕ) (c : List ℕ) → length c ≡ 12 → actor_onto c (running_to (actor_of c) (Some ns)) ≡ numbered c 10 11 ns
 unfolding actor_onto actor_of
 until_cells ns =
     twelve
-    (λ c. numbered c 10 11 ns ≡ actor_onto c (running_to (actor_of c) (run.Until ns)))
+    (λ c. actor_onto c (running_to (actor_of c) (Some ns)) ≡ numbered c 10 11 ns)
     (λ c0 c1 c2 c3 c4 c5 c6 c7 c8 c9 c10 c11. simp own)
 
-pub run_over_cells : (c : List ℕ) → length c ≡ 12 → unnumbered c 10 11
-    ≡ actor_onto c (running_to (actor_of c) run.Nothing)
+pub run_over_cells : (c : List ℕ) → length c ≡ 12 → actor_onto c (running_to (actor_of c) None) ≡ unnumbered c 10 11
 unfolding actor_onto actor_of
 run_over_cells =
     twelve
-    (λ c. unnumbered c 10 11 ≡ actor_onto c (running_to (actor_of c) run.Nothing))
+    (λ c. actor_onto c (running_to (actor_of c) None) ≡ unnumbered c 10 11)
     (λ c0 c1 c2 c3 c4 c5 c6 c7 c8 c9 c10 c11. simp own)
 
-pub blocked_cells_lem : (w : Wake) (c : List ℕ) → length c ≡ 12 → blocked_cells c w
-    ≡ actor_onto c (blocked_to (actor_of c) w)
+pub blocked_cells_lem : (w : Option ℕ) (c : List ℕ) → length c ≡ 12 → actor_onto c (blocked_to (actor_of c) w) ≡ blocked_cells c w
 unfolding actor_onto actor_of
-blocked_cells_lem (wake.At ns) =
+blocked_cells_lem (Some ns) =
     twelve
-    (λ c. blocked_cells c (wake.At ns) ≡ actor_onto c (blocked_to (actor_of c) (wake.At ns)))
+    (λ c. actor_onto c (blocked_to (actor_of c) (Some ns)) ≡ blocked_cells c (Some ns))
     (λ c0 c1 c2 c3 c4 c5 c6 c7 c8 c9 c10 c11. simp own)
-blocked_cells_lem wake.Never =
+blocked_cells_lem None =
     twelve
-    (λ c. blocked_cells c wake.Never ≡ actor_onto c (blocked_to (actor_of c) wake.Never))
+    (λ c. actor_onto c (blocked_to (actor_of c) None) ≡ blocked_cells c None)
     (λ c0 c1 c2 c3 c4 c5 c6 c7 c8 c9 c10 c11. simp own)
 
-pub woken_cells_lem : (c : List ℕ) → length c ≡ 12 → woken_cells c ≡ actor_onto c (woken_as (actor_of c))
+pub woken_cells_lem : (c : List ℕ) → length c ≡ 12 → actor_onto c (woken_as (actor_of c)) ≡ woken_cells c
 unfolding actor_onto actor_of
 woken_cells_lem =
     twelve
-    (λ c. woken_cells c ≡ actor_onto c (woken_as (actor_of c)))
+    (λ c. actor_onto c (woken_as (actor_of c)) ≡ woken_cells c)
     (λ c0 c1 c2 c3 c4 c5 c6 c7 c8 c9 c10 c11. simp own)
 
--- ---- the same of a table, and where nothing changes
-
-module _ (t : List (List ℕ)) (slot : ℕ) where
-  pub put_cells : (c : List ℕ) (a : Actor) → c ≡ actor_onto (get_or t slot []) a → set t slot c ≡ put_actor t slot a
-  unfolding put_actor
-  put_cells c a is = ap (λ (r : List ℕ). set t slot r) is
-
-  pub put_out : (a : Actor) → length t ≤ slot → t ≡ put_actor t slot a
-  unfolding put_actor
-  put_out a out = sym (set_out t slot _ out)
+-- all of these, for the changes of a table
+pub ruleset changed = (
+  delivered_cells,
+  scheduled_cells,
+  unscheduled_cells,
+  began_cells,
+  started_cells,
+  idled_cells,
+  consumed_cells,
+  yielded_cells,
+  until_cells,
+  run_over_cells,
+  blocked_cells_lem,
+  woken_cells_lem,
+)
 
 -- a tag that says already that there is no number
-pub unnumbered_same : (c : List ℕ) (i at : ℕ) → get_or c i 0 ≡ 0 → c ≡ unnumbered c i at
+pub unnumbered_same : (c : List ℕ) (i at : ℕ) → get_or c i 0 ≡ 0 → unnumbered c i at ≡ c
 unnumbered_same c i at none =
     let tag = eq-eqb (get_or c i 0) 0 none in
     let own = sym (ap (λ (n : ℕ). set c i n) none) ∙ set-get_or c i 0 in
-    simp (tag, own) (sym (set-get_or c at 0))
+    simp (tag, own) (set-get_or c at 0)

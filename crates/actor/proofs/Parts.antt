@@ -1,35 +1,27 @@
 -- The part of the body store that a message is: it lies inside the store, it shows what was kept, and neither keeping
 -- another message nor one more attempt changes what it shows. Assumes nothing.
+use Rattle.std.specs.Prelude.{Option, Some, None}
+use Rattle.message_log.specs.declared.LogId.{LogId}
+use Rattle.actor.specs.declared.message.CallerId.{CallerId}
 use mathlib.Core.Path.{◌≡◌, refl, ap, sym, ◌∙◌}
 use mathlib.Core.Bool.{Bool, true, false, ◌&&◌}
 use mathlib.Core.Logic.{◌≢◌}
 use mathlib.Core.List.{List}
-use Prim.Native.Nat.{ℕ, ◌+◌, ◌-◌, ◌*◌, ◌≤◌, ◌<◌}
+use Prim.Native.Nat.{ℕ, ◌+◌, ◌*◌, ◌≤◌, ◌<◌}
 use native.Mathlib.Omega.{arith}
 use lib.Dec.{ltb, leb}
-use lib.ListN.{length, take, drop, length-drop}
-use lib.Seq.{take_all}
+use lib.ListN.{length}
 use borrow.Author.Tests.{ltb-true, ltb-false, leb-true, lt-ltb, le-leb}
 use Rattle.text.specs.Bytes.{write, part}
-use Rattle.text.proofs.LineLaws.{from}
 use Rattle.text.proofs.WriteLaws.{length_write, part_below, part_above, part_written}
 use Rattle.message_log.proofs.OpeningLaws.{and_left, and_right}
-use Rattle.lists.specs.declared.Found.{Found}
-use Rattle.lists.specs.declared.Found.TheVariants.{Entry, Nothing}
 use Rattle.lists.specs.Links.{pick, Table, FREE, first_of}
-use Rattle.actor.specs.declared.message.Caller.{Caller}
-use Rattle.actor.specs.declared.message.Logged.{Logged}
 use Rattle.actor.specs.declared.message.Message.{Message}
 use Rattle.actor.specs.Messages.{message_at, put_message, tried_of}
 use Rattle.actor.proofs.Back.{message_put, message_other}
 use Rattle.actor.specs.Entry.{Messages, Arrival, put_bytes, store_entry, new_row, keep_at, keep_found, keep_of}
 use Rattle.actor.specs.Part.{bytes_in, no_part, row_part, in_limits, part_at, part_of, Inside, Shows}
 use Rattle.actor.specs.declared.part.Part.{Part}
-
--- ---- bytes up to the end of a slice
-
-pub part_rest : (bytes : List ℕ) (a b : ℕ) → length bytes ≤ b → take (length bytes - a) (drop a bytes) ≡ part bytes a b
-part_rest bytes a b h = from bytes a ∙ sym (take_all (b - a) (drop a bytes) (omega (arith, length-drop a bytes)))
 
 -- ---- a part by its row
 
@@ -59,10 +51,6 @@ module _ (rows : Table) (e : ℕ) where
       let body = le-leb m.body_len 128 h.body in
       rw (sym row) (simp (lt-ltb e 256 h.entry, name, body))
 
-  pub part_none : (m : Message) → m ≡ message_at rows e → in_limits m e ≡ false → no_part ≡ part_at rows e
-  unfolding part_at
-  part_none m row out = rw (sym row, out)
-
   -- what holds of a row within the limits, and of no message, holds of the part
   part_rule : (P : Part → Type 0) → (Limits (message_at rows e) e → P (row_part (message_at rows e) e)) → P no_part
       → P (part_at rows e)
@@ -80,8 +68,8 @@ part_other rows e m j other = rw (message_other rows e m j other) refl
 
 -- one more attempt changes no part
 pub tried_shows : (store : List ℕ) (rows : Table) (e : ℕ) (name body : List ℕ) → e < length rows
-    → Shows store rows (Entry e) name body
-    → Shows store (put_message rows e (tried_of (message_at rows e))) (Entry e) name body
+    → Shows store rows (Some e) name body
+    → Shows store (put_message rows e (tried_of (message_at rows e))) (Some e) name body
 unfolding part_at
 tried_shows store rows e name body inside shows =
     let back = message_put rows e (tried_of (message_at rows e)) inside in
@@ -106,9 +94,9 @@ row_inside m e h = record {
 }
 
 -- whatever the rows hold, the part lies inside the body store
-pub part_inside : (rows : Table) (m : Found) → Inside (part_of rows m)
-part_inside rows Nothing = none_inside
-part_inside rows (Entry e) = part_rule rows e Inside (row_inside (message_at rows e) e) none_inside
+pub part_inside : (rows : Table) (m : Option ℕ) → Inside (part_of rows m)
+part_inside rows None = none_inside
+part_inside rows (Some e) = part_rule rows e Inside (row_inside (message_at rows e) e) none_inside
 
 -- ---- a message that is kept
 
@@ -163,9 +151,9 @@ pub keep_long : (m : Messages) (a : Arrival) (to : ℕ) → length (keep_of m a 
 unfolding keep_of keep_at
 keep_long m a to = go (first_of m.links FREE)
   where
-    go : (f : Found) → length (keep_found m a to f).store ≡ length m.store
-    go (Entry e) = entry_long m.store e a.name a.body
-    go Nothing = refl
+    go : (f : Option ℕ) → length (keep_found m a to f).store ≡ length m.store
+    go (Some e) = entry_long m.store e a.name a.body
+    go None = refl
 
 -- name and body in an entry of the store
 module _ (store : List ℕ) (e : ℕ) (name body : List ℕ) (long : length store ≡ 40960) (inside : e < 256)
@@ -202,7 +190,7 @@ module _ (store : List ℕ) (e : ℕ) (name body : List ℕ) (long : length stor
           part_above named (160 * e + 32) a b body (omega arith) (omega (arith, named_long))
           ∙ part_above store (160 * e) a b name (omega arith) (omega arith)
 
-  module _ (t rows : Table) (caller : Caller) (id : Logged) (to : ℕ) (sized : length rows ≡ 256) where
+  module _ (t rows : Table) (caller : Option CallerId) (id : Option LogId) (to : ℕ) (sized : length rows ≡ 256) where
     abbrev before : Messages
     before = record { store = store; links = t; rows = rows }
 
@@ -213,7 +201,7 @@ module _ (store : List ℕ) (e : ℕ) (name body : List ℕ) (long : length stor
     kept = keep_at before e arrival to
 
     -- what is kept in an entry is shown as it was given
-    pub kept_shows : Shows kept.store kept.rows (Entry e) name body
+    pub kept_shows : Shows kept.store kept.rows (Some e) name body
     unfolding keep_at
     kept_shows =
         let m : Message = new_row (length name) (length body) caller id in
@@ -228,8 +216,8 @@ module _ (store : List ℕ) (e : ℕ) (name body : List ℕ) (long : length stor
         }
 
     -- what another entry shows is as it was
-    pub others_show : (j : ℕ) → j ≢ e → (n b : List ℕ) → Shows store rows (Entry j) n b
-        → Shows kept.store kept.rows (Entry j) n b
+    pub others_show : (j : ℕ) → j ≢ e → (n b : List ℕ) → Shows store rows (Some j) n b
+        → Shows kept.store kept.rows (Some j) n b
     unfolding keep_at
     others_show j other n b shows =
         let m : Message = new_row (length name) (length body) caller id in
@@ -252,7 +240,7 @@ module _ (store : List ℕ) (e : ℕ) (name body : List ℕ) (long : length stor
         }
 
     -- the first free entry is the one that is taken
-    pub keep_shows : first_of t FREE ≡ Entry e
-        → Shows (keep_of before arrival to).store (keep_of before arrival to).rows (Entry e) name body
+    pub keep_shows : first_of t FREE ≡ Some e
+        → Shows (keep_of before arrival to).store (keep_of before arrival to).rows (Some e) name body
     unfolding keep_of
     keep_shows free = rw free kept_shows

@@ -1,12 +1,8 @@
 -- The state of an actor as cells, the table of actors, and what changes it.
-use Rattle.std.specs.Prelude.{Bool, true, false, List, [], ◌∷◌, ℕ, eqb, get_or, set}
+use Rattle.std.specs.Prelude.{Bool, true, false, List, [], ◌∷◌, ℕ, eqb, get_or, set, Option, Some, None}
 use Rattle.lists.specs.Links.{pick}
 use Rattle.actor.specs.declared.state.Mode.{Mode}
 use Rattle.actor.specs.declared.state.Mode.TheVariants as mode
-use Rattle.actor.specs.declared.state.Wake.{Wake}
-use Rattle.actor.specs.declared.state.Wake.TheVariants as wake
-use Rattle.actor.specs.declared.state.EvalRun.{EvalRun}
-use Rattle.actor.specs.declared.state.EvalRun.TheVariants as run
 use Rattle.actor.specs.declared.state.Actor.{Actor}
 
 -- ---- cells
@@ -19,13 +15,9 @@ mode_of n = pick (eqb n 0) mode.Fixed mode.Eval
 abbrev pub bool_of : ℕ → Bool
 bool_of n = pick (eqb n 0) false true
 
--- when an actor is woken at the latest, read from its two cells: never if the tag is 0, else at ns
-abbrev pub wake_time_of : ℕ → ℕ → Wake
-wake_time_of tag ns = pick (eqb tag 0) wake.Never (wake.At ns)
-
--- an eval run, read from its two cells: none if the tag is 0, else one with the deadline ns
-abbrev pub eval_run_of : ℕ → ℕ → EvalRun
-eval_run_of tag ns = pick (eqb tag 0) run.Nothing (run.Until ns)
+-- a number that may be missing, read from its two cells: none if the tag is 0, else n
+abbrev pub tagged_number : ℕ → ℕ → Option ℕ
+tagged_number tag n = pick (eqb tag 0) None (Some n)
 
 -- the actor that a row of twelve cells stands for; a missing cell is 0, so that an empty row is a new fixed actor
 unfoldable pub actor_of : List ℕ → Actor
@@ -39,8 +31,8 @@ actor_of c =
       scheduled = bool_of (get_or c 5 0);
       blocked = bool_of (get_or c 6 0);
       consumed = bool_of (get_or c 7 0);
-      wake_at = wake_time_of (get_or c 8 0) (get_or c 9 0);
-      run = eval_run_of (get_or c 10 0) (get_or c 11 0);
+      wake_at = tagged_number (get_or c 8 0) (get_or c 9 0);
+      run = tagged_number (get_or c 10 0) (get_or c 11 0);
     }
 
 -- ---- cells over those of an earlier row: a cell is written only where its meaning changes
@@ -59,25 +51,15 @@ mode_onto n mode.Eval = flag_onto n true
 abbrev pub kept_number : ℕ → ℕ → ℕ
 kept_number tag n = pick (eqb tag 0) n 0
 
--- the tag of a wake_at over the earlier tag: 0 for never; for a time 1 where it was 0, and else as it was
-abbrev pub wake_tag_onto : ℕ → Wake → ℕ
-wake_tag_onto tag (wake.At ns) = flag_onto tag true
-wake_tag_onto tag wake.Never = 0
+-- the tag of a number over the earlier tag: 0 for none; for a number 1 where it was 0, and else as it was
+abbrev pub tag_onto : ℕ → Option ℕ → ℕ
+tag_onto tag (Some ns) = flag_onto tag true
+tag_onto tag None = 0
 
--- the number of a wake_at over the earlier tag and number n: a time itself; for never n if the tag was 0, else 0
-abbrev pub wake_number_onto : ℕ → ℕ → Wake → ℕ
-wake_number_onto tag n (wake.At ns) = ns
-wake_number_onto tag n wake.Never = kept_number tag n
-
--- the tag of an eval run over the earlier tag: 0 for none; for a run 1 where it was 0, and else as it was
-abbrev pub run_tag_onto : ℕ → EvalRun → ℕ
-run_tag_onto tag (run.Until ns) = flag_onto tag true
-run_tag_onto tag run.Nothing = 0
-
--- the number of an eval run over the earlier tag and number n: its deadline; for none n if the tag was 0, else 0
-abbrev pub run_number_onto : ℕ → ℕ → EvalRun → ℕ
-run_number_onto tag n (run.Until ns) = ns
-run_number_onto tag n run.Nothing = kept_number tag n
+-- the number over the earlier tag and number n: itself; for none n if the tag was 0, else 0
+abbrev pub number_onto : ℕ → ℕ → Option ℕ → ℕ
+number_onto tag n (Some ns) = ns
+number_onto tag n None = kept_number tag n
 
 -- an actor as twelve cells over those of an earlier row, in which a missing cell counts as 0: a cell whose meaning is
 -- the same keeps its number
@@ -87,9 +69,9 @@ actor_onto c a =
     flag_onto (get_or c 3 0) a.idle
     ∷ flag_onto (get_or c 4 0) a.runnable ∷ flag_onto (get_or c 5 0) a.scheduled ∷ flag_onto (get_or c 6 0) a.blocked ∷
     flag_onto (get_or c 7 0) a.consumed
-    ∷ wake_tag_onto (get_or c 8 0) a.wake_at ∷ wake_number_onto (get_or c 8 0) (get_or c 9 0) a.wake_at ∷
-    run_tag_onto (get_or c 10 0) a.run
-    ∷ run_number_onto (get_or c 10 0) (get_or c 11 0) a.run ∷ []
+    ∷ tag_onto (get_or c 8 0) a.wake_at ∷ number_onto (get_or c 8 0) (get_or c 9 0) a.wake_at ∷
+    tag_onto (get_or c 10 0) a.run
+    ∷ number_onto (get_or c 10 0) (get_or c 11 0) a.run ∷ []
 
 -- a flag of a row is set
 abbrev pub flagged : List ℕ → ℕ → List ℕ
@@ -104,9 +86,9 @@ abbrev pub unnumbered : List ℕ → ℕ → ℕ → List ℕ
 unnumbered c i at = set (set c i 0) at (kept_number (get_or c i 0) (get_or c at 0))
 
 -- the row of an actor that waits: blocked is yes, and it is woken at a time, or never
-abbrev pub blocked_cells : List ℕ → Wake → List ℕ
-blocked_cells c (wake.At ns) = numbered (flagged c 6) 8 9 ns
-blocked_cells c wake.Never = unnumbered (flagged c 6) 8 9
+abbrev pub blocked_cells : List ℕ → Option ℕ → List ℕ
+blocked_cells c (Some ns) = numbered (flagged c 6) 8 9 ns
+blocked_cells c None = unnumbered (flagged c 6) 8 9
 
 -- the row of an actor whose wait ended: runnable is yes, blocked is no, and there is no time to be woken at
 abbrev pub woken_cells : List ℕ → List ℕ
@@ -137,187 +119,58 @@ new_actor m =
       blocked =
           false;
       consumed = false;
-      wake_at = wake.Never;
-      run = run.Nothing;
+      wake_at = None;
+      run = None;
     }
 
 -- a message came to its mailbox
 abbrev pub delivered_to : Actor → Actor
-delivered_to a =
-    record {
-      mode = a.mode;
-      started = a.started;
-      ran = a.ran;
-      idle = false;
-      runnable = a.runnable;
-      scheduled =
-          a.scheduled;
-      blocked = a.blocked;
-      consumed = a.consumed;
-      wake_at = a.wake_at;
-      run = a.run;
-    }
+delivered_to a = record a { idle = false }
 
 -- scheduled becomes yes, when its key is put into the ready list, or no, when its key is popped from there
 abbrev pub scheduled_as : Actor → Bool → Actor
-scheduled_as a b =
-    record {
-      mode = a.mode;
-      started = a.started;
-      ran = a.ran;
-      idle = a.idle;
-      runnable = a.runnable;
-      scheduled = b;
-      blocked = a.blocked;
-      consumed = a.consumed;
-      wake_at = a.wake_at;
-      run = a.run;
-    }
+scheduled_as a b = record a { scheduled = b }
 
 -- a step begins
 abbrev pub began_step : Actor → Actor
-began_step a =
-    record {
-      mode = a.mode;
-      started = a.started;
-      ran = true;
-      idle = a.idle;
-      runnable = false;
-      scheduled =
-          a.scheduled;
-      blocked = a.blocked;
-      consumed = a.consumed;
-      wake_at = a.wake_at;
-      run = a.run;
-    }
+began_step a = record a { ran = true; runnable = false }
 
 -- started becomes yes: its program was started
 abbrev pub started_as : Actor → Actor
-started_as a =
-    record {
-      mode = a.mode;
-      started = true;
-      ran = a.ran;
-      idle = a.idle;
-      runnable = a.runnable;
-      scheduled =
-          a.scheduled;
-      blocked = a.blocked;
-      consumed = a.consumed;
-      wake_at = a.wake_at;
-      run = a.run;
-    }
+started_as a = record a { started = true }
 
 -- idle becomes yes: it waits for mail alone
 abbrev pub idled_as : Actor → Actor
-idled_as a =
-    record {
-      mode = a.mode;
-      started = a.started;
-      ran = a.ran;
-      idle = true;
-      runnable = a.runnable;
-      scheduled =
-          a.scheduled;
-      blocked = a.blocked;
-      consumed = a.consumed;
-      wake_at = a.wake_at;
-      run = a.run;
-    }
+idled_as a = record a { idle = true }
 
 -- consumed becomes yes: it took a message from its mailbox
 abbrev pub consumed_as : Actor → Actor
-consumed_as a =
-    record {
-      mode = a.mode;
-      started = a.started;
-      ran = a.ran;
-      idle = a.idle;
-      runnable = a.runnable;
-      scheduled =
-          a.scheduled;
-      blocked = a.blocked;
-      consumed = true;
-      wake_at = a.wake_at;
-      run = a.run;
-    }
+consumed_as a = record a { consumed = true }
 
 -- runnable becomes yes: it yielded, and runs again even without mail
 abbrev pub yielded_as : Actor → Actor
-yielded_as a =
-    record {
-      mode = a.mode;
-      started = a.started;
-      ran = a.ran;
-      idle = a.idle;
-      runnable = true;
-      scheduled =
-          a.scheduled;
-      blocked = a.blocked;
-      consumed = a.consumed;
-      wake_at = a.wake_at;
-      run = a.run;
-    }
+yielded_as a = record a { runnable = true }
 
 -- its eval run is r from now on: one under way with its deadline, or none
-abbrev pub running_to : Actor → EvalRun → Actor
-running_to a r =
-    record {
-      mode = a.mode;
-      started = a.started;
-      ran = a.ran;
-      idle = a.idle;
-      runnable = a.runnable;
-      scheduled =
-          a.scheduled;
-      blocked = a.blocked;
-      consumed = a.consumed;
-      wake_at = a.wake_at;
-      run = r;
-    }
+abbrev pub running_to : Actor → Option ℕ → Actor
+running_to a r = record a { run = r }
 
 -- parked on a host call, woken at the latest at w
-abbrev pub blocked_to : Actor → Wake → Actor
-blocked_to a w =
-    record {
-      mode = a.mode;
-      started = a.started;
-      ran = a.ran;
-      idle = a.idle;
-      runnable = a.runnable;
-      scheduled =
-          a.scheduled;
-      blocked = true;
-      consumed = a.consumed;
-      wake_at = w;
-      run = a.run;
-    }
+abbrev pub blocked_to : Actor → Option ℕ → Actor
+blocked_to a w = record a { blocked = true; wake_at = w }
 
 -- its wait ended
 abbrev pub woken_as : Actor → Actor
-woken_as a =
-    record {
-      mode = a.mode;
-      started = a.started;
-      ran = a.ran;
-      idle = a.idle;
-      runnable = true;
-      scheduled =
-          a.scheduled;
-      blocked = false;
-      consumed = a.consumed;
-      wake_at = wake.Never;
-      run = a.run;
-    }
+woken_as a = record a { runnable = true; blocked = false; wake_at = None }
 
 -- ---- reads
 
 -- whether an eval run is under way
-abbrev pub has_run : EvalRun → Bool
-has_run (run.Until ns) = true
-has_run run.Nothing = false
+abbrev pub has_run : Option ℕ → Bool
+has_run (Some ns) = true
+has_run None = false
 
 -- the deadline of an eval run; 0 where there is none
-abbrev pub deadline_of : EvalRun → ℕ
-deadline_of (run.Until ns) = ns
-deadline_of run.Nothing = 0
+abbrev pub deadline_of : Option ℕ → ℕ
+deadline_of (Some ns) = ns
+deadline_of None = 0

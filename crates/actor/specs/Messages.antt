@@ -1,39 +1,37 @@
 -- A message's row as cells, and the table of rows.
-use Rattle.std.specs.Prelude.{List, [], ◌∷◌, ℕ, ◌+◌, eqb, get_or, set}
+use Rattle.std.specs.Prelude.{List, [], ◌∷◌, ℕ, ◌+◌, eqb, get_or, set, Option, Some, None}
+use Rattle.message_log.specs.declared.LogId.{LogId}
+use Rattle.actor.specs.declared.message.CallerId.{CallerId}
 use Rattle.lists.specs.Links.{pick, capped}
-use Rattle.actor.specs.declared.message.Caller.{Caller}
-use Rattle.actor.specs.declared.message.Caller.TheVariants.{From, Nobody}
-use Rattle.actor.specs.declared.message.Logged.{Logged}
-use Rattle.actor.specs.declared.message.Logged.TheVariants.{As, Never}
 use Rattle.actor.specs.declared.message.Message.{Message}
 
 -- who waits for the outcome, read from its two cells: nobody if the tag is 0, else the caller of this number
-abbrev pub caller_of : ℕ → ℕ → Caller
-caller_of tag number = pick (eqb tag 0) Nobody (From (record { 0 = number }))
+abbrev pub caller_of : ℕ → ℕ → Option CallerId
+caller_of tag number = pick (eqb tag 0) None (Some (record { 0 = number }))
 
 -- whether a caller waits, as a cell: 1 for a caller, 0 for nobody
-abbrev pub caller_tag : Caller → ℕ
-caller_tag (From id) = 1
-caller_tag Nobody = 0
+abbrev pub caller_tag : Option CallerId → ℕ
+caller_tag (Some id) = 1
+caller_tag None = 0
 
 -- the caller id as a cell: 0 for nobody
-abbrev pub caller_number : Caller → ℕ
-caller_number (From id) = id.0
-caller_number Nobody = 0
+abbrev pub caller_number : Option CallerId → ℕ
+caller_number (Some id) = id.0
+caller_number None = 0
 
 -- the log id, read from its two cells: none if the tag is 0, else this number
-abbrev pub logged_of : ℕ → ℕ → Logged
-logged_of tag number = pick (eqb tag 0) Never (As (record { 0 = number }))
+abbrev pub logged_of : ℕ → ℕ → Option LogId
+logged_of tag number = pick (eqb tag 0) None (Some (record { 0 = number }))
 
 -- whether a message has a log id, as a cell: 1 with one, 0 with none
-abbrev pub logged_tag : Logged → ℕ
-logged_tag (As id) = 1
-logged_tag Never = 0
+abbrev pub logged_tag : Option LogId → ℕ
+logged_tag (Some id) = 1
+logged_tag None = 0
 
 -- the log id as a cell: 0 for none
-abbrev pub logged_number : Logged → ℕ
-logged_number (As id) = id.0
-logged_number Never = 0
+abbrev pub logged_number : Option LogId → ℕ
+logged_number (Some id) = id.0
+logged_number None = 0
 
 -- what a message's row of seven cells says of it; a missing cell is 0
 abbrev pub message_of : List ℕ → Message
@@ -63,11 +61,4 @@ put_message rows e m = set rows e (message_cells m)
 
 -- one attempt more, up to the largest number
 abbrev pub tried_of : Message → Message
-tried_of m = record {
-  attempts = capped (m.attempts + 1);
-  name_len = m.name_len;
-  body_len = m.body_len;
-  caller = m.caller;
-  id =
-      m.id;
-}
+tried_of m = record m { attempts = capped (m.attempts + 1) }

@@ -1,10 +1,8 @@
 -- The message in question as a part of the body store: where its name and its body begin and end. An entry has 160
 -- bytes, the name in the first 32, the body in the 128 behind them (docs/RULES.md, 1).
-use Rattle.std.specs.Prelude.{◌≡◌, Bool, ◌&&◌, List, ℕ, ◌+◌, ◌*◌, ◌≤◌, ltb, leb}
+use Rattle.std.specs.Prelude.{◌≡◌, Bool, ◌&&◌, List, ℕ, ◌+◌, ◌*◌, ◌≤◌, ltb, leb, Option, Some, None}
 use Rattle.message_log.specs.Opening.{NAME, BODY, ENTRY, STORE}
 use Rattle.text.specs.Bytes.{part}
-use Rattle.lists.specs.declared.Found.{Found}
-use Rattle.lists.specs.declared.Found.TheVariants.{Entry, Nothing}
 use Rattle.lists.specs.Links.{pick, Table, ENTRIES}
 use Rattle.actor.specs.declared.message.Message.{Message}
 use Rattle.actor.specs.Messages.{message_at}
@@ -36,9 +34,9 @@ unfoldable pub part_at : Table → ℕ → Part
 part_at rows e = pick (in_limits (message_at rows e) e) (row_part (message_at rows e) e) no_part
 
 -- the part of the message in question, if there is one
-abbrev pub part_of : Table → Found → Part
-part_of rows (Entry e) = part_at rows e
-part_of rows Nothing = no_part
+abbrev pub part_of : Table → Option ℕ → Part
+part_of rows (Some e) = part_at rows e
+part_of rows None = no_part
 
 -- a part that a host may read: name and body begin at most where they end, and end inside the body store
 pub record Inside (p : Part) : Type 0 where
@@ -48,6 +46,6 @@ pub record Inside (p : Part) : Type 0 where
   pub body_stored : p.body.to ≤ STORE
 
 -- the message in question, read from the body store, is this name and this body
-pub record Shows (store : List ℕ) (rows : Table) (m : Found) (name body : List ℕ) : Type 0 where
+pub record Shows (store : List ℕ) (rows : Table) (m : Option ℕ) (name body : List ℕ) : Type 0 where
   pub name_is : bytes_in store (part_of rows m).name ≡ name
   pub body_is : bytes_in store (part_of rows m).body ≡ body

@@ -1,31 +1,36 @@
 // A message put into a free entry of the body store: 160 bytes each, the name in the first 32, the body in the 128
 // after it.
+// Kept: the three tables stay parameters: only two functions pass them on, so that a struct of them would take as many
+// lines as it spares.
 ghost use Rattle.std.specs.Prelude.{◌≡◌};
 ghost use Rattle.actor.specs.Entry.{put_bytes, store_entry, keep_at, keep_of};
 
 use crate::message;
-use crate::message::{Caller, Logged, MessageRow};
-use lists::{Found, LinkRow};
-use message_log::{ENTRY, NAME};
+use crate::message::{CallerId, Message, MessageRow};
+use lists::LinkRow;
+use message_log::{ENTRY, LogId, NAME};
+
+// A message that comes: its group's name, its body, who waits for its outcome, and the id that it is logged under.
+#[derive(Clone, Copy)]
+pub struct Arrival<'a> {
+    pub name: &'a [u8],
+    pub body: &'a [u8],
+    pub caller: Option<CallerId>,
+    pub id: Option<LogId>,
+}
 
 // Bytes written over a part of the store; where they do not fit nothing is.
+#[tactic(auto, unfolding(crate::specs::Entry::put_bytes, text::specs::Bytes::write))]
 fn put_bytes(store: &mut [u8], at: usize, bytes: &[u8])
     ensures { store.new ≡ put_bytes store.old at bytes.now }
 {
-    if store.len() < at {
-        return;
-    }
-    if store.len() - at < bytes.len() {
-        return;
-    }
-    let mut i: usize = 0;
-    while i < bytes.len() {
-        store[at + i] = bytes[i];
-        i += 1;
+    if at <= store.len() && bytes.len() <= store.len() - at {
+        store[at..at + bytes.len()].copy_from_slice(bytes);
     }
 }
 
 // The name and body of an entry.
+#[tactic(auto, unfolding(crate::specs::Entry::store_entry))]
 fn store_entry(store: &mut [u8], entry: usize, name: &[u8], body: &[u8])
     ensures { store.new ≡ store_entry store.old entry name.now
         body.now }
@@ -37,56 +42,44 @@ fn store_entry(store: &mut [u8], entry: usize, name: &[u8], body: &[u8])
 }
 
 // A message in this entry, the first of the free ones, which goes to the end of a list.
+#[tactic(auto, unfolding(crate::specs::Entry::keep_at))]
 fn keep_at(
     store: &mut [u8],
     links: &mut [LinkRow],
     rows: &mut [MessageRow],
     entry: usize,
-    name: &[u8],
-    body: &[u8],
-    caller: Caller,
-    id: Logged,
+    a: Arrival,
     to: usize,
 )
     ensures { record { store = store.new; links = links.new; rows = rows.new }
         ≡ keep_at
         (record { store = store.old; links = links.old; rows = rows.old })
         entry
-        (record { name = name.now; body = body.now; caller = caller; id = id })
+        (record { name = a.entry.name.now; body = a.entry.body.now; caller = a.entry.caller; id = a.entry.id })
         to }
 {
-    store_entry(store, entry, name, body);
-    message::put_row(
-        rows,
-        entry,
-        0,
-        name.len() as u64,
-        body.len() as u64,
-        caller,
-        id,
-    );
+    store_entry(store, entry, a.name, a.body);
+    let row = Message {
+        attempts: 0,
+        name_len: a.name.len() as u64,
+        body_len: a.body.len() as u64,
+        caller: a.caller,
+        id: a.id,
+    };
+    message::put_row(rows, entry, row);
     lists::move_first(links, lists::FREE, to);
 }
 
 // A message in the first free entry, which goes to the end of a list; with none free nothing changes.
-pub fn keep(
-    store: &mut [u8],
-    links: &mut [LinkRow],
-    rows: &mut [MessageRow],
-    name: &[u8],
-    body: &[u8],
-    caller: Caller,
-    id: Logged,
-    to: usize,
-)
+#[tactic(auto, unfolding(crate::specs::Entry::keep_of))]
+pub fn keep(store: &mut [u8], links: &mut [LinkRow], rows: &mut [MessageRow], a: Arrival, to: usize)
     ensures { record { store = store.new; links = links.new; rows = rows.new }
         ≡ keep_of
         (record { store = store.old; links = links.old; rows = rows.old })
-        (record { name = name.now; body = body.now; caller = caller; id = id })
+        (record { name = a.entry.name.now; body = a.entry.body.now; caller = a.entry.caller; id = a.entry.id })
         to }
 {
-    match lists::first(links, lists::FREE) {
-        Found::Entry(e) => keep_at(store, links, rows, e, name, body, caller, id, to),
-        Found::Nothing => {}
+    if let Some(entry) = lists::first(links, lists::FREE) {
+        keep_at(store, links, rows, entry, a, to);
     }
 }

@@ -6,6 +6,7 @@
 // specs/.
 #![tactic(auto)]
 
+mod cells; // a number that may be missing, in two cells
 pub mod message; // a message's row: attempts, lengths, caller, log id
 pub mod question; // what is asked, and what may be replied
 pub mod state; // an actor's state

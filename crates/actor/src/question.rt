@@ -2,10 +2,10 @@
 // a count, a status. Which kind a question wants is `kind_wanted` (specs/Questions); a clock must be below
 // 2^63.
 ghost use Rattle.std.specs.Prelude.{◌≡◌};
-ghost use Rattle.actor.specs.Questions.{slot_of, yes_in, clock_in, count_in, ran_in, is_told, kind_of};
+ghost use Rattle.actor.specs.Questions.{slot_of, yes_in, clock_in, count_in, ran_in, is_told, kind_of, outcome_of};
 
 use crate::message::CallerId;
-use lists::{Found, slab};
+use lists::slab;
 use message_log::Order;
 
 // The keys of a group.
@@ -19,22 +19,19 @@ pub struct Who {
 }
 
 // The slot of an actor among the lists, 16 for each group, or a number that no actor has.
+#[tactic(auto, unfolding(crate::specs::Questions::slot_of))]
 pub fn slot_of(who: Who) -> usize
     ensures { result ≡ slot_of who }
 {
-    let group = who.group;
-    let key = who.key;
-    if lists::GROUPS <= group {
-        return lists::SLOTS;
+    if who.group < lists::GROUPS && who.key < KEYS {
+        KEYS * who.group + who.key
+    } else {
+        lists::SLOTS
     }
-    if KEYS <= key {
-        return lists::SLOTS;
-    }
-    KEYS * group + key
 }
 
 // How a run came back.
-#[derive(Clone, Copy)]
+#[derive(Clone, Copy, PartialEq, Eq)]
 pub enum Status {
     Done,
     Exit,
@@ -46,7 +43,7 @@ pub enum Status {
 }
 
 // What a caller is told.
-#[derive(Drop)]
+#[derive(Clone, Copy, PartialEq, Eq)]
 pub enum Outcome {
     Ran,
     Unbooted,
@@ -55,6 +52,26 @@ pub enum Outcome {
     Late,
     StuckHostCall,
     StuckReceive,
+}
+
+// The outcome of a number, as `as u64` tells it; a number of no outcome is read as `StuckReceive`.
+// Kept: an arm for each number, as in the `From<u64>` of the other enums: each names its own variants, and a number of
+// none is read as another of them.
+impl From<u64> for Outcome {
+    ghost from_gives = { λ n outcome. outcome ≡ outcome_of n };
+
+    #[tactic(auto, unfolding(crate::specs::Questions::outcome_of))]
+    fn from(n: u64) -> Outcome {
+        match n {
+            0 => Outcome::Ran,
+            1 => Outcome::Unbooted,
+            2 => Outcome::Broke,
+            3 => Outcome::Raised,
+            4 => Outcome::Late,
+            5 => Outcome::StuckHostCall,
+            _ => Outcome::StuckReceive,
+        }
+    }
 }
 
 #[derive(Drop)]
@@ -69,24 +86,17 @@ pub enum Question {
     Run {
         who: Who,
         start: bool,
-        message: Found,
+        message: Option<usize>,
     },
     Push {
         who: Who,
-        message: Found,
+        message: Option<usize>,
     },
     Sends(Who),
     Trap(usize),
     Trapped(Who),
     Tell(CallerId, Outcome),
     Store(Order),
-}
-
-// What is asked, if anything.
-#[derive(Drop)]
-pub enum Asked {
-    Open(Question),
-    Nothing,
 }
 
 #[derive(Clone, Copy)]
@@ -107,134 +117,68 @@ pub enum Reply {
 }
 
 // A reply read as yes or no.
-#[derive(Drop)]
-pub enum YesIn {
-    Yes,
-    No,
-    Other,
-}
-
-// A reply read as a clock.
-#[derive(Drop)]
-pub enum ClockIn {
-    Of(u64),
-    Other,
-}
-
-// A reply read as a count.
-#[derive(Drop)]
-pub enum CountIn {
-    Of(u64),
-    Other,
-}
-
-// A reply read as a status.
-#[derive(Drop)]
-pub enum RanIn {
-    Of(Status),
-    Other,
-}
-
-pub fn yes_in(r: Reply) -> YesIn
+pub fn yes_in(r: Reply) -> Option<bool>
     ensures { result ≡ yes_in r }
 {
     match r {
-        Reply::Yes => YesIn::Yes,
-        Reply::No => YesIn::No,
-        Reply::Clock(_) => YesIn::Other,
-        Reply::Count(_) => YesIn::Other,
-        Reply::Ran(_) => YesIn::Other,
-        Reply::Message => YesIn::Other,
-        Reply::End => YesIn::Other,
-        Reply::Told => YesIn::Other,
-        Reply::Stored => YesIn::Other,
-        Reply::Failed => YesIn::Other,
+        Reply::Yes => Some(true),
+        Reply::No => Some(false),
+        _ => None,
     }
 }
 
-pub fn clock_in(r: Reply) -> ClockIn
+// A reply read as a clock.
+// Kept: this function and the next two each read their own variant, which no parameter can be.
+pub fn clock_in(r: Reply) -> Option<u64>
     ensures { result ≡ clock_in r }
 {
     match r {
-        Reply::Yes => ClockIn::Other,
-        Reply::No => ClockIn::Other,
-        Reply::Clock(ns) => ClockIn::Of(ns),
-        Reply::Count(_) => ClockIn::Other,
-        Reply::Ran(_) => ClockIn::Other,
-        Reply::Message => ClockIn::Other,
-        Reply::End => ClockIn::Other,
-        Reply::Told => ClockIn::Other,
-        Reply::Stored => ClockIn::Other,
-        Reply::Failed => ClockIn::Other,
+        Reply::Clock(ns) => Some(ns),
+        _ => None,
     }
 }
 
-pub fn count_in(r: Reply) -> CountIn
+// A reply read as a count.
+pub fn count_in(r: Reply) -> Option<u64>
     ensures { result ≡ count_in r }
 {
     match r {
-        Reply::Yes => CountIn::Other,
-        Reply::No => CountIn::Other,
-        Reply::Clock(_) => CountIn::Other,
-        Reply::Count(n) => CountIn::Of(n),
-        Reply::Ran(_) => CountIn::Other,
-        Reply::Message => CountIn::Other,
-        Reply::End => CountIn::Other,
-        Reply::Told => CountIn::Other,
-        Reply::Stored => CountIn::Other,
-        Reply::Failed => CountIn::Other,
+        Reply::Count(n) => Some(n),
+        _ => None,
     }
 }
 
-pub fn ran_in(r: Reply) -> RanIn
+// A reply read as how a run came back.
+pub fn ran_in(r: Reply) -> Option<Status>
     ensures { result ≡ ran_in r }
 {
     match r {
-        Reply::Yes => RanIn::Other,
-        Reply::No => RanIn::Other,
-        Reply::Clock(_) => RanIn::Other,
-        Reply::Count(_) => RanIn::Other,
-        Reply::Ran(s) => RanIn::Of(s),
-        Reply::Message => RanIn::Other,
-        Reply::End => RanIn::Other,
-        Reply::Told => RanIn::Other,
-        Reply::Stored => RanIn::Other,
-        Reply::Failed => RanIn::Other,
+        Reply::Ran(s) => Some(s),
+        _ => None,
     }
 }
 
 // Whether a reply is that a caller was told.
+// Kept: it names its own variant, as `is_message` of the crate answers does.
 pub fn is_told(r: Reply) -> bool
     ensures { result ≡ is_told r }
 {
-    match r {
-        Reply::Yes => false,
-        Reply::No => false,
-        Reply::Clock(_) => false,
-        Reply::Count(_) => false,
-        Reply::Ran(_) => false,
-        Reply::Message => false,
-        Reply::End => false,
-        Reply::Told => true,
-        Reply::Stored => false,
-        Reply::Failed => false,
-    }
+    matches!(r, Reply::Told)
 }
 
 // The kind of a reply as a number; 0 is that of a clock of 2^63 or more, which nothing wants.
+// Kept: a number, since the definitions `kind_of`, `kind_wanted` and `wanted_by` number the kinds, and what is proved
+// of `reply_fits` (theorem/proofs/OrderShown.antt) is that the kinds of a turn are below 7.
 pub fn kind_of(r: Reply) -> u64
     ensures { result ≡ kind_of r }
 {
     match r {
-        Reply::Yes => 1,
-        Reply::No => 1,
+        Reply::Yes | Reply::No => 1,
         Reply::Clock(ns) => { if ns <= 9223372036854775807 { 2 } else { 0 } }
         Reply::Count(_) => 3,
         Reply::Ran(_) => 4,
-        Reply::Message => 5,
-        Reply::End => 5,
+        Reply::Message | Reply::End => 5,
         Reply::Told => 6,
-        Reply::Stored => 7,
-        Reply::Failed => 7,
+        Reply::Stored | Reply::Failed => 7,
     }
 }

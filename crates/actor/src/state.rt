@@ -2,36 +2,52 @@
 // are lists of the crate `lists`. It is read and changed where it lies, in its row of twelve cells: a read takes the
 // cells that it needs, and a change stores the cells whose meaning it changes. The definitions are exact for every
 // row; that what is put is read back is `actor_put` (proofs/Back.antt).
-ghost use Rattle.std.specs.Prelude.{◌≡◌, [], get_or, set, ◌<◌};
-ghost use Rattle.actor.specs.Actors.{mode_of, bool_of, wake_time_of, eval_run_of, mode_onto, kept_number, flagged};
-ghost use Rattle.actor.specs.Actors.{numbered, unnumbered, blocked_cells, woken_cells, actor_at, put_actor};
+#![tactic(auto, using(crate::proofs::Onto::changed), unfolding(crate::specs::Actors::actor_at, crate::specs::Actors::actor_of, crate::specs::Actors::put_actor))]
+
+ghost use Rattle.std.specs.Prelude.{◌≡◌, set};
+ghost use Rattle.actor.specs.Actors.{mode_onto, kept_number, flagged, numbered, unnumbered, actor_at, put_actor};
 ghost use Rattle.actor.specs.Actors.{new_actor, delivered_to, scheduled_as, began_step, started_as, idled_as};
 ghost use Rattle.actor.specs.Actors.{consumed_as, running_to, blocked_to, yielded_as, woken_as, deadline_of, has_run};
 
+use crate::cells::number_at;
+use lists::cell_at;
+
 // A fixed program that loops over receive(), or an evaluator of one message at a time.
-#[derive(Drop)]
+#[derive(Clone, Copy, PartialEq, Eq)]
 pub enum Mode {
     Fixed,
     Eval,
 }
 
-// When a blocked actor is woken at the latest (the Rust's `wake_at`).
-#[derive(Drop)]
-pub enum Wake {
-    At(u64),
-    Never,
-}
-
-// An eval run between steps, with its deadline. Its message is in the actor's hands.
-#[derive(Drop)]
-pub enum EvalRun {
-    Until(u64),
-    Nothing,
-}
-
 // An actor's row, as it is lent: the mode, seven flags, whether and when it is woken, whether there is an eval run
 // and its deadline.
+// Kept: numbers for the mode, the flags and the tags, since the row is lent memory of numbers.
 pub type ActorRow = [u64; 12];
+
+// The cells of a row, in order: 0 is a fixed actor, and of the flags and the two tags 0 is no.
+const MODE_CELL: usize = 0;
+
+const STARTED: usize = 1;
+
+const RAN: usize = 2;
+
+const IDLE: usize = 3;
+
+const RUNNABLE: usize = 4;
+
+const SCHEDULED: usize = 5;
+
+const BLOCKED: usize = 6;
+
+const CONSUMED: usize = 7;
+
+const WAKES: usize = 8;
+
+const WAKES_AT: usize = 9;
+
+const RUNS: usize = 10;
+
+const RUNS_UNTIL: usize = 11;
 
 // What a row means.
 #[derive(Drop)]
@@ -51,159 +67,106 @@ pub struct Actor {
     pub blocked: bool,
     // it took a message from its mailbox
     pub consumed: bool,
-    pub wake_at: Wake,
-    pub run: EvalRun,
-}
-
-fn mode_of(n: u64) -> Mode
-    ensures { result ≡ mode_of n }
-{
-    if n == 0 { Mode::Fixed } else { Mode::Eval }
-}
-
-fn bool_of(n: u64) -> bool
-    ensures { result ≡ bool_of n }
-{
-    if n == 0 { false } else { true }
-}
-
-fn wake_of(tag: u64, ns: u64) -> Wake
-    ensures { result ≡ wake_time_of tag ns }
-{
-    if tag == 0 { Wake::Never } else { Wake::At(ns) }
-}
-
-fn run_of(tag: u64, ns: u64) -> EvalRun
-    ensures { result ≡ eval_run_of tag ns }
-{
-    if tag == 0 {
-        EvalRun::Nothing
-    } else {
-        EvalRun::Until(ns)
-    }
+    pub wake_at: Option<u64>,
+    pub run: Option<u64>,
 }
 
 // ---- a row of the table; past the table's end it is that of a new fixed actor
-
-// A cell of a row, read where it stands.
-fn cell_at(actors: &[ActorRow], slot: usize, i: usize) -> u64
-    requires { i < 12 }
-    ensures { result ≡ get_or (get_or actors.now slot []) i 0 }
-{
-    if slot < actors.len() {
-        actors[slot][i]
-    } else {
-        0
-    }
-}
+// Kept: one reader for each cell, a line each over `cell_at` and `number_at`: each says by its contract which field of
+// the actor its cell means, and callers name no cells.
 
 // How it runs.
 pub fn mode_at(actors: &[ActorRow], slot: usize) -> Mode
     ensures { result ≡ (actor_at actors.now slot).mode }
 {
-    let n = cell_at(actors, slot, 0);
-    mode_of(n)
+    if cell_at(actors, slot, MODE_CELL) == 0 {
+        Mode::Fixed
+    } else {
+        Mode::Eval
+    }
 }
 
 // Whether its program was started.
 pub fn is_started(actors: &[ActorRow], slot: usize) -> bool
     ensures { result ≡ (actor_at actors.now slot).started }
 {
-    let n = cell_at(actors, slot, 1);
-    bool_of(n)
+    cell_at(actors, slot, STARTED) != 0
 }
 
 // Whether it was ever stepped.
 pub fn has_run_once(actors: &[ActorRow], slot: usize) -> bool
     ensures { result ≡ (actor_at actors.now slot).ran }
 {
-    let n = cell_at(actors, slot, 2);
-    bool_of(n)
+    cell_at(actors, slot, RAN) != 0
 }
 
 // Whether it is parked in receive() with nothing to take.
 pub fn is_idle(actors: &[ActorRow], slot: usize) -> bool
     ensures { result ≡ (actor_at actors.now slot).idle }
 {
-    let n = cell_at(actors, slot, 3);
-    bool_of(n)
+    cell_at(actors, slot, IDLE) != 0
 }
 
 // Whether a wait ended.
 pub fn is_runnable(actors: &[ActorRow], slot: usize) -> bool
     ensures { result ≡ (actor_at actors.now slot).runnable }
 {
-    let n = cell_at(actors, slot, 4);
-    bool_of(n)
+    cell_at(actors, slot, RUNNABLE) != 0
 }
 
 // Whether it is in the ready list.
 pub fn is_scheduled(actors: &[ActorRow], slot: usize) -> bool
     ensures { result ≡ (actor_at actors.now slot).scheduled }
 {
-    let n = cell_at(actors, slot, 5);
-    bool_of(n)
+    cell_at(actors, slot, SCHEDULED) != 0
 }
 
 // Whether it is parked on a host call.
 pub fn is_blocked(actors: &[ActorRow], slot: usize) -> bool
     ensures { result ≡ (actor_at actors.now slot).blocked }
 {
-    let n = cell_at(actors, slot, 6);
-    bool_of(n)
+    cell_at(actors, slot, BLOCKED) != 0
 }
 
 // Whether it ever took a message from its mailbox.
 pub fn has_consumed(actors: &[ActorRow], slot: usize) -> bool
     ensures { result ≡ (actor_at actors.now slot).consumed }
 {
-    let n = cell_at(actors, slot, 7);
-    bool_of(n)
+    cell_at(actors, slot, CONSUMED) != 0
 }
 
 // When it is woken at the latest.
-pub fn wakes_at(actors: &[ActorRow], slot: usize) -> Wake
+pub fn wakes_at(actors: &[ActorRow], slot: usize) -> Option<u64>
     ensures { result ≡ (actor_at actors.now slot).wake_at }
 {
-    let tag = cell_at(actors, slot, 8);
-    let ns = cell_at(actors, slot, 9);
-    wake_of(tag, ns)
+    number_at(actors, slot, WAKES, WAKES_AT)
 }
 
-// Its run between steps, where it has one.
-fn run_at(actors: &[ActorRow], slot: usize) -> EvalRun
+// Its run between steps, where it has one: until when.
+fn run_at(actors: &[ActorRow], slot: usize) -> Option<u64>
     ensures { result ≡ (actor_at actors.now slot).run }
 {
-    let tag = cell_at(actors, slot, 10);
-    let ns = cell_at(actors, slot, 11);
-    run_of(tag, ns)
+    number_at(actors, slot, RUNS, RUNS_UNTIL)
 }
 
 // Whether a run waits between steps.
 pub fn has_run(actors: &[ActorRow], slot: usize) -> bool
     ensures { result ≡ has_run (actor_at actors.now slot).run }
 {
-    let run = run_at(actors, slot);
-    match run {
-        EvalRun::Until(_) => true,
-        EvalRun::Nothing => false,
-    }
+    run_at(actors, slot).is_some()
 }
 
 // The deadline of its run; of none, 0.
 pub fn deadline_of(actors: &[ActorRow], slot: usize) -> u64
     ensures { result ≡ deadline_of (actor_at actors.now slot).run }
 {
-    let run = run_at(actors, slot);
-    match run {
-        EvalRun::Until(ns) => ns,
-        EvalRun::Nothing => 0,
-    }
+    run_at(actors, slot).unwrap_or(0)
 }
 
 // ---- cells of one row: a cell is written only where its meaning changes
 
 // A cell of a row is stored.
+// Kept: as `put_keys` of the crate lists, which stores a row; one function of both would be public, for one line.
 fn put_cell(row: &mut [u64], i: usize, n: u64)
     ensures { row.new ≡ set row.old i n }
 {
@@ -216,11 +179,8 @@ fn put_cell(row: &mut [u64], i: usize, n: u64)
 fn raise(row: &mut [u64], i: usize)
     ensures { row.new ≡ flagged row.old i }
 {
-    if i < row.len() {
-        let n = row[i];
-        if n == 0 {
-            row[i] = 1;
-        }
+    if i < row.len() && row[i] == 0 {
+        row[i] = 1;
     }
 }
 
@@ -233,28 +193,27 @@ fn put_number(row: &mut [u64], i: usize, at: usize, n: u64)
 }
 
 // The tag at `i` says that there is no number; the one that was there is gone.
+#[tactic(auto, using(crate::proofs::Onto::unnumbered_same))]
 fn clear_number(row: &mut [u64], i: usize, at: usize)
     ensures { row.new ≡ unnumbered row.old i at }
 {
-    if i < row.len() {
-        let tag = row[i];
-        if tag == 0 {
-            return;
-        }
+    if i < row.len() && row[i] != 0 {
         row[i] = 0;
         put_cell(row, at, 0);
     }
 }
 
+// A mode as a cell, over the cell `n` that was there.
 fn mode_onto(n: u64, m: Mode) -> u64
     ensures { result ≡ mode_onto n m }
 {
     match m {
         Mode::Fixed => 0,
-        Mode::Eval => { if n == 0 { 1 } else { n } }
+        Mode::Eval => n.max(1),
     }
 }
 
+// The number of what is not there: as it was where nothing was there before.
 fn kept_number(tag: u64, n: u64) -> u64
     ensures { result ≡ kept_number tag n }
 {
@@ -262,16 +221,19 @@ fn kept_number(tag: u64, n: u64) -> u64
 }
 
 // ---- changes of an actor where it lies; past the table's end nothing is stored
+// Kept: one function for each change, over `raise` and `put_cell`: each says by its contract what the actor is then,
+// and callers name no cells.
 
 // An actor that has never been stepped takes the slot.
+#[tactic(auto, unfolding(crate::specs::Actors::put_actor, crate::specs::Actors::actor_onto))]
 pub fn new_at(actors: &mut [ActorRow], slot: usize, mode: Mode)
     ensures { actors.new ≡ put_actor actors.old slot (new_actor mode) }
 {
     if slot < actors.len() {
         let c = actors[slot];
-        let m = mode_onto(c[0], mode);
-        let ns = kept_number(c[8], c[9]);
-        let until = kept_number(c[10], c[11]);
+        let m = mode_onto(c[MODE_CELL], mode);
+        let ns = kept_number(c[WAKES], c[WAKES_AT]);
+        let until = kept_number(c[RUNS], c[RUNS_UNTIL]);
         actors[slot] = [m, 0, 0, 0, 0, 0, 0, 0, 0, ns, 0, until];
     }
 }
@@ -282,7 +244,7 @@ pub fn delivered_at(actors: &mut [ActorRow], slot: usize)
         ≡ put_actor actors.old slot (delivered_to (actor_at actors.old slot)) }
 {
     if slot < actors.len() {
-        put_cell(&mut actors[slot], 3, 0);
+        actors[slot][IDLE] = 0;
     }
 }
 
@@ -293,19 +255,11 @@ pub fn scheduled_at(actors: &mut [ActorRow], slot: usize, there: bool)
 {
     if slot < actors.len() {
         if there {
-            raise(&mut actors[slot], 5);
+            raise(&mut actors[slot], SCHEDULED);
         } else {
-            put_cell(&mut actors[slot], 5, 0);
+            put_cell(&mut actors[slot], SCHEDULED, 0);
         }
     }
-}
-
-// The cells of a step that begins.
-fn begin_row(row: &mut [u64])
-    ensures { row.new ≡ set (flagged row.old 2) 4 0 }
-{
-    raise(row, 2);
-    put_cell(row, 4, 0);
 }
 
 // A step begins.
@@ -314,7 +268,9 @@ pub fn began_at(actors: &mut [ActorRow], slot: usize)
         ≡ put_actor actors.old slot (began_step (actor_at actors.old slot)) }
 {
     if slot < actors.len() {
-        begin_row(&mut actors[slot]);
+        let row = &mut actors[slot];
+        raise(row, RAN);
+        put_cell(row, RUNNABLE, 0);
     }
 }
 
@@ -324,7 +280,7 @@ pub fn started_at(actors: &mut [ActorRow], slot: usize)
         ≡ put_actor actors.old slot (started_as (actor_at actors.old slot)) }
 {
     if slot < actors.len() {
-        raise(&mut actors[slot], 1);
+        raise(&mut actors[slot], STARTED);
     }
 }
 
@@ -334,7 +290,7 @@ pub fn idled_at(actors: &mut [ActorRow], slot: usize)
         ≡ put_actor actors.old slot (idled_as (actor_at actors.old slot)) }
 {
     if slot < actors.len() {
-        raise(&mut actors[slot], 3);
+        raise(&mut actors[slot], IDLE);
     }
 }
 
@@ -344,7 +300,7 @@ pub fn consumed_at(actors: &mut [ActorRow], slot: usize)
         ≡ put_actor actors.old slot (consumed_as (actor_at actors.old slot)) }
 {
     if slot < actors.len() {
-        raise(&mut actors[slot], 7);
+        raise(&mut actors[slot], CONSUMED);
     }
 }
 
@@ -354,51 +310,36 @@ pub fn yielded_at(actors: &mut [ActorRow], slot: usize)
         ≡ put_actor actors.old slot (yielded_as (actor_at actors.old slot)) }
 {
     if slot < actors.len() {
-        raise(&mut actors[slot], 4);
+        raise(&mut actors[slot], RUNNABLE);
     }
 }
 
 // Its run is this one, or over.
-pub fn running_at(actors: &mut [ActorRow], slot: usize, run: EvalRun)
+pub fn running_at(actors: &mut [ActorRow], slot: usize, run: Option<u64>)
     ensures { actors.new
         ≡ put_actor actors.old slot (running_to (actor_at actors.old slot) run) }
 {
     if slot < actors.len() {
         match run {
-            EvalRun::Until(ns) => put_number(&mut actors[slot], 10, 11, ns),
-            EvalRun::Nothing => clear_number(&mut actors[slot], 10, 11),
+            Some(ns) => put_number(&mut actors[slot], RUNS, RUNS_UNTIL, ns),
+            None => clear_number(&mut actors[slot], RUNS, RUNS_UNTIL),
         }
     }
 }
 
-// The cells of an actor that waits until then, or for ever.
-fn block_row(row: &mut [u64], until: Wake)
-    ensures { row.new ≡ blocked_cells row.old until }
-{
-    raise(row, 6);
-    match until {
-        Wake::At(ns) => put_number(row, 8, 9, ns),
-        Wake::Never => clear_number(row, 8, 9),
-    }
-}
-
 // Parked on a host call, woken at the latest at `until`.
-pub fn blocked_at(actors: &mut [ActorRow], slot: usize, until: Wake)
+pub fn blocked_at(actors: &mut [ActorRow], slot: usize, until: Option<u64>)
     ensures { actors.new
         ≡ put_actor actors.old slot (blocked_to (actor_at actors.old slot) until) }
 {
     if slot < actors.len() {
-        block_row(&mut actors[slot], until);
+        let row = &mut actors[slot];
+        raise(row, BLOCKED);
+        match until {
+            Some(ns) => put_number(row, WAKES, WAKES_AT, ns),
+            None => clear_number(row, WAKES, WAKES_AT),
+        }
     }
-}
-
-// The cells of an actor whose wait ended.
-fn wake_row(row: &mut [u64])
-    ensures { row.new ≡ woken_cells row.old }
-{
-    raise(row, 4);
-    put_cell(row, 6, 0);
-    clear_number(row, 8, 9);
 }
 
 // Its wait ended.
@@ -407,6 +348,9 @@ pub fn woken_at(actors: &mut [ActorRow], slot: usize)
         ≡ put_actor actors.old slot (woken_as (actor_at actors.old slot)) }
 {
     if slot < actors.len() {
-        wake_row(&mut actors[slot]);
+        let row = &mut actors[slot];
+        raise(row, RUNNABLE);
+        put_cell(row, BLOCKED, 0);
+        clear_number(row, WAKES, WAKES_AT);
     }
 }

@@ -1,5 +1,6 @@
 -- A refusal of the log has the same number in the pool; and an answer can be read back from its numbers, so that these
 -- say it and no other. Assumes nothing.
+use Rattle.std.specs.Prelude.{Some, None}
 use mathlib.Core.Path.{◌≡◌, refl, sym, ap, ◌∙◌}
 use mathlib.Core.Bool.{Bool, true, false}
 use Prim.Native.Nat.{ℕ}
@@ -14,7 +15,6 @@ use Rattle.actor.specs.declared.question.Outcome.{Outcome}
 use Rattle.actor.specs.declared.question.Outcome.TheVariants as outcome
 use Rattle.actor.specs.declared.question.Question.{Question}
 use Rattle.actor.specs.declared.question.Question.TheVariants as ask
-use Rattle.actor.specs.declared.question.Asked.TheVariants as asked
 use Rattle.answers.specs.declared.answer.Refusal.{Refusal}
 use Rattle.answers.specs.declared.answer.Refusal.TheVariants as refusal
 use Rattle.answers.specs.declared.answer.Answer.{Answer}
@@ -120,7 +120,7 @@ question_from n =
     (case n.kind 14 (ask.Trap n.a)
     (case n.kind 15 (ask.Trapped (who_from n)) (ask.Tell (record { 0 = n.a }) (outcome_from n.b))))))))))))))
 
-question_back : (q : Question) → question_from (numbers_of (answer.Open (asked.Open q))) ≡ q
+question_back : (q : Question) → question_from (numbers_of (answer.Open (Some q))) ≡ q
 unfolding question_from
 question_back (ask.Boot g) = refl
 question_back ask.Clock = refl
@@ -139,14 +139,14 @@ question_back (ask.Store order.Flush) = refl
 
 answer_from : AnswerNumbers → Answer
 answer_from n =
-    case n.kind 0 (answer.Open asked.Nothing)
+    case n.kind 0 (answer.Open None)
     (case n.kind 1 (answer.Refused (refusal_from n.a))
-    (case n.kind 2 (answer.Ended (flag_from n.a) (flag_from n.b)) (answer.Open (asked.Open (question_from n)))))
+    (case n.kind 2 (answer.Ended (flag_from n.a) (flag_from n.b)) (answer.Open (Some (question_from n)))))
 
 -- a question's kind is none of the first three
 open_from : (q : Question)
-    → answer_from (numbers_of (answer.Open (asked.Open q)))
-    ≡ answer.Open (asked.Open (question_from (numbers_of (answer.Open (asked.Open q)))))
+    → answer_from (numbers_of (answer.Open (Some q)))
+    ≡ answer.Open (Some (question_from (numbers_of (answer.Open (Some q)))))
 unfolding answer_from
 open_from (ask.Boot g) = refl
 open_from ask.Clock = refl
@@ -167,9 +167,9 @@ answer_back : (a : Answer) → answer_from (numbers_of a) ≡ a
 unfolding answer_from
 answer_back (answer.Refused r) = ap answer.Refused (refusal_back r)
 answer_back (answer.Ended busy waiters) = rw (flag_back busy, flag_back waiters)
-answer_back (answer.Open asked.Nothing) = refl
-answer_back (answer.Open (asked.Open q)) =
-    open_from q ∙ ap (λ x. answer.Open (asked.Open x)) (question_back q)
+answer_back (answer.Open None) = refl
+answer_back (answer.Open (Some q)) =
+    open_from q ∙ ap (λ x. answer.Open (Some x)) (question_back q)
 
 -- the numbers of an answer say it, and no other answer
 pub answer_says : (a : Answer) → AnswerSays a (numbers_of a)

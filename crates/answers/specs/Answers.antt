@@ -1,9 +1,9 @@
 -- What a call answers, and what it leaves; the numbers of refusals.
-use Rattle.std.specs.Prelude.{ℕ}
+use Rattle.std.specs.Prelude.{ℕ, Option, Result, Ok, Err}
+use Rattle.actor.specs.declared.question.Question.{Question}
 use Rattle.lists.specs.Links.{Table}
 use Rattle.message_log.specs.declared.Refusal as of-log
 use Rattle.message_log.specs.declared.Refusal.TheVariants as logged
-use Rattle.actor.specs.declared.question.Asked.{Asked}
 use Rattle.actor.specs.Entry.{Messages, Arrival, keep_of}
 use Rattle.turn.specs.State.{Pool, State, with_store, with_links, with_rows}
 use Rattle.turn.specs.Asks.{asked_in, open_in}
@@ -11,9 +11,8 @@ use Rattle.answers.specs.declared.answer.Refusal.{Refusal}
 use Rattle.answers.specs.declared.answer.Refusal.TheVariants as refusal
 use Rattle.answers.specs.declared.answer.Answer.{Answer}
 use Rattle.answers.specs.declared.answer.Answer.TheVariants as answer
-use Rattle.answers.specs.declared.answer.AnswerKind.{AnswerKind}
-use Rattle.answers.specs.declared.answer.AnswerKind.TheVariants as kind
-use Rattle.answers.specs.declared.answer.Called.{Called}
+use Rattle.answers.specs.declared.answer.Accepted.{Accepted}
+use Rattle.answers.specs.declared.answer.Accepted.TheVariants as accepted
 
 -- the number of each refusal (docs/RULES.md, 8)
 abbrev pub number_of : Refusal → ℕ
@@ -68,18 +67,15 @@ with_messages s m = with_rows (with_links (with_store s m.store) m.links) m.rows
 abbrev pub kept : State → Arrival → ℕ → State
 kept s a to = with_messages s (keep_of (messages_in s) a to)
 
--- ---- what the words of an answer mean: what is open is told by the pool, the lists and the rows
+-- ---- what a call answers: what is open is told by the pool, the lists and the rows
 
 -- what is open: Store while an order waits, nothing after a failed one, else the turn's question, if it is at one
-abbrev pub open_by : Pool → Table → Table → Asked
+abbrev pub open_by : Pool → Table → Table → Option Question
 open_by p t rows = asked_in p.turn.disk p.turn.at t rows
 
--- by the kind: refused, for the words' reason; what is open now; or the turn's end, with the words' busy and waiters
-abbrev pub answer_by : AnswerKind → Called → Pool → Table → Table → Answer
-answer_by kind.Refused w p t rows = answer.Refused w.refusal
-answer_by kind.Open w p t rows = answer.Open (open_by p t rows)
-answer_by kind.Ended w p t rows = answer.Ended w.busy w.waiters
-
--- the answer that the words of a call mean, with this pool, these lists and these rows
-abbrev pub answer_of : Called → Pool → Table → Table → Answer
-answer_of w p t rows = answer_by w.kind w p t rows
+-- the answer of a call that went so, with this pool, these lists and these rows: refused; what is open now; or the
+-- turn's end, with busy and waiters
+abbrev pub answer_of : Result Accepted Refusal → Pool → Table → Table → Answer
+answer_of (Err r) p t rows = answer.Refused r
+answer_of (Ok accepted.Open) p t rows = answer.Open (open_by p t rows)
+answer_of (Ok (accepted.Ended busy waiters)) p t rows = answer.Ended busy waiters

@@ -1,7 +1,6 @@
 -- An answer in numbers: which answer it is, its values, and the message that it shows, if any; for every case of the
 -- pool's answer. It is the table of answers in docs/PROTOCOL.md.
-use Rattle.std.specs.Prelude.{◌≡◌, Bool, true, false, ℕ}
-use Rattle.lists.specs.declared.Found.TheVariants.{Nothing}
+use Rattle.std.specs.Prelude.{◌≡◌, Bool, true, false, ℕ, Option, Some, None}
 use Rattle.message_log.specs.declared.Order.{Order}
 use Rattle.message_log.specs.declared.Order.TheVariants.{Append, Replace, Flush}
 use Rattle.actor.specs.declared.question.Who.{Who}
@@ -9,8 +8,6 @@ use Rattle.actor.specs.declared.question.Outcome.{Outcome}
 use Rattle.actor.specs.declared.question.Outcome.TheVariants as outcome
 use Rattle.actor.specs.declared.question.Question.{Question}
 use Rattle.actor.specs.declared.question.Question.TheVariants as ask
-use Rattle.actor.specs.declared.question.Asked.{Asked}
-use Rattle.actor.specs.declared.question.Asked.TheVariants as asked
 use Rattle.answers.specs.declared.answer.Answer.{Answer}
 use Rattle.answers.specs.declared.answer.Answer.TheVariants as answer
 use Rattle.answers.specs.declared.numbers.AnswerNumbers.{AnswerNumbers}
@@ -23,7 +20,7 @@ flag_number false = 0
 
 -- two values, and no message
 abbrev pub plain_numbers : ℕ → ℕ → ℕ → AnswerNumbers
-plain_numbers kind a b = record { kind = kind; a = a; b = b; c = 0; message = Nothing }
+plain_numbers kind a b = record { kind = kind; a = a; b = b; c = 0; message = None }
 
 -- what a caller is told
 abbrev pub outcome_number : Outcome → ℕ
@@ -63,9 +60,9 @@ question_numbers (ask.Tell caller outcome) = plain_numbers 16 caller.0 (outcome_
 question_numbers (ask.Store order) = order_numbers order
 
 -- what is open after an accepted call: a question, or nothing
-abbrev pub asked_numbers : Asked → AnswerNumbers
-asked_numbers (asked.Open q) = question_numbers q
-asked_numbers asked.Nothing = plain_numbers 0 0 0
+abbrev pub asked_numbers : Option Question → AnswerNumbers
+asked_numbers (Some q) = question_numbers q
+asked_numbers None = plain_numbers 0 0 0
 
 -- an answer: refused, with the refusal's number; a turn that ended, busy or not, with waiters or not; what is open now
 abbrev pub numbers_of : Answer → AnswerNumbers

@@ -1,18 +1,16 @@
 -- THE TABLE OF REFUSALS (docs/RULES.md, 8). For each call its lines, in the order of precedence: the first line that
 -- holds refuses the call, and then nothing has changed; where none holds, the call has its effect. That each call is
 -- refused with r exactly where its table says r is `by_the_table`, in crates/theorem/proofs/Refusals.
-use Rattle.std.specs.Prelude.{◌≡◌, Bool, true, false, not, ◌&&◌, ◌||◌, List, [], ◌∷◌, ◌++◌, ℕ, ◌+◌, ◌-◌, ◌^◌, eqb, ltb, leb, length, take}
+use Rattle.std.specs.Prelude.{◌≡◌, Bool, true, false, not, ◌&&◌, ◌||◌, List, [], ◌∷◌, ◌++◌, ℕ, ◌+◌, ◌-◌, ◌^◌, eqb, ltb, leb, length, take, Option, Some, None, Result, Err, Ok}
+use Rattle.actor.specs.declared.question.Question.{Question}
+use Rattle.actor.specs.declared.message.CallerId.{CallerId}
 use Rattle.text.specs.Format.{record_line}
 use Rattle.message_log.specs.Opening.{read_file, all_fit, RECORDS, NAME, BODY}
 use Rattle.message_log.specs.Opened.{sized}
 use Rattle.message_log.specs.Log.{new_message}
 use Rattle.lists.specs.Links.{pick, Table, FREE, len_of, INBOX, LISTS, ENTRIES, SLOTS, GROUPS}
-use Rattle.actor.specs.declared.message.Caller.{Caller}
-use Rattle.actor.specs.declared.message.Caller.TheVariants as caller
 use Rattle.actor.specs.declared.question.Reply.{Reply}
 use Rattle.actor.specs.declared.question.Reply.TheVariants as reply
-use Rattle.actor.specs.declared.question.Asked.{Asked}
-use Rattle.actor.specs.declared.question.Asked.TheVariants as asked
 use Rattle.actor.specs.Questions.{fits_of}
 use Rattle.points.specs.declared.at.At.{At}
 use Rattle.points.specs.declared.at.At.TheVariants as at
@@ -27,8 +25,6 @@ use Rattle.turn.specs.Asks.{open_in}
 use Rattle.answers.specs.declared.answer.Refusal.{Refusal}
 use Rattle.answers.specs.declared.answer.Refusal.TheVariants as refusal
 use Rattle.answers.specs.declared.answer.Answer.TheVariants as answer
-use Rattle.answers.specs.declared.refusals.Check.{Check}
-use Rattle.answers.specs.declared.refusals.Check.TheVariants as check
 use Rattle.answers.specs.Answers.{Did, refused}
 
 -- ---- a table
@@ -43,14 +39,14 @@ abbrev pub when : Bool → Refusal → RefusalLine
 when b r = record { holds = b; refusal = r }
 
 -- the first line that holds
-unfoldable pub judged : List RefusalLine → Check
-judged [] = check.Fine
-judged (l ∷ ls) = pick l.holds (check.Refuse l.refusal) (judged ls)
+unfoldable pub judged : List RefusalLine → Result Unit Refusal
+judged [] = (Ok tt)
+judged (l ∷ ls) = pick l.holds (Err l.refusal) (judged ls)
 
 -- a call by its table: refused, or with its effect
-abbrev pub by_table : State → Check → Did → Did
-by_table s (check.Refuse r) effect = refused s r
-by_table s check.Fine effect = effect
+abbrev pub by_table : State → Result Unit Refusal → Did → Did
+by_table s (Err r) effect = refused s r
+by_table s (Ok tt) effect = effect
 
 -- ---- what the lines ask
 
@@ -85,9 +81,9 @@ abbrev pub no_entry_free : Table → Bool
 no_entry_free t = eqb (len_of t FREE) 0
 
 -- nobody waits for the outcome: the message is logged
-abbrev pub is_logged : Caller → Bool
-is_logged (caller.From who) = false
-is_logged caller.Nobody = true
+abbrev pub is_logged : Option CallerId → Bool
+is_logged (Some who) = false
+is_logged None = true
 
 -- every row of the table of open records is taken; in a pool that an opening made, a free entry means a free row
 abbrev pub no_row_free : State → Bool
@@ -104,9 +100,9 @@ no_room_left s name body =
     (length s.bytes))
 
 -- the reply answers what is open
-abbrev pub fits_in : Asked → Reply → Bool
-fits_in (asked.Open q) r = fits_of q r
-fits_in asked.Nothing r = false
+abbrev pub fits_in : Option Question → Reply → Bool
+fits_in (Some q) r = fits_of q r
+fits_in None r = false
 
 -- a message that was sent
 abbrev pub is_message : Reply → Bool
@@ -192,7 +188,7 @@ admit_refusals_first s name body =
     ∷ []
 
 -- .. and those of a message that is logged
-unfoldable pub admit_refusals_logged : State → List ℕ → List ℕ → Caller → List RefusalLine
+unfoldable pub admit_refusals_logged : State → List ℕ → List ℕ → Option CallerId → List RefusalLine
 admit_refusals_logged s name body who =
     when (is_logged who && no_row_free s) refusal.TooMany
     ∷ when (is_logged who && no_id_left s) refusal.NoId
@@ -200,7 +196,7 @@ admit_refusals_logged s name body who =
     ∷ []
 
 -- the table of an admit: 14, 11, 5, 17, 6, 7, 8; if nobody waits also 8 (no row for an open record is free), 9, 10
-abbrev pub admit_refusals : State → List ℕ → List ℕ → Caller → List RefusalLine
+abbrev pub admit_refusals : State → List ℕ → List ℕ → Option CallerId → List RefusalLine
 admit_refusals s name body who = admit_refusals_first s name body ++ admit_refusals_logged s name body who
 
 -- ---- turn, reply, sync, close
@@ -240,6 +236,6 @@ close_refusals p = sync_refusals p
 
 -- a call with this table, from this state: it is refused with r, and leaves the state as it was, exactly where the
 -- table says r
-pub record JudgedBy (table : Check) (before : State) (did : Did) : Type 0 where
-  pub refuses : (r : Refusal) → table ≡ check.Refuse r → did ≡ refused before r
-  pub only : (r : Refusal) → did.answer ≡ answer.Refused r → table ≡ check.Refuse r
+pub record JudgedBy (table : Result Unit Refusal) (before : State) (did : Did) : Type 0 where
+  pub refuses : (r : Refusal) → table ≡ Err r → did ≡ refused before r
+  pub only : (r : Refusal) → did.answer ≡ answer.Refused r → table ≡ Err r

@@ -5,7 +5,6 @@ ghost use Rattle.std.specs.Prelude.{◌≡◌};
 ghost use Rattle.answers.specs.Numbers.{
   flag_number,
   plain_numbers,
-  outcome_number,
   order_numbers,
   actor_numbers,
   question_numbers,
@@ -15,11 +14,11 @@ ghost use Rattle.answers.specs.Numbers.{
 
 use crate::answer;
 use crate::answer::Answer;
-use actor::question::{Asked, Outcome, Question, Who};
-use lists::Found;
+use actor::question::{Question, Who};
 use message_log::Order;
 
-// Which answer, and its values a, b and c.
+// Which answer, and its values a, b and c. Kept as numbers: hosts in other languages read them (docs/PROTOCOL.md, and
+// `kind` of the exported `Shown` in crates/drive).
 
 // nothing is open
 pub const NOTHING: u64 = 0;
@@ -77,14 +76,15 @@ pub struct AnswerNumbers {
     pub b: u64,
     pub c: u64,
     // the message in question (actor::part says where it stands in the body store)
-    pub message: Found,
+    pub message: Option<usize>,
 }
 
 // 1 for true, 0 for false.
+// Kept: `u64::from`, under a contract that names the definition `flag_number`, by which answers are proved.
 pub fn flag(b: bool) -> u64
     ensures { result ≡ flag_number b }
 {
-    if b { 1 } else { 0 }
+    u64::from(b)
 }
 
 // Two values, and no message.
@@ -96,22 +96,7 @@ fn plain(kind: u64, a: u64, b: u64) -> AnswerNumbers
         a,
         b,
         c: 0,
-        message: Found::Nothing,
-    }
-}
-
-// What a caller is told.
-fn outcome_number(o: Outcome) -> u64
-    ensures { result ≡ outcome_number o }
-{
-    match o {
-        Outcome::Ran => 0,
-        Outcome::Unbooted => 1,
-        Outcome::Broke => 2,
-        Outcome::Raised => 3,
-        Outcome::Late => 4,
-        Outcome::StuckHostCall => 5,
-        Outcome::StuckReceive => 6,
+        message: None,
     }
 }
 
@@ -163,18 +148,18 @@ fn question_numbers(q: Question) -> AnswerNumbers
         Question::Sends(who) => actor_numbers(SENDS, who),
         Question::Trap(g) => plain(TRAP, g as u64, 0),
         Question::Trapped(who) => actor_numbers(TRAPPED, who),
-        Question::Tell(caller, outcome) => plain(TELL, caller.0, outcome_number(outcome)),
+        Question::Tell(caller, outcome) => plain(TELL, caller.0, outcome as u64),
         Question::Store(order) => order_numbers(order),
     }
 }
 
 // What is open after an accepted call.
-fn asked_numbers(a: Asked) -> AnswerNumbers
+fn asked_numbers(a: Option<Question>) -> AnswerNumbers
     ensures { result ≡ asked_numbers a }
 {
     match a {
-        Asked::Open(q) => question_numbers(q),
-        Asked::Nothing => plain(NOTHING, 0, 0),
+        Some(q) => question_numbers(q),
+        None => plain(NOTHING, 0, 0),
     }
 }
 

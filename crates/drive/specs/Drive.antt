@@ -1,10 +1,7 @@
 -- What the numbers of a driven call mean, and what it shows: the state after the call, and its answer in numbers.
-use Rattle.std.specs.Prelude.{List, ℕ, eqb, get_or}
+use Rattle.std.specs.Prelude.{List, ℕ, eqb, get_or, Option, Some, None}
+use Rattle.actor.specs.declared.message.CallerId.{CallerId}
 use Rattle.lists.specs.Links.{pick, ENTRIES}
-use Rattle.lists.specs.declared.Found.{Found}
-use Rattle.lists.specs.declared.Found.TheVariants as found
-use Rattle.actor.specs.declared.message.Caller.{Caller}
-use Rattle.actor.specs.declared.message.Caller.TheVariants as caller
 use Rattle.actor.specs.declared.question.Reply.{Reply}
 use Rattle.actor.specs.declared.question.Reply.TheVariants as reply
 use Rattle.actor.specs.declared.question.Status.{Status}
@@ -30,8 +27,8 @@ settings_in s = record {
 }
 
 -- 0 nobody, any other number a caller
-unfoldable pub driven_caller : ℕ → ℕ → Caller
-driven_caller who id = pick (eqb who 0) caller.Nobody (caller.From (record { 0 = id }))
+unfoldable pub driven_caller : ℕ → ℕ → Option CallerId
+driven_caller who id = pick (eqb who 0) None (Some (record { 0 = id }))
 
 -- the numbers of docs/PROTOCOL.md; one that stands for nothing there is the last of them
 unfoldable pub driven_status : ℕ → Status
@@ -54,9 +51,9 @@ driven_reply k v =
 -- ---- what is shown
 
 -- the entry of the message that an answer shows, or 256
-abbrev pub entry_number : Found → ℕ
-entry_number found.Nothing = ENTRIES
-entry_number (found.Entry e) = e
+abbrev pub entry_number : Option ℕ → ℕ
+entry_number None = ENTRIES
+entry_number (Some e) = e
 
 -- of an answer in numbers: its kind and values as they are, and the entry of the message that it shows, or 256
 abbrev pub shown_as : AnswerNumbers → Shown

@@ -21,15 +21,15 @@ ghost use Rattle.drive.specs.Drive.{
   driven,
 };
 
-use actor::message::{Caller, CallerId, MessageRow};
+use actor::message::{CallerId, MessageRow};
 use actor::question::{Reply, Status};
 use actor::state::ActorRow;
 use answers::answer::Called;
 use answers::{answer, numbers};
 use group::roster;
 use group::settings::GroupRow;
+use lists::LinkRow;
 use lists::keys::KeyRow;
-use lists::{Found, LinkRow};
 use message_log::{RECORDS, RecordRow, STORE};
 use pool::{admit, calls, open};
 use settings::ranges::Settings;
@@ -37,6 +37,7 @@ use turn::state::PoolCells;
 
 // What a call answers: which answer and its values, as answers::numbers has them, and the entry of the message that it
 // shows, or 256.
+// Kept: `kind` is a number, since C reads this struct.
 #[repr(C)]
 #[derive(Drop)]
 pub struct Shown {
@@ -50,104 +51,81 @@ pub struct Shown {
 fn settings_in(s: &[u64; 5]) -> Settings
     ensures { result ≡ settings_in s.now }
 {
+    let [max_actors, inbox, backlog, compact_at, tick] = *s;
     Settings {
-        max_actors: s[0],
-        inbox: s[1],
-        backlog: s[2],
-        compact_at: s[3],
-        tick: s[4],
+        max_actors,
+        inbox,
+        backlog,
+        compact_at,
+        tick,
     }
 }
 
 // 0 nobody, any other number the caller with this id.
-fn caller_in(who: u64, id: u64) -> Caller
+#[tactic(auto, unfolding(crate::specs::Drive::driven_caller))]
+fn caller_in(who: u64, id: u64) -> Option<CallerId>
     ensures { result ≡ driven_caller who id }
 {
-    if who == 0 {
-        return Caller::Nobody;
-    }
-    Caller::From(CallerId(id))
+    if who == 0 { None } else { Some(CallerId(id)) }
 }
 
 // The numbers of docs/PROTOCOL.md; one that stands for nothing there is the last of them.
+// Kept: no `From`, which the enum's own crate would have to give, with a meaning for each number; this is only a
+// host's.
+#[tactic(auto, unfolding(crate::specs::Drive::driven_status))]
 fn status_in(value: u64) -> Status
     ensures { result ≡ driven_status value }
 {
-    if value == 0 {
-        return Status::Done;
+    match value {
+        0 => Status::Done,
+        1 => Status::Exit,
+        2 => Status::Preempted,
+        3 => Status::Event,
+        4 => Status::HostCall,
+        5 => Status::Error,
+        _ => Status::Broke,
     }
-    if value == 1 {
-        return Status::Exit;
-    }
-    if value == 2 {
-        return Status::Preempted;
-    }
-    if value == 3 {
-        return Status::Event;
-    }
-    if value == 4 {
-        return Status::HostCall;
-    }
-    if value == 5 {
-        return Status::Error;
-    }
-    Status::Broke
 }
 
 // The same; 5, a message, has texts, and is none here.
+// Kept: a switch on the kind, which a host in C gives as a number.
+#[tactic(auto, unfolding(crate::specs::Drive::driven_reply))]
 fn reply_in(kind: u64, value: u64) -> Reply
     ensures { result ≡ driven_reply kind value }
 {
-    if kind == 0 {
-        return Reply::No;
+    match kind {
+        0 => Reply::No,
+        1 => Reply::Yes,
+        2 => Reply::Clock(value),
+        3 => Reply::Count(value),
+        4 => Reply::Ran(status_in(value)),
+        6 => Reply::End,
+        7 => Reply::Told,
+        8 => Reply::Stored,
+        _ => Reply::Failed,
     }
-    if kind == 1 {
-        return Reply::Yes;
-    }
-    if kind == 2 {
-        return Reply::Clock(value);
-    }
-    if kind == 3 {
-        return Reply::Count(value);
-    }
-    if kind == 4 {
-        let status = status_in(value);
-        return Reply::Ran(status);
-    }
-    if kind == 6 {
-        return Reply::End;
-    }
-    if kind == 7 {
-        return Reply::Told;
-    }
-    if kind == 8 {
-        return Reply::Stored;
-    }
-    Reply::Failed
 }
 
-fn entry_number(m: Found) -> u64
+fn entry_number(m: Option<usize>) -> u64
     ensures { result ≡ entry_number m }
 {
     match m {
-        Found::Nothing => lists::MESSAGES,
-        Found::Entry(e) => e as u64,
+        None => lists::MESSAGES,
+        Some(e) => e as u64,
     }
 }
 
+// Kept, here and below: the tables are parameters, since C lends each by itself.
 fn show(called: Called, pool: &PoolCells, links: &[LinkRow], rows: &[MessageRow]) -> Shown
     ensures { result ≡ shown_by (answer_of called (pool_of pool.now) links.now rows.now) }
 {
-    let answer = answer::answer_of(called, pool, links, rows);
-    let s = numbers::numbers_of(answer);
-    let message = s.message;
-    let entry = entry_number(message);
+    let s = numbers::numbers_of(answer::answer_of(called, pool, links, rows));
     Shown {
         kind: s.kind,
         a: s.a,
         b: s.b,
         c: s.c,
-        entry,
+        entry: entry_number(s.message),
     }
 }
 
@@ -195,9 +173,19 @@ pub extern "C" fn drive_open(
           actors = actors.now;
         })) }
 {
-    let s = settings_in(settings);
     let called = open::open(
-        pool, s, given, log, n, store, records, groups, links, rows, keys, actors,
+        pool,
+        settings_in(settings),
+        given,
+        log,
+        n,
+        store,
+        records,
+        groups,
+        links,
+        rows,
+        keys,
+        actors,
     );
     show(called, pool, links, rows)
 }
@@ -246,9 +234,17 @@ pub extern "C" fn drive_admit(
         })
         name.now body.now (driven_caller who id)) }
 {
-    let caller = caller_in(who, id);
     let called = admit::admit(
-        pool, log, records, store, groups, links, rows, name, body, caller,
+        pool,
+        log,
+        records,
+        store,
+        groups,
+        links,
+        rows,
+        name,
+        body,
+        caller_in(who, id),
     );
     show(called, pool, links, rows)
 }
@@ -339,10 +335,19 @@ pub extern "C" fn drive_reply(
         })
         (driven_reply kind value) [] []) }
 {
-    let reply = reply_in(kind, value);
-    let none: [u8; 0] = [];
     let called = calls::reply(
-        pool, log, records, store, groups, links, rows, keys, actors, reply, &none, &none,
+        pool,
+        log,
+        records,
+        store,
+        groups,
+        links,
+        rows,
+        keys,
+        actors,
+        reply_in(kind, value),
+        &[],
+        &[],
     );
     show(called, pool, links, rows)
 }

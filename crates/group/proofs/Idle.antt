@@ -1,21 +1,21 @@
--- An idle list that is gone through where it lies: the keys that are left in it, and what the table has of it. Assumes
+-- An idle list that is gone through where it lies, from its end: what one pop of it leaves gives what it gave. Assumes
 -- nothing.
+use Rattle.std.specs.Prelude.{Option, Some, None}
 use mathlib.Core.Path.{◌≡◌, refl, sym, ap, ◌∙◌}
 use mathlib.Core.Bool.{true, false}
 use mathlib.Core.List.{List, [], ◌∷◌}
-use Prim.Native.Nat.{ℕ, ◌+◌, ◌-◌, ◌*◌, ◌≤◌, ◌<◌}
+use Prim.Native.Nat.{ℕ, zero, suc, ◌+◌, ◌-◌, ◌*◌, ◌≤◌, ◌<◌}
 use native.Mathlib.Omega.{arith}
 use native.Mathlib.Decide.{dec_lt}
-use borrow.Author.Tests.{lt-ltb, le-leb, ne_eqb}
-use lib.ListN.{length, set, get_or-eq_default}
+use lib.Dec.{eqb}
+use borrow.Author.Tests.{eq-eqb, lt-ltb, le-leb, ne_eqb}
+use lib.ListN.{length, length-set, set, get_or-eq_default}
 use lib.Seq.{set-get_or, set-set, get_or-set_same, get_or-set_other}
-use Rattle.lists.specs.declared.keys.Key.{Key}
-use Rattle.lists.specs.declared.keys.Key.TheVariants as key
-use Rattle.lists.specs.Links.{Table}
+use Rattle.lists.specs.Links.{pick, Table}
 use Rattle.lists.specs.KeyLists.{blank_row, keys_at, count_of, last_of, pop_end}
 use Rattle.actor.specs.Questions.{slot_of}
-use Rattle.group.specs.Roster.{idle_row, live_of, idle_key, popped, pop_idle_row, pop_idle_of}
-use Rattle.group.proofs.Loops.{idle_more, idle_past, idle_end}
+use Rattle.group.specs.Roster.{idle_row, live_of, idle_key, Popped, popped, pop_idle_row, pop_idle_in, pop_idle_of}
+use Rattle.group.proofs.Loops.{idle_more, idle_past}
 
 -- the idle list does not say who is live
 live_aside : (keys : Table) (g k : ℕ) (c : List ℕ) → live_of (set keys (idle_row g) c) g k ≡ live_of keys g k
@@ -27,93 +27,107 @@ live_aside keys g k c = go (dec_lt g 8)
         rw (lt-ltb g 8 below, get_or-set_other keys (4 * g + 2) (4 * g) c blank_row (λ e. omega arith))
     go (no above) = rw (le-leb 8 g (omega arith))
 
-idle_aside : (keys actors : Table) (g k : ℕ) (c : List ℕ) → idle_key (set keys (idle_row g) c) actors g k
+pub idle_aside : (keys actors : Table) (g k : ℕ) (c : List ℕ) → idle_key (set keys (idle_row g) c) actors g k
     ≡ idle_key keys actors g k
 unfolding idle_key
 idle_aside keys actors g k c = rw (live_aside keys g k c)
 
--- a table that differs from an earlier one only in row i, which has n keys
-abbrev pub Taken : Table → Table → ℕ → ℕ → Type 0
-Taken from to i n = (to ≡ set from i (keys_at to i)) × (n ≡ count_of (keys_at to i))
+row_aside : (keys actors : Table) (g n : ℕ) (c row : List ℕ) → pop_idle_row (set keys (idle_row g) c) actors g n row
+    ≡ pop_idle_row keys actors g n row
+unfolding pop_idle_row
+row_aside keys actors g zero c row = refl
+row_aside keys actors g (suc n) c row = go (row_aside keys actors g n c (pop_end row)) (last_of row)
+  where
+    -- what is done with the key that was popped, by the tables before and after
+    by : Table → Option ℕ → Popped
+    by t (Some k) = pick (idle_key t actors g k) (popped (pop_end row) (Some k)) (pop_idle_row t actors g n (pop_end row))
+    by t None = pop_idle_row t actors g n (pop_end row)
 
-pub taken_start : (t : Table) (i : ℕ) → Taken t t i (count_of (keys_at t i))
-taken_start t i = (sym (set-get_or t i blank_row), refl)
+    go : by (set keys (idle_row g) c) None ≡ by keys None → (k : Option ℕ) → by (set keys (idle_row g) c) k ≡ by keys k
+    go rest (Some k) = simp (idle_aside keys actors g k c, rest)
+    go rest None = rest
 
-fewer : (c : List ℕ) → 0 < count_of c → count_of (pop_end c) ≡ count_of c - 1
+fewer_keys : (c : List ℕ) → 0 < count_of c → count_of (pop_end c) ≡ count_of c - 1
 unfolding pop_end
-fewer [] some = absurd (omega arith)
-fewer (n ∷ c) some = rw (ne_eqb n 0 (λ e. omega arith))
+fewer_keys [] some = absurd (omega arith)
+fewer_keys (n ∷ c) some = rw (ne_eqb n 0 (λ e. omega arith))
 
--- its last key leaves
-module _ (from to next : Table) (i n : ℕ) (taken : Taken from to i n) (some : 0 < n)
-    (left : next ≡ set to i (pop_end (keys_at to i))) where
-  inside : i < length to
-  inside = go (dec_lt i (length to))
+less : (c : List ℕ) → count_of (pop_end c) ≡ count_of c - 1
+unfolding pop_end
+less c = go (dec_lt 0 (count_of c))
+  where
+    go : Dec (0 < count_of c) → count_of (pop_end c) ≡ count_of c - 1
+    go (yes some) = fewer_keys c some
+    go (no none) =
+        let is : eqb (count_of c) 0 ≡ true = eq-eqb _ _ (omega arith) in
+        rw is (omega arith)
+
+-- a row whose last key there is has keys
+some : (c : List ℕ) (k : ℕ) → last_of c ≡ Some k → 0 < count_of c
+some c k last = go (dec_lt 0 (count_of c))
+  where
+    go : Dec (0 < count_of c) → 0 < count_of c
+    go (yes p) = p
+    go (no p) = let none : count_of c ≡ 0 = omega arith in let e = rw none at last in cc
+
+module _ (keys actors : Table) (g : ℕ) where
+  abbrev pub row : List ℕ
+  row = keys_at keys (idle_row g)
+
+  abbrev pub next : Table
+  next = set keys (idle_row g) (pop_end row)
+
+  inside : 0 < count_of row → idle_row g < length keys
+  inside h = go (dec_lt (idle_row g) (length keys))
     where
-      go : Dec (i < length to) → i < length to
+      go : Dec (idle_row g < length keys) → idle_row g < length keys
       go (yes p) = p
-      go (no p) =
-          absurd (omega (arith, some, taken.1, ap count_of (get_or-eq_default to blank_row {n = i} (omega arith))))
+      go (no p) = absurd (omega (arith, h, ap (λ (c : List ℕ). count_of c) (get_or-eq_default keys blank_row {n = idle_row g} (omega arith))))
 
-  taken_row : keys_at next i ≡ pop_end (keys_at to i)
-  taken_row = ap (λ (t : Table). keys_at t i) left ∙ get_or-set_same to i _ blank_row inside
+  left : 0 < count_of row → keys_at next (idle_row g) ≡ pop_end row
+  left h = get_or-set_same keys (idle_row g) (pop_end row) blank_row (inside h)
 
-  taken_set : next ≡ set from i (pop_end (keys_at to i))
-  taken_set = left ∙ (ap (λ (t : Table). set t i (pop_end (keys_at to i))) taken.0 ∙ set-set from i _ _)
+  rest : 0 < count_of row → pop_idle_of next actors g
+      ≡ pop_idle_in keys g (pop_idle_row keys actors g (count_of row - 1) (pop_end row))
+  unfolding pop_idle_of
+  rest h = simp (left h, less row, row_aside keys actors g (count_of row - 1) (pop_end row) (pop_end row), set-set keys (idle_row g))
 
-  taken_more : Taken from next i (n - 1)
-  taken_more = (
-    taken_set ∙ ap (λ (c : List ℕ). set from i c) (sym taken_row),
-    omega (arith, taken.1, ap count_of taken_row, fewer (keys_at to i) (omega (arith, some, taken.1))),
-  )
+  pub idle_found : (k : ℕ) → last_of row ≡ Some k → idle_key keys actors g k ≡ true
+      → pop_idle_of keys actors g ≡ record { keys = next; key = Some k }
+  unfolding pop_idle_of
+  idle_found k last idle = rw (idle_more keys actors g (count_of row) row k (some row k last) last, idle)
 
--- what the keys that are left of the idle list give is what all of them do
-abbrev pub Left : Table → Table → Table → ℕ → ℕ → ℕ → Type 0
-Left from to actors g i n = pop_idle_row from actors g (count_of (keys_at from i)) (keys_at from i)
-    ≡ pop_idle_row from actors g n (keys_at to i)
-
-idle_ends : (from to actors : Table) (g i : ℕ) (c : List ℕ) (k : Key) → i ≡ idle_row g → pop_idle_row from actors g
-    (count_of (keys_at from i)) (keys_at from i) ≡ popped c k → to ≡ set from i c
-    → record { keys = to; key = k } ≡ pop_idle_of from actors g
-unfolding pop_idle_of
-idle_ends from to actors g i c k here whole stored =
-    let whole' = rw here at whole in
-    let stored' = rw here at stored in
-    rw (whole', stored')
-
-pub idle_none : (from to actors : Table) (g i n : ℕ) → i ≡ idle_row g → Taken from to i n → Left from to actors g i n
-    → n ≤ 0 → record { keys = to; key = key.Nothing } ≡ pop_idle_of from actors g
-idle_none from to actors g i n here taken all none =
-    idle_ends from to actors g i (keys_at to i) key.Nothing here (all ∙ idle_end from actors g n (keys_at to i) none)
-    taken.0
-
--- the last key left the idle list: its actor is taken, or the list is gone through further
-module _ (from to next actors : Table) (g i n : ℕ) (here : i ≡ idle_row g) (taken : Taken from to i n)
-    (all : Left from to actors g i n) (some : 0 < n) (left : next ≡ set to i (pop_end (keys_at to i))) where
-  same_idle : (k : ℕ) → idle_key next actors g k ≡ idle_key from actors g k
-  same_idle k =
-      ap (λ (t : Table). idle_key t actors g k) (taken_set from to next i n taken some left
-      ∙ ap (λ (j : ℕ). set from j (pop_end (keys_at to i))) here)
-      ∙ idle_aside from actors g k (pop_end (keys_at to i))
-
-  pub idle_found : (k : ℕ) → last_of (keys_at to i) ≡ key.At k → idle_key next actors g k ≡ true
-      → record { keys = next; key = key.At k } ≡ pop_idle_of from actors g
-  idle_found k last idle =
-      let idle' = sym (same_idle k) ∙ idle in
-      idle_ends from next actors g i (pop_end (keys_at to i)) (key.At k) here
-      (all ∙ (idle_more from actors g n (keys_at to i) k some last ∙ rw idle'))
-      (taken_set from to next i n taken some left)
-
-  further : pop_idle_row from actors g n (keys_at to i) ≡ pop_idle_row from actors g (n - 1) (pop_end (keys_at to i))
-      → Taken from next i (n - 1) × Left from next actors g i (n - 1)
-  further turn =
-      (taken_more from to next i n taken some left, rw (taken_row from to next i n taken some left) (all ∙ turn))
-
-  pub idle_passed : (k : ℕ) → last_of (keys_at to i) ≡ key.At k → idle_key next actors g k ≡ false
-      → Taken from next i (n - 1) × Left from next actors g i (n - 1)
+  pub idle_passed : (k : ℕ) → last_of row ≡ Some k → idle_key keys actors g k ≡ false
+      → pop_idle_of keys actors g ≡ pop_idle_of next actors g
+  unfolding pop_idle_of
   idle_passed k last busy =
-      let busy' = sym (same_idle k) ∙ busy in
-      further (idle_more from actors g n (keys_at to i) k some last ∙ rw busy')
+      rw (idle_more keys actors g (count_of row) row k (some row k last) last, busy) (sym (rest (some row k last)))
 
-  pub idle_blank : last_of (keys_at to i) ≡ key.Nothing → Taken from next i (n - 1) × Left from next actors g i (n - 1)
-  idle_blank last = further (idle_past from actors g n (keys_at to i) some last)
+  pub idle_blank : last_of row ≡ None → pop_idle_of keys actors g ≡ pop_idle_of next actors g
+  unfolding pop_end pop_idle_of
+  idle_blank last = go (dec_lt 0 (count_of row))
+    where
+      go : Dec (0 < count_of row) → pop_idle_of keys actors g ≡ pop_idle_of next actors g
+      go (yes p) = ap (pop_idle_in keys g) (idle_past keys actors g (count_of row) row p last) ∙ sym (rest p)
+      go (no p) =
+          let none : eqb (count_of row) 0 ≡ true = eq-eqb _ _ (omega arith) in
+          rw (none, set-get_or keys (idle_row g) blank_row)
+
+  pub idle_ends : count_of row ≡ 0 → pop_idle_of keys actors g ≡ record { keys = keys; key = None }
+  unfolding pop_idle_of pop_idle_row
+  idle_ends none = simp (none, set-get_or keys (idle_row g) blank_row)
+
+pub fewer : (keys : Table) (i : ℕ) → count_of (keys_at (set keys i (pop_end (keys_at keys i))) i)
+    ≡ count_of (keys_at keys i) - 1
+fewer keys i = go (dec_lt i (length keys))
+  where
+    go : Dec (i < length keys) → count_of (keys_at (set keys i (pop_end (keys_at keys i))) i)
+        ≡ count_of (keys_at keys i) - 1
+    go (yes p) = rw (get_or-set_same keys i (pop_end (keys_at keys i)) blank_row p) (less (keys_at keys i))
+    go (no p) =
+        let out : length (set keys i (pop_end (keys_at keys i))) ≤ i = omega (arith, length-set {A = List ℕ}) in
+        let empty = get_or-eq_default keys blank_row {n = i} (omega arith) in
+        rw (get_or-eq_default (set keys i (pop_end (keys_at keys i))) blank_row {n = i} out, empty)
+
+-- what one turn of the loop needs
+pub ruleset popping = (idle_found, idle_passed, idle_blank, idle_ends, idle_aside, fewer)

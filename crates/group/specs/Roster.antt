@@ -1,7 +1,5 @@
 -- The keys of a group's actors: live, scheduled, spawned, idle, least loaded.
-use Rattle.std.specs.Prelude.{Bool, true, false, ◌&&◌, List, ℕ, zero, suc, ◌+◌, ◌-◌, ◌*◌, ltb, set}
-use Rattle.lists.specs.declared.keys.Key.{Key}
-use Rattle.lists.specs.declared.keys.Key.TheVariants as key
+use Rattle.std.specs.Prelude.{Bool, true, false, ◌&&◌, List, ℕ, zero, suc, ◌+◌, ◌-◌, ◌*◌, ltb, set, Option, Some, None}
 use Rattle.lists.specs.Links.{pick, Table, capped, len_of, mailbox_of, SLOTS, GROUPS}
 use Rattle.lists.specs.KeyLists.{keys_at, count_of, last_of, pop_end, push_of}
 use Rattle.lists.specs.Slabs.{contains_of, vacant_of, insert_of, live_count}
@@ -89,12 +87,12 @@ turn_tables t keys actors queued = record { links = t; keys = keys; actors = act
 pub record Spawned : Type 0 where
   pub keys : Table
   pub actors : Table
-  pub key : Key
+  pub key : Option ℕ
 
 -- the key lists without the idle keys that were taken, and the key of the idle actor that was found, if one was
 pub record IdlePopped : Type 0 where
   pub keys : Table
-  pub key : Key
+  pub key : Option ℕ
 
 -- a key goes to the end of the list in a row; a full list is squeezed first, and then gets the key if it is absent;
 -- past the table's end nothing changes
@@ -137,12 +135,12 @@ spawn_key keys actors g k eval =
 
 -- these key lists and actors after a spawn, with k as the new actor's key
 abbrev pub spawned_as : Keyed → ℕ → Spawned
-spawned_as s k = record { keys = s.keys; actors = s.actors; key = key.At k }
+spawned_as s k = record { keys = s.keys; actors = s.actors; key = Some k }
 
 -- by the next key of the group: a new actor gets it and is queued to run; with no key to give, nothing changes
-abbrev pub spawn_by : Table → Table → ℕ → Bool → Key → Spawned
-spawn_by keys actors g eval (key.At k) = spawned_as (spawn_key keys actors g k eval) k
-spawn_by keys actors g eval key.Nothing = record { keys = keys; actors = actors; key = key.Nothing }
+abbrev pub spawn_by : Table → Table → ℕ → Bool → Option ℕ → Spawned
+spawn_by keys actors g eval (Some k) = spawned_as (spawn_key keys actors g k eval) k
+spawn_by keys actors g eval None = record { keys = keys; actors = actors; key = None }
 
 -- an actor is spawned under the next key of the group, as slab 0.4 gives it: the last freed one first
 unfoldable pub spawn_of : Table → Table → ℕ → Bool → Spawned
@@ -157,19 +155,19 @@ idle_key keys actors g k = live_of keys g k && (actor_at actors (slot_at g k)).i
 -- a list of keys, and the key that was popped from it
 pub record Popped : Type 0 where
   pub row : List ℕ
-  pub key : Key
+  pub key : Option ℕ
 
 -- this row of an idle list, and the key that was popped from it, if any
-abbrev pub popped : List ℕ → Key → Popped
+abbrev pub popped : List ℕ → Option ℕ → Popped
 popped row k = record { row = row; key = k }
 
 -- at most n keys are taken off the list's end, until one has an actor that is idle; the key is that one, else none
 unfoldable pub pop_idle_row : Table → Table → ℕ → ℕ → List ℕ → Popped
-pop_idle_row keys actors g zero row = popped row key.Nothing
+pop_idle_row keys actors g zero row = popped row None
 pop_idle_row keys actors g (suc n) row = elim (last_of row) [
-  | key.At k ↦
-      pick (idle_key keys actors g k) (popped (pop_end row) (key.At k)) (pop_idle_row keys actors g n (pop_end row))
-  | key.Nothing ↦ pop_idle_row keys actors g n (pop_end row)
+  | Some k ↦
+      pick (idle_key keys actors g k) (popped (pop_end row) (Some k)) (pop_idle_row keys actors g n (pop_end row))
+  | None ↦ pop_idle_row keys actors g n (pop_end row)
 ]
 
 -- the group's idle list becomes the row that the pops left, and the key is the one popped, if any
@@ -188,19 +186,19 @@ abbrev pub load_of : Table → ℕ → ℕ → ℕ
 load_of links g k = len_of links (mailbox_of (slot_at g k))
 
 -- the less loaded of key k and the best so far, of equals the best so far; k where there is none so far
-unfoldable pub better_of : Table → ℕ → Key → ℕ → Key
-better_of links g (key.At b) k = pick (ltb (load_of links g k) (load_of links g b)) (key.At k) (key.At b)
-better_of links g key.Nothing k = key.At k
+unfoldable pub better_of : Table → ℕ → Option ℕ → ℕ → Option ℕ
+better_of links g (Some b) k = pick (ltb (load_of links g k) (load_of links g b)) (Some k) (Some b)
+better_of links g None k = Some k
 
 -- the best among n keys from k on that are given out
-unfoldable pub least_from : List ℕ → (Key → ℕ → Key) → ℕ → ℕ → Key → Key
+unfoldable pub least_from : List ℕ → ((Option ℕ) → ℕ → Option ℕ) → ℕ → ℕ → Option ℕ → Option ℕ
 least_from given better zero k best = best
 least_from given better (suc n) k best =
     least_from given better n (k + 1) (pick (contains_of given k) (better best k) best)
 
 -- the key of the group's actor with the shortest mailbox, of equals the lowest; none where the group has no actor
-unfoldable pub least_of : Table → Table → ℕ → Key
-least_of keys links g = least_from (keys_at keys (slab_row g)) (better_of links g) 16 0 key.Nothing
+unfoldable pub least_of : Table → Table → ℕ → Option ℕ
+least_of keys links g = least_from (keys_at keys (slab_row g)) (better_of links g) 16 0 None
 
 -- ---- messages that are over
 

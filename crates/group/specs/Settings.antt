@@ -1,12 +1,10 @@
 -- A group's settings as cells; the group of a message's name, in an entry of the body store or as bytes; and whether
 -- the program of a name is loaded.
-use Rattle.std.specs.Prelude.{Bool, true, false, ◌&&◌, List, [], ℕ, zero, suc, ◌+◌, ◌*◌, eqb, ltb, leb, length, get_or}
+use Rattle.std.specs.Prelude.{Bool, true, false, ◌&&◌, List, [], ℕ, zero, suc, ◌+◌, ◌*◌, eqb, ltb, leb, length, get_or, Option, Some, None}
 use Rattle.message_log.specs.Opening.{NAME, ENTRY}
 use Rattle.lists.specs.Links.{pick, Table, ENTRIES}
 use Rattle.actor.specs.Actors.{bool_of}
 use Rattle.group.specs.declared.settings.Group.{Group}
-use Rattle.group.specs.declared.settings.Named.{Named}
-use Rattle.group.specs.declared.settings.Named.TheVariants as found
 
 -- a group's settings, its row's first cells: ceiling, eval (0 no, any other yes), timeout, retry; a missing cell is 0
 abbrev pub group_of : List ℕ → Group
@@ -34,11 +32,16 @@ named row store entry len =
     pick (leb ENTRIES entry) false
     (pick (ltb NAME len) false (eqb (get_or row 4 0) len && agrees row store (ENTRY * entry) 0 len))
 
+-- the last of the numbers below n that a test is true of; none where there is none
+unfoldable pub last_where : (ℕ → Bool) → ℕ → Option ℕ
+last_where p zero = None
+last_where p (suc g) = pick (p g) (Some g) (last_where p g)
+
 -- Two groups of one name: the later one gets the messages.
-unfoldable pub by_name : Table → List ℕ → ℕ → ℕ → ℕ → Named
-by_name groups store entry len zero = found.Nothing
+unfoldable pub by_name : Table → List ℕ → ℕ → ℕ → ℕ → Option ℕ
+by_name groups store entry len zero = None
 by_name groups store entry len (suc g) =
-    pick (named (get_or groups g []) store entry len) (found.Group g) (by_name groups store entry len g)
+    pick (named (get_or groups g []) store entry len) (Some g) (by_name groups store entry len g)
 
 -- the group of this row has this name, given as bytes: the names are the same
 unfoldable pub has_name : List ℕ → List ℕ → Bool
@@ -47,14 +50,14 @@ has_name row name =
     (eqb (get_or row 4 0) (length name) && agrees row name 0 0 (length name))
 
 -- The group of a name given as bytes: of two groups of one name the later one, which gets the messages.
-unfoldable pub group_named : Table → List ℕ → ℕ → Named
-group_named groups name zero = found.Nothing
-group_named groups name (suc g) = pick (has_name (get_or groups g []) name) (found.Group g) (group_named groups name g)
+unfoldable pub group_named : Table → List ℕ → ℕ → Option ℕ
+group_named groups name zero = None
+group_named groups name (suc g) = pick (has_name (get_or groups g []) name) (Some g) (group_named groups name g)
 
 -- a group may have an actor: its ceiling is above 0
-abbrev pub may_run : Table → Named → Bool
-may_run groups (found.Group g) = ltb 0 (group_at groups g).ceiling
-may_run groups found.Nothing = false
+abbrev pub may_run : Table → Option ℕ → Bool
+may_run groups (Some g) = ltb 0 (group_at groups g).ceiling
+may_run groups None = false
 
 -- The program of a name is loaded: a group has the name, and the one that gets its messages may have an actor.
 unfoldable pub loaded_in : Table → List ℕ → ℕ → Bool

@@ -7,12 +7,11 @@ use lists::LinkRow;
 use steps::step;
 
 // The first n messages of a list are over.
+#[tactic(auto, using(crate::proofs::Loops::over))]
 pub fn over_all(links: &mut [LinkRow], rows: &[MessageRow], from: usize, n: u64)
     ensures { links.new ≡ over_all links.old rows.now from n }
 {
-    let mut left = n;
-    while 0 < left {
+    for _ in 0..n {
         step::over_first(links, rows, from);
-        left -= 1;
     }
 }

@@ -1,6 +1,7 @@
 // The keys of a group's actors: four rows of the table of key lists for each group (slab, ready, idle, waiting), and
 // two rows for a turn: what is left of a waiting list that is being gone through, and the keys of trapped actors.
-ghost use Rattle.std.specs.Prelude.{◌≡◌};
+ghost use Rattle.std.specs.Prelude.{◌≡◌, ◌+◌, ◌*◌, ◌<◌, ltb};
+ghost use Rattle.lists.specs.Links.{pick, GROUPS};
 ghost use Rattle.group.specs.Roster.{
   slab_row,
   ready_row,
@@ -16,13 +17,13 @@ ghost use Rattle.group.specs.Roster.{
   pop_idle_of,
   better_of,
   least_of,
-  mode_for,
   live_len,
+  load_of,
 };
 
 use actor::state::{ActorRow, Mode};
 use actor::{question, state};
-use lists::keys::{Key, KeyRow};
+use lists::keys::KeyRow;
 use lists::{LinkRow, keys, slab};
 use points::at;
 
@@ -32,42 +33,55 @@ pub const REST: usize = 32;
 // The keys that answered Trapped with yes.
 pub const TRAPPED: usize = 33;
 
-// As many rows as there are: also a number that no row has.
+// As many rows as there are: also a number that no row has. Kept: the clauses of `slab_row` and the three below it
+// promise this number for a group that there is none of, so that they give no `Option`.
 pub const ROWS: usize = 34;
+
+// A row of a group's four, from group 8 on past the table's end.
+fn row_of(g: usize, list: usize) -> usize
+    requires { list < 4 }
+    ensures { result ≡ pick (ltb g GROUPS) (4 * g + list) ROWS }
+{
+    if g < lists::GROUPS {
+        4 * g + list
+    } else {
+        ROWS
+    }
+}
 
 pub fn slab_row(g: usize) -> usize
     ensures { result ≡ slab_row g }
 {
-    if g < lists::GROUPS { 4 * g } else { ROWS }
+    row_of(g, 0)
 }
 
 pub fn ready_row(g: usize) -> usize
     ensures { result ≡ ready_row g }
 {
-    if g < lists::GROUPS { 4 * g + 1 } else { ROWS }
+    row_of(g, 1)
 }
 
 pub fn idle_row(g: usize) -> usize
     ensures { result ≡ idle_row g }
 {
-    if g < lists::GROUPS { 4 * g + 2 } else { ROWS }
+    row_of(g, 2)
 }
 
 pub fn waiting_row(g: usize) -> usize
     ensures { result ≡ waiting_row g }
 {
-    if g < lists::GROUPS { 4 * g + 3 } else { ROWS }
+    row_of(g, 3)
 }
 
 // The slot of an actor among the lists.
 pub fn slot_at(g: usize, key: u8) -> usize
     ensures { result ≡ slot_at g key }
 {
-    let who = at::who_of(g, key);
-    question::slot_of(who)
+    question::slot_of(at::who_of(g, key))
 }
 
 // A key joins a list.
+#[tactic(auto, unfolding(crate::specs::Roster::push_key))]
 pub fn push_key(keys: &mut [KeyRow], row: usize, key: u8)
     ensures { keys.new ≡ push_key keys.old row key }
 {
@@ -75,150 +89,115 @@ pub fn push_key(keys: &mut [KeyRow], row: usize, key: u8)
 }
 
 // Whether the group has an actor of this key.
+#[tactic(auto, unfolding(crate::specs::Roster::live_of))]
 pub fn live(keys: &[KeyRow], g: usize, key: u8) -> bool
     ensures { result ≡ live_of keys.now g key }
 {
-    let slot = slot_at(g, key);
-    if slot < lists::SLOTS {
-        let row = slab_row(g);
-        slab::contains_at(keys, row, key)
-    } else {
-        false
-    }
+    slot_at(g, key) < lists::SLOTS && slab::contains_at(keys, slab_row(g), key)
 }
 
 // How many actors the group has.
+#[tactic(auto, unfolding(crate::specs::Roster::live_len))]
 pub fn live_len(keys: &[KeyRow], g: usize) -> u8
     ensures { result ≡ live_len keys.now g }
 {
-    let row = slab_row(g);
-    slab::len_at(keys, row)
+    slab::len_at(keys, slab_row(g))
 }
 
 // An actor is queued to run, once however often it is woken before its turn.
+#[tactic(auto, unfolding(crate::specs::Roster::schedule_of))]
 pub fn schedule(keys: &mut [KeyRow], actors: &mut [ActorRow], g: usize, key: u8)
     ensures { record { keys = keys.new; actors = actors.new }
         ≡ schedule_of keys.old actors.old g key }
 {
-    let there = live(keys, g, key);
-    if there {
-        let slot = slot_at(g, key);
-        let before = state::is_scheduled(actors, slot);
-        if before {
-            return;
-        }
+    let slot = slot_at(g, key);
+    if live(keys, g, key) && !state::is_scheduled(actors, slot) {
         state::scheduled_at(actors, slot, true);
-        let row = ready_row(g);
-        push_key(keys, row, key);
+        push_key(keys, ready_row(g), key);
     }
 }
 
-fn mode_for(eval: bool) -> Mode
-    ensures { result ≡ mode_for eval }
-{
-    if eval { Mode::Eval } else { Mode::Fixed }
-}
-
 // A new actor of this key, queued to run.
+#[tactic(auto, unfolding(crate::specs::Roster::spawn_key))]
 fn spawn_key(keys: &mut [KeyRow], actors: &mut [ActorRow], g: usize, key: u8, eval: bool)
     ensures { record { keys = keys.new; actors = actors.new }
         ≡ spawn_key keys.old actors.old g key eval }
 {
-    let row = slab_row(g);
-    slab::insert_at(keys, row);
-    let mode = mode_for(eval);
-    let slot = slot_at(g, key);
-    state::new_at(actors, slot, mode);
+    slab::insert_at(keys, slab_row(g));
+    let mode = if eval { Mode::Eval } else { Mode::Fixed };
+    state::new_at(actors, slot_at(g, key), mode);
     schedule(keys, actors, g, key);
 }
 
 // A new actor, queued to run, and its key.
-pub fn spawn(keys: &mut [KeyRow], actors: &mut [ActorRow], g: usize, eval: bool) -> Key
+#[tactic(auto, unfolding(crate::specs::Roster::spawn_of))]
+pub fn spawn(keys: &mut [KeyRow], actors: &mut [ActorRow], g: usize, eval: bool) -> Option<u8>
     ensures { record { keys = keys.new; actors = actors.new; key = result }
         ≡ spawn_of keys.old actors.old g eval }
 {
-    let row = slab_row(g);
-    match slab::vacant_at(keys, row) {
-        Key::At(key) => {
-            spawn_key(keys, actors, g, key, eval);
-            Key::At(key)
-        }
-        Key::Nothing => Key::Nothing,
-    }
+    let key = slab::vacant_at(keys, slab_row(g))?;
+    spawn_key(keys, actors, g, key, eval);
+    Some(key)
 }
 
 // Whether the group has an actor of this key that is idle.
+#[tactic(auto, unfolding(crate::specs::Roster::idle_key))]
 fn idle_key(keys: &[KeyRow], actors: &[ActorRow], g: usize, key: u8) -> bool
     ensures { result ≡ idle_key keys.now actors.now g key }
 {
-    let there = live(keys, g, key);
-    if there {
-        let slot = slot_at(g, key);
-        state::is_idle(actors, slot)
-    } else {
-        false
-    }
+    live(keys, g, key) && state::is_idle(actors, slot_at(g, key))
 }
 
 // An idle actor of the group, taken from its idle list: the last whose actor is still there and idle. It and those
 // after it leave the list.
-pub fn pop_idle(keys: &mut [KeyRow], actors: &[ActorRow], g: usize) -> Key
+#[tactic(auto, using(crate::proofs::Idle::popping))]
+pub fn pop_idle(keys: &mut [KeyRow], actors: &[ActorRow], g: usize) -> Option<u8>
     ensures { record { keys = keys.new; key = result }
         ≡ pop_idle_of keys.old actors.now g }
 {
     let row = idle_row(g);
-    let mut n = keys::count_at(keys, row);
-    while 0 < n {
-        let came = keys::last_at(keys, row);
+    // Kept: a row whose count is above 64 has no last key and is popped all the same, which no `while let` would do.
+    for _ in 0..keys::count_at(keys, row) {
+        let last = keys::last_at(keys, row);
         keys::pop_end_at(keys, row);
-        n -= 1;
-        match came {
-            Key::At(key) => {
-                let idle = idle_key(keys, actors, g, key);
-                if idle {
-                    return Key::At(key);
-                }
+        if let Some(key) = last {
+            if idle_key(keys, actors, g, key) {
+                return Some(key);
             }
-            Key::Nothing => {}
         }
     }
-    Key::Nothing
+    None
+}
+
+// How many messages an actor's mailbox has.
+fn load(links: &[LinkRow], g: usize, key: u8) -> u64
+    ensures { result ≡ load_of links.now g key }
+{
+    lists::length_of(links, lists::mailbox(slot_at(g, key)))
 }
 
 // The less loaded of an actor and the best so far, of equals the best so far.
-fn better(links: &[LinkRow], g: usize, best: Key, key: u8) -> Key
+#[tactic(auto, unfolding(crate::specs::Roster::better_of))]
+fn better(links: &[LinkRow], g: usize, best: Option<u8>, key: u8) -> Option<u8>
     ensures { result ≡ better_of links.now g best key }
 {
     match best {
-        Key::At(b) => {
-            let this = lists::mailbox(slot_at(g, key));
-            let that = lists::mailbox(slot_at(g, b));
-            let here = lists::length_of(links, this);
-            let there = lists::length_of(links, that);
-            if here < there {
-                Key::At(key)
-            } else {
-                Key::At(b)
-            }
-        }
-        Key::Nothing => Key::At(key),
+        Some(b) if load(links, g, key) >= load(links, g, b) => best,
+        _ => Some(key),
     }
 }
 
 // The actor of the group with the fewest messages in its mailbox, the first of the equals.
-pub fn least_loaded(keys: &[KeyRow], links: &[LinkRow], g: usize) -> Key
+#[tactic(auto, using(crate::proofs::Loops::least), unfolding(crate::specs::Roster::least_of))]
+pub fn least_loaded(keys: &[KeyRow], links: &[LinkRow], g: usize) -> Option<u8>
     ensures { result ≡ least_of keys.now links.now g }
 {
     let row = slab_row(g);
-    let mut best = Key::Nothing;
-    let mut key: u8 = 0;
-    while key < slab::KEYS {
-        let there = slab::contains_at(keys, row, key);
-        if there {
-            let next = better(links, g, best, key);
-            best = next;
+    let mut best = None;
+    for key in 0..slab::KEYS {
+        if slab::contains_at(keys, row, key) {
+            best = better(links, g, best, key);
         }
-        key += 1;
     }
     best
 }

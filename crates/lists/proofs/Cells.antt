@@ -5,7 +5,6 @@ use mathlib.Core.List.{List, [], ◌∷◌}
 use Prim.Native.Nat.{ℕ, ◌≤◌, ◌<◌}
 use native.Mathlib.Omega.{arith}
 use native.Mathlib.Decide.{ℕ_discrete, dec_lt}
-use borrow.Author.Tests.{le-leb}
 use lib.ListN.{length, set, length-set}
 use lib.Seq.{get_or-set_same, get_or-set_other, set_out}
 use Rattle.lists.specs.declared.Link.{Link}
@@ -13,8 +12,7 @@ use Rattle.lists.specs.Links.{ENTRIES, Table, link_of, link_at, head_of, tail_of
 use Rattle.lists.specs.Links.{capped}
 
 pub capped_small : (x : ℕ) → x ≤ ENTRIES → capped x ≡ x
-unfolding capped
-capped_small x small = rw (le-leb x 18446744073709551615 (omega arith))
+capped_small x small = omega arith
 
 -- rows that a store does not reach
 module _ (t : Table) (i : ℕ) (c : List ℕ) where

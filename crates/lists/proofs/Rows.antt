@@ -1,18 +1,22 @@
 -- Laws of the loops over a row of keys: the shift, the scan, the squeeze and the walk. Assumes nothing.
+use Rattle.std.specs.Prelude.{Some, None}
 use mathlib.Core.Path.{◌≡◌, refl, ap}
-use mathlib.Core.Bool.{Bool, true, false}
 use mathlib.Core.List.{List, [], ◌∷◌}
 use Prim.Native.Nat.{ℕ, zero, suc, ◌+◌, ◌-◌, ◌≤◌, ◌<◌}
 use native.Mathlib.Numerals.{add-one}
 use native.Mathlib.Nat.{not-suc-le-zero, le_of_suc-le-suc}
 use native.Mathlib.Omega.{arith}
+use native.Mathlib.Decide.{dec_lt}
 use lib.Dec.{eqb}
-use lib.ListN.{length, get_or, set, take, drop}
-use lib.Seq.{drop-cons, take-nil, drop-length}
+use lib.ListN.{length, get_or, set, take, drop, drop_of_length-le, length-drop}
+use lib.Seq.{take_all, drop-cons}
+use Rattle.std.specs.List.{list_any}
+use Rattle.std.specs.Prelude.{nat_eq, min}
+use Rattle.std.proofs.lemmas.Grind.{common_steps}
 use Rattle.lists.specs.Links.{pick}
-use Rattle.lists.specs.declared.keys.Key.TheVariants.{At, Nothing}
+use Rattle.lists.proofs.Tables.{row_in, again}
 use Rattle.lists.specs.Slabs.{contains_of, next_key}
-use Rattle.lists.specs.KeyLists.{elem, moved_last, holds_of, add_absent, squeeze_of}
+use Rattle.lists.specs.KeyLists.{elem, moved_last, add_absent, squeeze_of}
 
 -- ---- the shift
 
@@ -48,34 +52,27 @@ shift_short (x ∷ y ∷ r) a h = absurd (omega arith)
 
 -- ---- the scan
 
--- whether k stands among the cells from i to n
-abbrev pub among : List ℕ → ℕ → ℕ → ℕ → Bool
-among c k n i = elem k (take (n + 1 - i) (drop i c))
-
-pub among_all : (c : List ℕ) (k n : ℕ) → among c k n 1 ≡ elem k (take n (drop 1 c))
-among_all c k n = let same : n + 1 - 1 ≡ n = omega arith in rw same
-
-pub among_more : (c : List ℕ) (k n i : ℕ) → i < length c → i ≤ n → among c k n i ≡ pick (eqb (get_or c i 0) k) true
-    (among c k n (i + 1))
+-- the keys of a row are looked through by the library's `any`
+pub elem_any : (k : ℕ) (l : List ℕ) → list_any (λ x. nat_eq x k) l ≡ elem k l
 unfolding elem
-among_more c k n i inside some =
-    let here : n + 1 - i ≡ suc (n - i) = omega arith in
-    let next : n + 1 - (i + 1) ≡ n - i = omega arith in
-    rw (here, next, drop-cons c i 0 inside, add-one)
+elem_any k [] = refl
+elem_any k (x ∷ xs) = grind (arith, common_steps, elem_any k xs)
 
-pub among_none : (c : List ℕ) (k n i : ℕ) → n < i → among c k n i ≡ false
-unfolding elem
-among_none c k n i out = let none : n + 1 - i ≡ 0 = omega arith in rw none
+-- what stands after the first cell is all of it
+pub rest_all : (c : List ℕ) (n : ℕ) → length c ≤ n + 1 → take n (drop 1 c) ≡ drop 1 c
+rest_all c n long = take_all n (drop 1 c) (omega (arith, length-drop 1 c))
 
-pub among_end : (c : List ℕ) (k n i : ℕ) → i ≡ length c → among c k n i ≡ false
-unfolding elem
-among_end c k n i end = rw (end, drop-length c, take-nil)
+-- the first n of them, as far as there are any
+pub held_keys : (c : List ℕ) (n m k : ℕ) → length c ≤ m + 1 → k ≡ min (length (take m (drop 1 c))) n
+    → take k (take m (drop 1 c)) ≡ take n (drop 1 c)
+held_keys c n m k long least = rw (rest_all c m long) (cut (dec_lt n (length (drop 1 c))))
+  where
+    same : k ≡ min (length (drop 1 c)) n
+    same = rw (rest_all c m long) at least
 
--- a row without a cell holds no key
-pub holds_none : (c : List ℕ) (k : ℕ) → length c ≡ 0 → holds_of c k ≡ false
-unfolding holds_of elem
-holds_none [] k none = refl
-holds_none (x ∷ c) k none = absurd (omega arith)
+    cut : Dec (n < length (drop 1 c)) → take k (drop 1 c) ≡ take n (drop 1 c)
+    cut (yes few) = let e : k ≡ n = omega (arith, same) in rw e
+    cut (no more) = rw (take_all k (drop 1 c) (omega (arith, same)), take_all n (drop 1 c) (omega arith))
 
 -- ---- the squeeze
 
@@ -84,17 +81,20 @@ pub squeeze_more : (out c : List ℕ) (i : ℕ) → i < length c → squeeze_of 
 unfolding squeeze_of
 squeeze_more out c i inside = rw (drop-cons c i 0 inside, add-one)
 
-pub squeeze_end : (out c : List ℕ) (i : ℕ) → i ≡ length c → squeeze_of out (drop i c) ≡ out
+pub squeeze_end : (out c : List ℕ) (i : ℕ) → length c ≤ i → squeeze_of out (drop i c) ≡ out
 unfolding squeeze_of
-squeeze_end out c i end = rw (end, drop-length c)
+squeeze_end out c i end = rw (drop_of_length-le c end)
+
+-- what the functions over rows of keys need
+pub ruleset rows = (shift_step, shift_end, shift_short, squeeze_more, squeeze_end, row_in, again)
 
 -- ---- the walk
 
-pub next_more : (s : List ℕ) (k : ℕ) → k < 16 → next_key s (16 - k) k ≡ pick (contains_of s k) (At k)
+pub next_more : (s : List ℕ) (k : ℕ) → k < 16 → next_key s (16 - k) k ≡ pick (contains_of s k) (Some k)
     (next_key s (16 - (k + 1)) (k + 1))
 unfolding next_key
 next_more s k inside = let more : 16 - k ≡ suc (16 - (k + 1)) = omega arith in rw more
 
-pub next_end : (s : List ℕ) (k : ℕ) → 16 ≤ k → next_key s (16 - k) k ≡ Nothing
+pub next_end : (s : List ℕ) (k : ℕ) → 16 ≤ k → next_key s (16 - k) k ≡ None
 unfolding next_key
 next_end s k out = let none : 16 - k ≡ 0 = omega arith in rw none

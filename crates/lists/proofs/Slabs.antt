@@ -1,4 +1,5 @@
 -- What each operation does to every key of a group's actors. Assumes nothing.
+use Rattle.std.specs.Prelude.{Option, Some, None}
 use mathlib.Core.Path.{◌≡◌, refl, sym, ap, ◌∙◌}
 use mathlib.Core.Bool.{Bool, true, false, false≢true}
 use mathlib.Core.Logic.{◌≢◌}
@@ -11,8 +12,6 @@ use borrow.Author.Tests.{eq-eqb, ne_eqb, lt-ltb, le-ltb}
 use lib.Dec.{eqb, ltb}
 use lib.ListN.{length, get_or, set, length-set, length-append}
 use lib.Seq.{get_or-set_same, get_or-set_other, take-set-le, take-suc}
-use Rattle.lists.specs.declared.keys.Key.{Key}
-use Rattle.lists.specs.declared.keys.Key.TheVariants.{At, Nothing}
 use Rattle.lists.specs.Links.{pick}
 use Rattle.lists.specs.Family.{count}
 use Rattle.lists.specs.KeyLists.{blank_row, count_of, keys_of, Held, elem, holds_of, pop_end, key_appended}
@@ -246,11 +245,11 @@ module _ (s : List ℕ) (sound : SlabSound s) (some : 0 < count_of s) where
       }
 
 -- `vacant` tells a key, and `insert` gives it to an actor
-pub inserted_live : (s : List ℕ) → SlabSound s → (k : ℕ) → vacant_of s ≡ At k → Inserted s k
+pub inserted_live : (s : List ℕ) → SlabSound s → (k : ℕ) → vacant_of s ≡ Some k → Inserted s k
 unfolding vacant_of
 inserted_live s sound k gives = go (ℕ_discrete (count_of s) 0) (dec_lt (given_of s) 16)
   where
-    told : (a b : ℕ) → ◌≡◌ {A = Key} (At a) (At b) → a ≡ b
+    told : (a b : ℕ) → ◌≡◌ {A = (Option ℕ)} (Some a) (Some b) → a ≡ b
     told a b e = cc
 
     go : Dec (count_of s ≡ 0) → Dec (given_of s < 16) → Inserted s k
@@ -260,7 +259,7 @@ inserted_live s sound k gives = go (ℕ_discrete (count_of s) 0) (dec_lt (given_
     go (yes none) (no full) =
         absurd (apart (sym gives ∙ rw (eq-eqb (count_of s) 0 none, le-ltb (given_of s) 16 (omega arith))))
       where
-        apart : ◌≡◌ {A = Key} (At k) Nothing → ⊥
+        apart : ◌≡◌ {A = (Option ℕ)} (Some k) None → ⊥
         apart e = let z : ◌≡◌ {A = ℕ} 0 1 = cc in omega arith
     go (no some) d =
         rw (told k (get_or s (count_of s) 0) (sym gives ∙ rw (
@@ -278,7 +277,7 @@ pub record Removed (s : List ℕ) (k : ℕ) : Type 0 where
   pub others : (j : ℕ) → j ≢ k → contains_of (remove_of s k) j ≡ contains_of s j
   pub counted : live_count (remove_of s k) + 1 ≡ live_count s
   -- the last freed key is given first
-  pub next : vacant_of (remove_of s k) ≡ At k
+  pub next : vacant_of (remove_of s k) ≡ Some k
 
 module _ (s : List ℕ) (sound : SlabSound s) (k : ℕ) (live : contains_of s k ≡ true) where
   abbrev less : List ℕ
@@ -356,7 +355,7 @@ module _ (s : List ℕ) (sound : SlabSound s) (k : ℕ) (live : contains_of s k 
       )
       (get_or-set_same s (count_of s + 1) k 0 (omega (arith, sound.sized, sound.few, sound.fewer)))
 
-  gives : vacant_of less ≡ At k
+  gives : vacant_of less ≡ Some k
   unfolding vacant_of
   gives =
       rw (
@@ -388,26 +387,26 @@ module _ (s : List ℕ) (sound : SlabSound s) (k : ℕ) (live : contains_of s k 
       }
 
 -- the last freed key is given first
-pub last_freed_first : (s : List ℕ) → SlabSound s → (k : ℕ) → contains_of s k ≡ true → vacant_of (remove_of s k) ≡ At k
+pub last_freed_first : (s : List ℕ) → SlabSound s → (k : ℕ) → contains_of s k ≡ true → vacant_of (remove_of s k) ≡ Some k
 last_freed_first s sound k live = (removed_dead s sound k live).next
 
 -- ---- the walk
 
 -- `next_key` tells the least key of an actor from k on
-pub next_least : (s : List ℕ) (n k j : ℕ) → next_key s n k ≡ At j → (contains_of s j ≡ true) × (k ≤ j)
+pub next_least : (s : List ℕ) (n k j : ℕ) → next_key s n k ≡ Some j → (contains_of s j ≡ true) × (k ≤ j)
     × ((i : ℕ) → k ≤ i → i < j → contains_of s i ≡ false)
 unfolding next_key
 next_least s zero k j found = absurd (apart found)
   where
-    apart : ◌≡◌ {A = Key} Nothing (At j) → ⊥
+    apart : ◌≡◌ {A = (Option ℕ)} None (Some j) → ⊥
     apart e = let z : ◌≡◌ {A = ℕ} 0 1 = cc in omega arith
 next_least s (suc n) k j found = go (contains_of s k) refl (next_least s n (k + 1) j)
   where
-    here : pick true (At k) (next_key s n (k + 1)) ≡ At j → k ≡ j
+    here : pick true (Some k) (next_key s n (k + 1)) ≡ Some j → k ≡ j
     here e = cc
 
     go : (b : Bool) → contains_of s k ≡ b
-        → (next_key s n (k + 1) ≡ At j → (contains_of s j ≡ true) × (k + 1 ≤ j) × ((i : ℕ) → k + 1 ≤ i → i < j
+        → (next_key s n (k + 1) ≡ Some j → (contains_of s j ≡ true) × (k + 1 ≤ j) × ((i : ℕ) → k + 1 ≤ i → i < j
         → contains_of s i ≡ false))
         → (contains_of s j ≡ true) × (k ≤ j) × ((i : ℕ) → k ≤ i → i < j → contains_of s i ≡ false)
     go true e later =
@@ -428,7 +427,7 @@ next_least s (suc n) k j found = go (contains_of s k) refl (next_least s n (k + 
 abbrev freed_two : List ℕ
 freed_two = remove_of (remove_of (insert_of (insert_of (insert_of blank_row))) 1) 0
 
-pub row_end_11 : (vacant_of freed_two ≡ At 0) × (vacant_of (insert_of freed_two) ≡ At 1)
-    × (vacant_of (insert_of (insert_of freed_two)) ≡ At 3)
+pub row_end_11 : (vacant_of freed_two ≡ Some 0) × (vacant_of (insert_of freed_two) ≡ Some 1)
+    × (vacant_of (insert_of (insert_of freed_two)) ≡ Some 3)
 unfolding vacant_of insert_of remove_of contains_of holds_of pop_end key_appended elem
 row_end_11 = (refl, refl, refl)

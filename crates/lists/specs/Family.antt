@@ -1,8 +1,6 @@
 -- What a table of links means. `view t k` is list k, as the list of its entries in order; `Good t` is that the links
 -- are well formed and that every entry stands in exactly one of the lists, at one place.
-use Rattle.std.specs.Prelude.{◌≡◌, List, [], ◌∷◌, ◌++◌, ℕ, zero, suc, ◌+◌, ◌-◌, ◌≤◌, ◌<◌, eqb, length, get_or, take, drop}
-use Rattle.lists.specs.declared.Found.{Found}
-use Rattle.lists.specs.declared.Found.TheVariants.{Entry, Nothing}
+use Rattle.std.specs.Prelude.{◌≡◌, List, [], ◌∷◌, ◌++◌, ℕ, zero, suc, ◌+◌, ◌-◌, ◌≤◌, ◌<◌, eqb, length, get_or, take, drop, Option, Some, None}
 use Rattle.lists.specs.Links.{pick, LISTS, ENTRIES, FREE, Table, head_of, tail_of, len_of, next_of}
 
 -- ---- lists, whatever they are used for
@@ -28,9 +26,9 @@ up_from h zero = []
 up_from h (suc n) = h ∷ up_from (suc h) n
 
 -- the first of a list
-abbrev pub first_in : List ℕ → Found
-first_in [] = Nothing
-first_in (x ∷ xs) = Entry x
+abbrev pub first_in : List ℕ → Option ℕ
+first_in [] = None
+first_in (x ∷ xs) = Some x
 
 -- ---- the family
 

@@ -1,8 +1,6 @@
 -- Lists of at most 64 keys as rows of cells, and what each operation makes of a row: exact, and of every row.
 -- `keys_of c` is the list that a row stands for.
-use Rattle.std.specs.Prelude.{◌≡◌, Bool, true, false, List, [], ◌∷◌, ◌++◌, ℕ, zero, suc, ◌+◌, ◌-◌, ◌≤◌, eqb, ltb, length, get_or, set, take, drop, replicate}
-use Rattle.lists.specs.declared.keys.Key.{Key}
-use Rattle.lists.specs.declared.keys.Key.TheVariants.{At, Nothing}
+use Rattle.std.specs.Prelude.{◌≡◌, Bool, true, false, List, [], ◌∷◌, ◌++◌, ℕ, zero, suc, ◌+◌, ◌-◌, ◌≤◌, eqb, ltb, length, get_or, set, take, drop, replicate, Option, Some, None}
 use Rattle.lists.specs.Links.{pick}
 
 -- the most keys of a list
@@ -44,12 +42,12 @@ moved_last (x ∷ xs) (suc i) a = x ∷ moved_last xs i a
 -- ---- operations on rows
 
 -- the first key of a row; none where it has no keys
-abbrev pub front_of : List ℕ → Key
-front_of c = pick (eqb (count_of c) 0) Nothing (At (get_or c 1 0))
+abbrev pub front_of : List ℕ → Option ℕ
+front_of c = pick (eqb (count_of c) 0) None (Some (get_or c 1 0))
 
 -- the last key of a row; none where it has no keys, or its count is above 64
-abbrev pub last_of : List ℕ → Key
-last_of c = pick (eqb (count_of c) 0) Nothing (pick (ltb (count_of c) 65) (At (get_or c (count_of c) 0)) Nothing)
+abbrev pub last_of : List ℕ → Option ℕ
+last_of c = pick (eqb (count_of c) 0) None (pick (ltb (count_of c) 65) (Some (get_or c (count_of c) 0)) None)
 
 -- whether k is among the keys of a row
 unfoldable pub holds_of : List ℕ → ℕ → Bool

@@ -1,8 +1,6 @@
 -- The table of links, and what each operation makes of it: exact, and of every table.
-use Rattle.std.specs.Prelude.{Bool, true, false, List, [], ◌∷◌, ℕ, zero, suc, ◌+◌, ◌-◌, ◌*◌, eqb, ltb, leb, length, get_or, set}
+use Rattle.std.specs.Prelude.{Bool, true, false, List, [], ◌∷◌, ℕ, zero, suc, ◌+◌, ◌-◌, ◌*◌, min, eqb, ltb, leb, length, get_or, set, Option, Some, None}
 use Rattle.lists.specs.declared.Link.{Link}
-use Rattle.lists.specs.declared.Found.{Found}
-use Rattle.lists.specs.declared.Found.TheVariants.{Entry, Nothing}
 
 -- the first value where the condition is true, else the second
 abbrev pub pick : {A : Type 0} → Bool → A → A → A
@@ -64,8 +62,8 @@ unfoldable pub hand_of : ℕ → ℕ
 hand_of slot = pick (ltb slot SLOTS) (7 + 2 * slot) LISTS
 
 -- a number, held at the largest of 64 bits
-unfoldable pub capped : ℕ → ℕ
-capped n = pick (leb n 18446744073709551615) n 18446744073709551615
+abbrev pub capped : ℕ → ℕ
+capped n = min n 18446744073709551615
 
 -- ---- rows of cells
 
@@ -118,8 +116,8 @@ start_from i zero = []
 start_from i (suc n) = start_row i ∷ start_from (suc i) n
 
 -- the first entry of list k; none where it is empty
-abbrev pub first_of : Table → ℕ → Found
-first_of t k = pick (eqb (len_of t k) 0) Nothing (Entry (head_of t k))
+abbrev pub first_of : Table → ℕ → Option ℕ
+first_of t k = pick (eqb (len_of t k) 0) None (Some (head_of t k))
 
 -- the first n entries of `from`, of which `last` is the last, leave it
 unfoldable pub leave_of : Table → ℕ → ℕ → ℕ → Table
@@ -138,6 +136,10 @@ join_front t to head n last =
     pick (eqb (len_of t to) 0)
     (set_ends (set_next t last (head_of t to)) to head last (capped (len_of t to + n)))
     (set_ends (set_next t last (head_of t to)) to head (tail_of t to) (capped (len_of t to + n)))
+
+-- there are two lists, and the first has an entry
+unfoldable pub can_move : Table → ℕ → ℕ → Bool
+can_move t from to = pick (eqb from to) false (pick (leb (length t) to) false (pick (eqb (len_of t from) 0) false true))
 
 -- r, where there are two lists and the first has an entry; else nothing changes
 abbrev pub if_moves : Table → ℕ → ℕ → Table → Table

@@ -1,8 +1,6 @@
 -- The keys of a group's actors as slab 0.4 gives them: the last freed key first, else the next that never was one.
 -- A row of cells: the free keys, last freed last, as a list of keys; in the last cell how many keys were ever given.
-use Rattle.std.specs.Prelude.{◌≡◌, Bool, true, false, List, ℕ, zero, suc, ◌+◌, ◌-◌, ◌≤◌, ◌<◌, eqb, ltb, length, get_or, set}
-use Rattle.lists.specs.declared.keys.Key.{Key}
-use Rattle.lists.specs.declared.keys.Key.TheVariants.{At, Nothing}
+use Rattle.std.specs.Prelude.{◌≡◌, Bool, true, false, List, ℕ, zero, suc, ◌+◌, ◌-◌, ◌≤◌, ◌<◌, eqb, ltb, length, get_or, set, Option, Some, None}
 use Rattle.lists.specs.Links.{pick, KEYS}
 use Rattle.lists.specs.Family.{count}
 use Rattle.lists.specs.KeyLists.{count_of, keys_of, last_of, holds_of, pop_end, key_appended}
@@ -16,8 +14,8 @@ unfoldable pub contains_of : List ℕ → ℕ → Bool
 contains_of s k = pick (ltb k (given_of s)) (pick (holds_of s k) false true) false
 
 -- the key of the next actor
-unfoldable pub vacant_of : List ℕ → Key
-vacant_of s = pick (eqb (count_of s) 0) (pick (ltb (given_of s) KEYS) (At (given_of s)) Nothing) (last_of s)
+unfoldable pub vacant_of : List ℕ → Option ℕ
+vacant_of s = pick (eqb (count_of s) 0) (pick (ltb (given_of s) KEYS) (Some (given_of s)) None) (last_of s)
 
 -- the key of the next actor is taken: the one freed last, else the next that never was one; with none free and 16 given
 -- nothing changes
@@ -33,9 +31,9 @@ abbrev pub live_count : List ℕ → ℕ
 live_count s = given_of s - count_of s
 
 -- the first key of an actor among the n from k on
-unfoldable pub next_key : List ℕ → ℕ → ℕ → Key
-next_key s zero k = Nothing
-next_key s (suc n) k = pick (contains_of s k) (At k) (next_key s n (k + 1))
+unfoldable pub next_key : List ℕ → ℕ → ℕ → Option ℕ
+next_key s zero k = None
+next_key s (suc n) k = pick (contains_of s k) (Some k) (next_key s n (k + 1))
 
 -- a row of keys that is well formed: 65 cells, at most 16 keys given, and the free ones different ones of them
 pub record SlabSound (s : List ℕ) : Type 0 where

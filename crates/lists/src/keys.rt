@@ -19,18 +19,13 @@ const PAST: u8 = FULL + 1;
 const CELLS: usize = PAST as usize;
 
 // A row of the key lists, as it is lent: how many keys there are, then the keys.
+// Kept: a buffer with its count, since the memory is fixed and the caller's, and the count is one of its cells.
 pub type KeyRow = [u8; CELLS];
-
-// A key of a list.
-#[derive(Drop)]
-pub enum Key {
-    At(u8),
-    Nothing,
-}
 
 // ---- looking at a list
 
 // How many keys there are.
+// Kept: not by `cell_at`, which reads numbers of 64 bits: a reader of both would need the default as a parameter.
 pub fn count_at(keys: &[KeyRow], i: usize) -> u8
     ensures { result ≡ count_of (keys_at keys.now i) }
 {
@@ -38,73 +33,54 @@ pub fn count_at(keys: &[KeyRow], i: usize) -> u8
 }
 
 // The first key.
-pub fn front_at(keys: &[KeyRow], i: usize) -> Key
+pub fn front_at(keys: &[KeyRow], i: usize) -> Option<u8>
     ensures { result ≡ front_of (keys_at keys.now i) }
 {
-    if i < keys.len() {
-        let n = keys[i][0];
-        if n == 0 {
-            return Key::Nothing;
-        }
-        return Key::At(keys[i][1]);
+    match keys.get(i) {
+        Some(row) if row[0] != 0 => Some(row[1]),
+        _ => None,
     }
-    Key::Nothing
 }
 
 // The last key.
-pub fn last_at(keys: &[KeyRow], i: usize) -> Key
+pub fn last_at(keys: &[KeyRow], i: usize) -> Option<u8>
     ensures { result ≡ last_of (keys_at keys.now i) }
 {
-    if i < keys.len() {
-        let n = keys[i][0];
-        if n == 0 {
-            return Key::Nothing;
-        }
-        if n < PAST {
-            let at = n as usize;
-            return Key::At(keys[i][at]);
-        }
-        return Key::Nothing;
+    match keys.get(i) {
+        Some(row) if row[0] != 0 && row[0] <= FULL => Some(row[row[0] as usize]),
+        _ => None,
     }
-    Key::Nothing
 }
 
 // Whether a key stands in the list.
+#[tactic(auto, unfolding(crate::specs::KeyLists::holds_of, crate::specs::KeyLists::elem))]
 pub(crate) fn holds_at(keys: &[KeyRow], i: usize, key: u8) -> bool
     ensures { result ≡ holds_of (keys_at keys.now i) key }
 {
-    if i < keys.len() {
-        return holds(&keys[i], key);
-    }
-    false
+    i < keys.len() && holds(&keys[i], key)
 }
 
 // ---- changing a list
 
 // The first key leaves, where there is one.
+#[tactic(auto, using(crate::proofs::Rows::rows), unfolding(crate::specs::KeyLists::pop_front))]
 pub fn pop_at(keys: &mut [KeyRow], i: usize)
     ensures { keys.new ≡ set keys.old i (pop_front (keys_at keys.old i)) }
 {
-    if i < keys.len() {
-        let n = keys[i][0];
-        if n == 0 {
-            return;
-        }
+    let n = count_at(keys, i);
+    if i < keys.len() && n != 0 {
         shift(&mut keys[i]);
         keys[i][0] = n - 1;
     }
 }
 
 // The last key leaves, where there is one.
+#[tactic(auto, unfolding(crate::specs::KeyLists::pop_end))]
 pub fn pop_end_at(keys: &mut [KeyRow], i: usize)
     ensures { keys.new ≡ set keys.old i (pop_end (keys_at keys.old i)) }
 {
-    if i < keys.len() {
-        let n = keys[i][0];
-        if n == 0 {
-            return;
-        }
-        keys[i][0] = n - 1;
+    if i < keys.len() && keys[i][0] != 0 {
+        keys[i][0] -= 1;
     }
 }
 
@@ -113,36 +89,30 @@ pub(crate) fn append_at(keys: &mut [KeyRow], i: usize, key: u8)
     ensures { keys.new ≡ set keys.old i (key_appended (keys_at keys.old i) key) }
 {
     if i < keys.len() {
-        let n = keys[i][0];
-        if n < FULL {
-            let at = n as usize;
-            keys[i][at + 1] = key;
-            keys[i][0] = n + 1;
-        }
+        append(&mut keys[i], key);
     }
 }
 
 // A key joins at the end. A full list first keeps only each key's first entry, and then takes the key if it is absent.
+#[tactic(auto, unfolding(crate::specs::KeyLists::push_of))]
 pub fn push_at(keys: &mut [KeyRow], i: usize, key: u8)
     ensures { keys.new ≡ set keys.old i (push_of (keys_at keys.old i) key) }
 {
-    let n = count_at(keys, i);
-    if n < FULL {
+    if count_at(keys, i) < FULL {
         append_at(keys, i, key);
         return;
     }
     let held = keys_at(keys, i);
-    let once = squeeze(held);
-    let more = add_absent(once, key);
-    put_keys(keys, i, more);
+    let mut once = squeeze(&held);
+    add_absent(&mut once, key);
+    put_keys(keys, i, once);
 }
 
 // The list is empty.
 pub fn clear_at(keys: &mut [KeyRow], i: usize)
     ensures { keys.new ≡ set keys.old i blank_row }
 {
-    let none = [0u8; CELLS];
-    put_keys(keys, i, none);
+    put_keys(keys, i, [0; CELLS]);
 }
 
 // The list of one row becomes that of another, and is empty itself.
@@ -156,17 +126,16 @@ pub fn move_at(keys: &mut [KeyRow], from: usize, to: usize)
 }
 
 // A row of the table, past its end an empty one.
+// Kept: one line, as `left_row` of the crate settings is; one function of both would be public, and take the empty
+// row.
 fn keys_at(keys: &[KeyRow], i: usize) -> KeyRow
     ensures { result ≡ keys_at keys.now i }
 {
-    if i < keys.len() {
-        keys[i]
-    } else {
-        [0u8; CELLS]
-    }
+    if i < keys.len() { keys[i] } else { [0; CELLS] }
 }
 
 // A row of the table is stored; past its end nothing is.
+// Kept: as `put_cell` of the crate actor, which stores a number; one function of both would be public, for one line.
 fn put_keys(keys: &mut [KeyRow], i: usize, row: KeyRow)
     ensures { keys.new ≡ set keys.old i row }
 {
@@ -178,78 +147,61 @@ fn put_keys(keys: &mut [KeyRow], i: usize, row: KeyRow)
 // ---- one row
 
 // Whether a key stands in a row, of any length.
+#[tactic(auto, unfolding(crate::specs::KeyLists::holds_of, crate::specs::KeyLists::elem))]
 fn holds(keys: &[u8], key: u8) -> bool
     ensures { result ≡ holds_of keys.now key }
 {
-    if keys.len() == 0 {
-        return false;
+    match keys {
+        [n, rest @ ..] => rest[..rest.len().min(*n as usize)].contains(&key),
+        [] => false,
     }
-    let n = keys[0] as usize;
-    let mut i: usize = 1;
-    while i < keys.len() {
-        if n < i {
-            return false;
-        }
-        let k = keys[i];
-        if k == key {
-            return true;
-        }
-        i += 1;
-    }
-    false
 }
 
 // Every cell of a row after the count moves down by one, and the last is 0.
+#[tactic(auto, using(crate::proofs::Rows::rows))]
 fn shift(keys: &mut [u8])
     ensures { keys.new ≡ moved_last keys.old 1 0 }
 {
     if keys.len() < 2 {
         return;
     }
-    let mut j: usize = 1;
-    while j + 1 < keys.len() {
-        let next = keys[j + 1];
-        keys[j] = next;
-        j += 1;
+    let last = keys.len() - 1;
+    for j in 1..last {
+        keys[j] = keys[j + 1];
     }
-    keys[j] = 0;
+    keys[last] = 0;
 }
 
 // A key joins a row at the end; a full row stays as it is.
-fn append(keys: KeyRow, key: u8) -> KeyRow
-    ensures { result ≡ key_appended keys key }
+#[tactic(auto, unfolding(crate::specs::KeyLists::key_appended))]
+fn append(row: &mut KeyRow, key: u8)
+    ensures { row.new ≡ key_appended row.old key }
 {
-    let n = keys[0];
+    let n = row[0];
     if n < FULL {
-        let at = n as usize;
-        let mut b = keys;
-        b[at + 1] = key;
-        b[0] = n + 1;
-        b
-    } else {
-        keys
+        row[n as usize + 1] = key;
+        row[0] = n + 1;
     }
 }
 
 // A key joins a row at the end unless it stands in it.
-fn add_absent(keys: KeyRow, key: u8) -> KeyRow
-    ensures { result ≡ add_absent keys key }
+#[tactic(auto, unfolding(crate::specs::KeyLists::add_absent))]
+fn add_absent(row: &mut KeyRow, key: u8)
+    ensures { row.new ≡ add_absent row.old key }
 {
-    let there = holds(&keys, key);
-    if there { keys } else { append(keys, key) }
+    if !holds(row, key) {
+        append(row, key);
+    }
 }
 
 // Only each key's first entry stays.
-fn squeeze(keys: KeyRow) -> KeyRow
-    ensures { result ≡ squeeze_of blank_row (drop 1 keys) }
+#[tactic(auto, using(crate::proofs::Rows::rows))]
+fn squeeze(keys: &KeyRow) -> KeyRow
+    ensures { result ≡ squeeze_of blank_row (drop 1 keys.now) }
 {
-    let mut out = [0u8; CELLS];
-    let mut i: usize = 1;
-    while i < CELLS {
-        let k = keys[i];
-        let next = add_absent(out, k);
-        out = next;
-        i += 1;
+    let mut out = [0; CELLS];
+    for k in &keys[1..] {
+        add_absent(&mut out, *k);
     }
     out
 }

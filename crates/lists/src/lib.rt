@@ -7,8 +7,8 @@
 // `first_is`, `after_is`, `no_circle`, `nowhere_else` (proofs/Family.antt), `started` (proofs/AtStart.antt).
 #![tactic(auto)]
 
-ghost use Rattle.std.specs.Prelude.{◌≡◌, ◌+◌, ◌-◌, ◌<◌, [], length};
-ghost use Rattle.lists.specs.Links.{capped, link_of, link_at, len_of, set_ends, set_next, first_of, leave_of};
+ghost use Rattle.std.specs.Prelude.{◌≡◌, ◌<◌, [], get_or, length};
+ghost use Rattle.lists.specs.Links.{link_of, link_at, len_of, set_ends, set_next, first_of, leave_of, can_move};
 ghost use Rattle.lists.specs.Links.{join_end, join_front, move_first, move_first_to_front, move_all, start_row};
 ghost use Rattle.lists.specs.Links.{start_from, mailbox_of, hand_of};
 
@@ -51,9 +51,8 @@ pub const SLOTS: usize = GROUPS * slab::KEYS as usize;
 // As many lists as there are: also a number that no list has.
 pub const LISTS: usize = 262;
 
-const LARGEST: u64 = 18446744073709551615;
-
 // A row of the links, as it is lent: the numbers of a `Link`, in order.
+// Kept: rows of numbers that name rows, since the memory is fixed and the caller's, who also saves and compares it.
 pub type LinkRow = [u64; 4];
 
 // A row of the table.
@@ -67,14 +66,16 @@ pub struct Link {
     pub next: u64,
 }
 
-// The first of a list.
-#[derive(Drop)]
-pub enum Found {
-    Entry(usize),
-    Nothing,
+// A cell of a row of a table; past the table's end it is 0.
+pub fn cell_at<const N: usize>(rows: &[[u64; N]], row: usize, i: usize) -> u64
+    requires { i < N }
+    ensures { result ≡ get_or (get_or rows.now row []) i 0 }
+{
+    if row < rows.len() { rows[row][i] } else { 0 }
 }
 
 // The mailbox of an actor's slot, or a number that no list has.
+#[tactic(auto, unfolding(crate::specs::Links::mailbox_of))]
 pub fn mailbox(slot: usize) -> usize
     ensures { result ≡ mailbox_of slot }
 {
@@ -82,92 +83,55 @@ pub fn mailbox(slot: usize) -> usize
 }
 
 // What an actor has in its hands, or a number that no list has.
+// Kept: beside `mailbox`, as each is one line and its own; a third function that takes 6 or 7 is no plainer.
+#[tactic(auto, unfolding(crate::specs::Links::hand_of))]
 pub fn hand(slot: usize) -> usize
     ensures { result ≡ hand_of slot }
 {
     if slot < SLOTS { 7 + 2 * slot } else { LISTS }
 }
 
-// Saturating addition.
-pub fn saturating_add(a: u64, b: u64) -> u64
-    ensures { result ≡ capped (a + b) }
-{
-    if a <= LARGEST - b { a + b } else { LARGEST }
-}
-
-// Saturating subtraction.
-pub fn saturating_sub(a: u64, b: u64) -> u64
-    ensures { result ≡ a - b }
-{
-    if b <= a { a - b } else { 0 }
-}
-
-fn link_of(c: LinkRow) -> Link
-    ensures { result ≡ link_of c }
-{
-    Link {
-        head: c[0],
-        tail: c[1],
-        len: c[2],
-        next: c[3],
-    }
-}
-
-fn no_link() -> Link
-    ensures { result ≡ link_of [] }
-{
-    Link {
-        head: 0,
-        tail: 0,
-        len: 0,
-        next: 0,
-    }
-}
-
 // A row of the table, past its end an empty one.
+#[tactic(auto, unfolding(crate::specs::Links::link_at))]
 fn link_at(links: &[LinkRow], i: usize) -> Link
     ensures { result ≡ link_at links.now i }
 {
-    if i < links.len() {
-        let c = links[i];
-        link_of(c)
-    } else {
-        no_link()
+    let [head, tail, len, next] = if i < links.len() { links[i] } else { [0; 4] };
+    Link {
+        head,
+        tail,
+        len,
+        next,
     }
 }
 
 // The ends and the length of a list are stored; past the table's end nothing is.
+#[tactic(auto, unfolding(crate::specs::Links::set_ends, crate::specs::Links::link_at))]
 fn set_ends(links: &mut [LinkRow], list: usize, head: u64, tail: u64, len: u64)
     ensures { links.new ≡ set_ends links.old list head tail len }
 {
-    let l = link_at(links, list);
-    let next = l.next;
-    let c = [head, tail, len, next];
     if list < links.len() {
-        links[list] = c;
+        links[list] = [head, tail, len, links[list][3]];
     }
 }
 
 // The entry after an entry is stored; past the table's end nothing is.
+#[tactic(auto, unfolding(crate::specs::Links::set_next, crate::specs::Links::link_at))]
 fn set_next(links: &mut [LinkRow], entry: usize, next: u64)
     ensures { links.new ≡ set_next links.old entry next }
 {
-    let l = link_at(links, entry);
-    let head = l.head;
-    let tail = l.tail;
-    let len = l.len;
-    let c = [head, tail, len, next];
     if entry < links.len() {
-        links[entry] = c;
+        let [head, tail, len, _] = links[entry];
+        links[entry] = [head, tail, len, next];
     }
 }
 
 // Row i of the table at the start.
 fn start_row(i: usize) -> LinkRow
-    requires { i < 18446744073709551615 }
+    requires { i < usize.MAX }
     ensures { result ≡ start_row i }
 {
-    let next = (i as u64) + 1;
+    let next = i as u64 + 1;
     if i == FREE {
         [0, LAST, MESSAGES, next]
     } else {
@@ -176,13 +140,12 @@ fn start_row(i: usize) -> LinkRow
 }
 
 // Every entry is free, in rising order, and every other list is empty.
+#[tactic(auto, using(crate::proofs::AtStart::below_more, crate::proofs::AtStart::below_all))]
 pub fn start(links: &mut [LinkRow])
     ensures { links.new ≡ start_from 0 (length links.old) }
 {
-    let mut i: usize = 0;
-    while i < links.len() {
-        links[i] = start_row(i);
-        i += 1;
+    for (i, row) in links.iter_mut().enumerate() {
+        *row = start_row(i);
     }
 }
 
@@ -190,42 +153,36 @@ pub fn start(links: &mut [LinkRow])
 pub fn length_of(links: &[LinkRow], list: usize) -> u64
     ensures { result ≡ len_of links.now list }
 {
-    let l = link_at(links, list);
-    l.len
+    link_at(links, list).len
 }
 
 // The first entry of a list.
-pub fn first(links: &[LinkRow], list: usize) -> Found
+pub fn first(links: &[LinkRow], list: usize) -> Option<usize>
     ensures { result ≡ first_of links.now list }
 {
     let l = link_at(links, list);
-    let len = l.len;
-    if len == 0 {
-        Found::Nothing
-    } else {
-        Found::Entry(l.head as usize)
-    }
+    (l.len != 0).then_some(l.head as usize)
 }
 
 // The first `count` entries of `from`, of which `last` is the last, leave it.
+#[tactic(auto, unfolding(crate::specs::Links::leave_of))]
 fn leave(links: &mut [LinkRow], from: usize, count: u64, last: u64)
     ensures { links.new ≡ leave_of links.old from count last }
 {
     let f = link_at(links, from);
     let l = link_at(links, last as usize);
-    let left = saturating_sub(f.len, count);
-    set_ends(links, from, l.next, f.tail, left);
+    set_ends(links, from, l.next, f.tail, f.len.saturating_sub(count));
 }
 
 // A run of `count` entries from `head` to `last` joins `to` at its end: the last entry of `to`, where it has one,
 // links to it.
+#[tactic(auto, unfolding(crate::specs::Links::join_end))]
 fn join_end(links: &mut [LinkRow], to: usize, head: u64, count: u64, last: u64)
     ensures { links.new ≡ join_end links.old to head count last }
 {
     let t = link_at(links, to);
-    let held = t.len;
-    let joined = saturating_add(held, count);
-    if held == 0 {
+    let joined = t.len.saturating_add(count);
+    if t.len == 0 {
         set_ends(links, to, head, last, joined);
     } else {
         set_next(links, t.tail as usize, head);
@@ -234,80 +191,61 @@ fn join_end(links: &mut [LinkRow], to: usize, head: u64, count: u64, last: u64)
 }
 
 // A run of `count` entries from `head` to `last` joins `to` at its front: `last` links to the first entry of `to`.
+#[tactic(auto, unfolding(crate::specs::Links::join_front))]
 fn join_front(links: &mut [LinkRow], to: usize, head: u64, count: u64, last: u64)
     ensures { links.new ≡ join_front links.old to head count last }
 {
     let t = link_at(links, to);
-    let held = t.len;
-    let joined = saturating_add(held, count);
+    let tail = if t.len == 0 { last } else { t.tail };
     set_next(links, last as usize, t.head);
-    if held == 0 {
-        set_ends(links, to, head, last, joined);
-    } else {
-        set_ends(links, to, head, t.tail, joined);
-    }
+    set_ends(links, to, head, tail, t.len.saturating_add(count));
+}
+
+// Whether a move from one list to another changes anything: they are two lists, and the first has an entry.
+#[tactic(auto, unfolding(crate::specs::Links::can_move))]
+fn can_move(links: &[LinkRow], from: usize, to: usize) -> bool
+    ensures { result ≡ can_move links.now from to }
+{
+    from != to && to < links.len() && length_of(links, from) != 0
 }
 
 // The first entry of `from` goes to the end of `to`. Nothing changes where there is none, the two are the same, or one
 // is no list.
+#[tactic(auto, unfolding(crate::specs::Links::move_first, crate::specs::Links::can_move))]
 pub fn move_first(links: &mut [LinkRow], from: usize, to: usize)
     ensures { links.new ≡ move_first links.old from to }
 {
-    if from == to {
-        return;
+    if can_move(links, from, to) {
+        let f = link_at(links, from);
+        leave(links, from, 1, f.head);
+        join_end(links, to, f.head, 1, f.head);
     }
-    if links.len() <= to {
-        return;
-    }
-    let f = link_at(links, from);
-    let had = f.len;
-    if had == 0 {
-        return;
-    }
-    let head = f.head;
-    leave(links, from, 1, head);
-    join_end(links, to, head, 1, head);
 }
 
 // The first entry of `from` goes to the front of `to`. Nothing changes where there is none, the two are the same, or
 // one is no list.
+// Kept: beside `move_first`, as they differ in a call, `join_front` in place of `join_end`. One function of both would
+// take it as a closure, with a bound that says of it what the contracts of these two say.
+#[tactic(auto, unfolding(crate::specs::Links::move_first_to_front, crate::specs::Links::can_move))]
 pub fn move_first_to_front(links: &mut [LinkRow], from: usize, to: usize)
     ensures { links.new ≡ move_first_to_front links.old from to }
 {
-    if from == to {
-        return;
+    if can_move(links, from, to) {
+        let f = link_at(links, from);
+        leave(links, from, 1, f.head);
+        join_front(links, to, f.head, 1, f.head);
     }
-    if links.len() <= to {
-        return;
-    }
-    let f = link_at(links, from);
-    let had = f.len;
-    if had == 0 {
-        return;
-    }
-    let head = f.head;
-    leave(links, from, 1, head);
-    join_front(links, to, head, 1, head);
 }
 
 // Every entry of `from` goes to the end of `to`, in order. Nothing changes where there is none, the two are the same,
 // or one is no list.
+#[tactic(auto, unfolding(crate::specs::Links::move_all, crate::specs::Links::can_move))]
 pub fn move_all(links: &mut [LinkRow], from: usize, to: usize)
     ensures { links.new ≡ move_all links.old from to }
 {
-    if from == to {
-        return;
+    if can_move(links, from, to) {
+        let f = link_at(links, from);
+        leave(links, from, f.len, f.tail);
+        join_end(links, to, f.head, f.len, f.tail);
     }
-    if links.len() <= to {
-        return;
-    }
-    let f = link_at(links, from);
-    let had = f.len;
-    if had == 0 {
-        return;
-    }
-    let head = f.head;
-    let last = f.tail;
-    leave(links, from, had, last);
-    join_end(links, to, head, had, last);
 }

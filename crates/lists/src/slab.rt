@@ -9,7 +9,7 @@ ghost use Rattle.lists.specs.KeyLists.{keys_at};
 ghost use Rattle.lists.specs.Slabs.{given_of, contains_of, vacant_of, insert_of, remove_of, live_count, next_key};
 
 use crate::keys;
-use crate::keys::{Key, KeyRow};
+use crate::keys::KeyRow;
 
 // The most keys: the most actors of a group.
 pub const KEYS: u8 = 16;
@@ -34,56 +34,46 @@ fn set_given_at(keys: &mut [KeyRow], i: usize, n: u8)
 }
 
 // Whether an actor has this key.
+#[tactic(auto, unfolding(crate::specs::Slabs::contains_of))]
 pub fn contains_at(keys: &[KeyRow], i: usize, key: u8) -> bool
     ensures { result ≡ contains_of (keys_at keys.now i) key }
 {
-    let given = given_at(keys, i);
-    if key < given {
-        let free = keys::holds_at(keys, i, key);
-        if free { false } else { true }
-    } else {
-        false
-    }
+    key < given_at(keys, i) && !keys::holds_at(keys, i, key)
 }
 
 // The key that the next actor gets, where there is one.
-pub fn vacant_at(keys: &[KeyRow], i: usize) -> Key
+#[tactic(auto, unfolding(crate::specs::Slabs::vacant_of))]
+pub fn vacant_at(keys: &[KeyRow], i: usize) -> Option<u8>
     ensures { result ≡ vacant_of (keys_at keys.now i) }
 {
-    let freed = keys::count_at(keys, i);
-    if freed == 0 {
-        let given = given_at(keys, i);
-        if given < KEYS {
-            Key::At(given)
-        } else {
-            Key::Nothing
-        }
-    } else {
-        keys::last_at(keys, i)
+    if keys::count_at(keys, i) != 0 {
+        return keys::last_at(keys, i);
     }
+    let given = given_at(keys, i);
+    (given < KEYS).then_some(given)
 }
 
 // That key is taken.
+#[tactic(auto, unfolding(crate::specs::Slabs::insert_of))]
 pub fn insert_at(keys: &mut [KeyRow], i: usize)
     ensures { keys.new ≡ set keys.old i (insert_of (keys_at keys.old i)) }
 {
-    let freed = keys::count_at(keys, i);
-    if freed == 0 {
-        let given = given_at(keys, i);
-        if given < KEYS {
-            set_given_at(keys, i, given + 1);
-        }
-    } else {
+    if keys::count_at(keys, i) != 0 {
         keys::pop_end_at(keys, i);
+        return;
+    }
+    let given = given_at(keys, i);
+    if given < KEYS {
+        set_given_at(keys, i, given + 1);
     }
 }
 
 // A key is free again, where an actor has it.
+#[tactic(auto, unfolding(crate::specs::Slabs::remove_of))]
 pub fn remove_at(keys: &mut [KeyRow], i: usize, key: u8)
     ensures { keys.new ≡ set keys.old i (remove_of (keys_at keys.old i) key) }
 {
-    let there = contains_at(keys, i, key);
-    if there {
+    if contains_at(keys, i, key) {
         keys::append_at(keys, i, key);
     }
 }
@@ -92,22 +82,18 @@ pub fn remove_at(keys: &mut [KeyRow], i: usize, key: u8)
 pub fn len_at(keys: &[KeyRow], i: usize) -> u8
     ensures { result ≡ live_count (keys_at keys.now i) }
 {
-    let given = given_at(keys, i);
-    let freed = keys::count_at(keys, i);
-    if freed <= given { given - freed } else { 0 }
+    given_at(keys, i).saturating_sub(keys::count_at(keys, i))
 }
 
 // The first key from `from` on that an actor has: a walk in rising key order.
-pub fn next_key_at(keys: &[KeyRow], i: usize, from: u8) -> Key
+#[tactic(auto, using(crate::proofs::Rows::next_more, crate::proofs::Rows::next_end))]
+pub fn next_key_at(keys: &[KeyRow], i: usize, from: u8) -> Option<u8>
     ensures { result ≡ next_key (keys_at keys.now i) (16 - from) from }
 {
-    let mut key = from;
-    while key < KEYS {
-        let there = contains_at(keys, i, key);
-        if there {
-            return Key::At(key);
+    for key in from..KEYS {
+        if contains_at(keys, i, key) {
+            return Some(key);
         }
-        key += 1;
     }
-    Key::Nothing
+    None
 }

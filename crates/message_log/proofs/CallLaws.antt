@@ -1,8 +1,8 @@
 -- What each call does, on a log that stands for the messages logged and not done: the log after it, its order, and
 -- what the order is to a reader of the file.
+use Rattle.std.specs.Prelude.{Some, Ok, Option, None}
 use mathlib.Core.Path.{◌≡◌, refl, ap, sym, ◌∙◌, subst}
 use mathlib.Core.Bool.{Bool, true, false}
-use mathlib.Core.Option.{Option, none, some}
 use mathlib.Core.List.{List, [], ◌∷◌, ◌++◌}
 use Prim.Native.Nat.{ℕ, ◌+◌, ◌-◌, ◌^◌, ◌≤◌, ◌<◌}
 use native.Mathlib.Omega.{arith}
@@ -19,8 +19,6 @@ use Rattle.message_log.specs.declared.Order.{Order}
 use Rattle.message_log.specs.declared.Order.TheVariants.{Append, Replace, Flush}
 use Rattle.message_log.specs.declared.Refusal.{Refusal}
 use Rattle.message_log.specs.declared.Refusal.TheVariants.{TooLong, Full, NoId, NoRoom}
-use Rattle.message_log.specs.declared.Answer.TheVariants.{Ordered}
-use Rattle.message_log.specs.declared.Due.TheVariants as due
 use Rattle.message_log.specs.Stands.{Stands}
 use Rattle.message_log.specs.Opening.{insert, remove, retried, Read, take_in, fits, image}
 use Rattle.message_log.specs.Log.{Wal, turned_away, extended, compacted, with_record, logged, new_message, append_refusal}
@@ -62,8 +60,8 @@ pub record Orders (w : Wal) (ms : List Message) (c : LogCall) (after : Wal) (o :
 
 -- a call: its order goes out, or nothing changes
 abbrev pub ActsBy : Wal → List Message → LogCall → Wal → Option Order → Type 0
-ActsBy w ms c after (some o) = Orders w ms c after o
-ActsBy w ms c after none = after ≡ w
+ActsBy w ms c after (Some o) = Orders w ms c after o
+ActsBy w ms c after None = after ≡ w
 
 abbrev pub Acts : Wal → List Message → LogCall → Called → Type 0
 Acts w ms c did = ActsBy w ms c did.wal did.order
@@ -184,7 +182,7 @@ module _ (w : Wal) (ms : List Message) (s : Stands w ms) where
           let d : append_of w name body ≡ record {
             wal = logged w n;
             answer =
-                Ordered (Append w.counters.size (w.counters.size + length (record_line n)));
+                Ok (Append w.counters.size (w.counters.size + length (record_line n)));
           } = cc in
           subst (λ x. Acts w ms c (by_append x)) (sym d) (append_grown name body fit (ltb-true _ _ p) (ltb-true _ _ q)
           (leb-true _ _ r) (leb-true _ _ e))
@@ -192,7 +190,7 @@ module _ (w : Wal) (ms : List Message) (s : Stands w ms) where
           let d : append_of w name body ≡ record {
             wal = logged (compacted w) n;
             answer =
-                Ordered (Replace (w.counters.live + length (record_line n)));
+                Ok (Replace (w.counters.live + length (record_line n)));
           } = cc in
           subst (λ x. Acts w ms c (by_append x)) (sym d) (append_replaced name body fit (ltb-true _ _ p)
           (ltb-true _ _ q) (leb-true _ _ r))
@@ -223,7 +221,7 @@ module _ (w : Wal) (ms : List Message) (s : Stands w ms) where
       at_fit false e = away TooLong cc
 
   -- a mark: its line read behind the others takes the message off
-  module _ (id i : ℕ) (found : find_row 0 id (open_rows w) ≡ some i) where
+  module _ (id i : ℕ) (found : find_row 0 id (open_rows w) ≡ Some i) where
     abbrev without : Wal
     without = without_row w i
 
@@ -282,7 +280,7 @@ module _ (w : Wal) (ms : List Message) (s : Stands w ms) where
             let d : marked_done compactAt without id ≡ record {
               wal = extended without (done_line id);
               due =
-                  due.Ordered (Append without.counters.size (without.counters.size + length (done_line id)));
+                  Some (Append without.counters.size (without.counters.size + length (done_line id)));
             } =
             cc in
             subst (λ x. Acts w ms (mark id) (by_mark x)) (sym d)
@@ -292,7 +290,7 @@ module _ (w : Wal) (ms : List Message) (s : Stands w ms) where
             let d : marked_done compactAt without id ≡ record {
               wal = compacted without;
               due =
-                  due.Ordered (Replace without.counters.live);
+                  Some (Replace without.counters.live);
             } = cc in
             subst (λ x. Acts w ms (mark id) (by_mark x)) (sym d) mark_replaced
 
@@ -304,12 +302,12 @@ module _ (w : Wal) (ms : List Message) (s : Stands w ms) where
     where
       at : (o : Option ℕ) → find_row 0 id (open_rows w) ≡ o
           → Acts w ms (mark id) (by_mark (mark_found compactAt w id (find_row 0 id (open_rows w))))
-      at none e = subst (λ o. Acts w ms (mark id) (by_mark (mark_found compactAt w id o))) (sym e) refl
-      at (some i) e = subst (λ o. Acts w ms (mark id) (by_mark (mark_found compactAt w id o))) (sym e)
+      at None e = subst (λ o. Acts w ms (mark id) (by_mark (mark_found compactAt w id o))) (sym e) refl
+      at (Some i) e = subst (λ o. Acts w ms (mark id) (by_mark (mark_found compactAt w id o))) (sym e)
           (marked_acts id i e compactAt)
 
   -- a retry: its line read behind the others sets the attempts
-  module _ (id i n : ℕ) (found : find_row 0 id (open_rows w) ≡ some i) (told : 0 < n) (most : n ≤ ATTEMPTS) where
+  module _ (id i n : ℕ) (found : find_row 0 id (open_rows w) ≡ Some i) (told : 0 < n) (most : n ≤ ATTEMPTS) where
     abbrev tried : Wal
     tried = with_tried w id i n
 
@@ -369,12 +367,12 @@ module _ (w : Wal) (ms : List Message) (s : Stands w ms) where
         at true e =
             let d : retry_written tried id n ≡ record {
               wal = extended tried (retry_line id n);
-              due = due.Ordered (Append tried.counters.size (tried.counters.size + length (retry_line id n)));
+              due = Some (Append tried.counters.size (tried.counters.size + length (retry_line id n)));
             } = cc in
             subst (λ x. Acts w ms (calls.retry id n) (by_mark x)) (sym d) (retry_grown (leb-true _ _ e))
         at false e =
             let d : retry_written tried id n
-            ≡ record { wal = compacted tried; due = due.Ordered (Replace tried.counters.live) } = cc in
+            ≡ record { wal = compacted tried; due = Some (Replace tried.counters.live) } = cc in
             subst (λ x. Acts w ms (calls.retry id n) (by_mark x)) (sym d) (retry_replaced fits)
 
     same_bytes_lem : tried.counters.live ≤ length w.bytes → tried.counters.live ≤ length tried.bytes
@@ -400,8 +398,8 @@ module _ (w : Wal) (ms : List Message) (s : Stands w ms) where
     where
       at : 0 < n → n ≤ ATTEMPTS → (o : Option ℕ) → find_row 0 id (open_rows w) ≡ o
           → Acts w ms (calls.retry id n) (by_mark (retry_found w id n o))
-      at told most none e = refl
-      at told most (some i) e = retried_acts id i n e told most
+      at told most None e = refl
+      at told most (Some i) e = retried_acts id i n e told most
 
       counted : (t : Bool) → counts_tries n ≡ t → Acts w ms (calls.retry id n) (by_mark (retry_of w id n))
       counted true e =
@@ -427,7 +425,7 @@ module _ (w : Wal) (ms : List Message) (s : Stands w ms) where
         count = w.counters.count;
       };
     };
-    order = some Flush;
+    order = Some Flush;
   }
 
   sync_acts : Acts w ms sync (by_sync w (sync_log w.counters))
@@ -455,7 +453,7 @@ module _ (w : Wal) (ms : List Message) (s : Stands w ms) where
             kind = flushes refl refl refl refl;
           })
       at false e = let d : by_sync w (sync_log w.counters)
-          ≡ record { wal = record { bytes = w.bytes; table = w.table; counters = w.counters }; order = none } =
+          ≡ record { wal = record { bytes = w.bytes; table = w.table; counters = w.counters }; order = None } =
           cc in subst (Acts w ms sync) (sym d) refl
 
 -- every call, on a log that stands for the messages

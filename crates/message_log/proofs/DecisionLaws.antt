@@ -1,5 +1,6 @@
 -- Laws of the decision, and of what follows it.
-use mathlib.Core.Path.{◌≡◌, refl, ap, sym, ◌∙◌, subst}
+use Rattle.std.specs.Prelude.{Ok, Err}
+use mathlib.Core.Path.{◌≡◌, refl, ap, sym, ◌∙◌}
 use mathlib.Core.Bool.{true, false}
 use mathlib.Core.List.{List, map}
 use Prim.Native.Nat.{ℕ, ◌+◌, ◌*◌, ◌^◌, ◌≤◌, ◌<◌}
@@ -11,17 +12,13 @@ use Rattle.text.specs.Format.{Message}
 use Rattle.text.specs.Bytes.{write}
 use Rattle.text.proofs.WriteLaws.{take_written, length_write}
 use Rattle.message_log.specs.declared.Refusal.{Refusal}
-use Rattle.message_log.specs.declared.Refusal.TheVariants.{Sizes, LastId, TooMuch}
+use Rattle.message_log.specs.declared.Refusal.TheVariants.{Sizes, LastId, TooMuch, TooLong, Full, NoId, NoRoom}
 use Rattle.message_log.specs.declared.Order.TheVariants.{Replace}
-use Rattle.message_log.specs.declared.Answer.TheVariants.{Ordered, Refused}
 use Rattle.message_log.specs.declared.Answered.{Answered}
-use Rattle.message_log.specs.declared.opening.LeftRows.{LeftRows}
-use Rattle.message_log.specs.declared.opening.LeftRows.TheVariants.{NoNext, Many, Rows}
-use Rattle.message_log.specs.declared.opening.Decision.{Decision}
-use Rattle.message_log.specs.declared.opening.Decision.TheVariants.{Refuse, Accept}
+use Rattle.message_log.specs.declared.opening.Kept.{Kept}
 use Rattle.message_log.specs.Opening.{read_file, all_fit, refused, opened, judge, opening, image}
 use Rattle.message_log.specs.Opened.{Opened, sized, stored, left_row, rows_from, no_counters, opened_log_by, open_log}
-use Rattle.message_log.specs.Scan.{row_message, row_messages, LeftIn, AllRows, Accepted, Decided, Imaged, imaged, fit_left}
+use Rattle.message_log.specs.Scan.{row_message, row_messages, LeftIn, AllRows, Accepted, Imaged, imaged, fit_left}
 use Rattle.message_log.specs.Scan.{from_store}
 use Rattle.message_log.proofs.Room.{image_short}
 use Rattle.message_log.proofs.OpenLaws.{Sized, sized_all}
@@ -46,42 +43,31 @@ module _ (file : List ℕ) where
   unfolding opening judge
   accepts h l f = cc (lt-ltb (read_file file).next (2 ^ 64) h, le-leb (length (read_file file).left) 256 l, f)
 
-  -- the answers of the reader, by cases
-  pub left_no_next : (r : LeftRows) (rows : List (List ℕ)) → r ≡ NoNext → LeftIn file r rows → opening file
-      ≡ refused LastId
-  left_no_next r rows e l = refuse_id (subst (λ k. LeftIn file k rows) e l)
+  -- the refusals of the reader, by cases
+  pub left_refused : (rows : List (List ℕ)) (e : Refusal) → LeftIn file (Err e) rows → opening file ≡ refused e
+  left_refused rows LastId h = refuse_id h
+  left_refused rows TooMuch h = refuse_many h.0 h.1
+  left_refused rows Sizes h = absurd h
+  left_refused rows TooLong h = absurd h
+  left_refused rows Full h = absurd h
+  left_refused rows NoId h = absurd h
+  left_refused rows NoRoom h = absurd h
 
-  pub left_many : (r : LeftRows) (rows : List (List ℕ)) → r ≡ Many → LeftIn file r rows → opening file
-      ≡ refused TooMuch
-  left_many r rows e l = let m = subst (λ k. LeftIn file k rows) e l in refuse_many m.0 m.1
-
-  pub all_rows : (r : LeftRows) (rows : List (List ℕ)) (count next : ℕ) → r ≡ Rows count next → LeftIn file r rows
-      → AllRows file count next rows
-  all_rows r rows count next e l = subst (λ k. LeftIn file k rows) e l
-
-  module _ (rows : List (List ℕ)) (count next : ℕ) (top : next < 2 ^ 64) (a : AllRows file count next rows) where
+  module _ (rows : List (List ℕ)) (kept : Kept) (top : kept.next < 2 ^ 64) (a : AllRows file kept rows) where
     few : length (read_file file).left ≤ 256
     few = omega (
       arith,
-      ap length a.left_are ∙ length-map (take count rows) (row_message file),
-      length-take count rows,
+      ap length a.left_are ∙ length-map (take kept.count rows) (row_message file),
+      length-take kept.count rows,
       a.few,
     )
 
-    pub rows_too_long : false ≡ all_fit (row_messages file (take count rows)) → opening file ≡ refused TooMuch
+    pub rows_too_long : false ≡ all_fit (row_messages file (take kept.count rows)) → opening file ≡ refused TooMuch
     rows_too_long f = refuse_long (omega (arith, a.next_is)) few (ap all_fit a.left_are ∙ sym f)
 
-    pub rows_accepted : true ≡ all_fit (row_messages file (take count rows)) → Accepted file count next rows
+    pub rows_accepted : true ≡ all_fit (row_messages file (take kept.count rows)) → Accepted file kept rows
     rows_accepted f = let fit : all_fit (read_file file).left ≡ true = ap all_fit a.left_are ∙ sym f in
         record { rows = a; fit = fit; opens = accepts (omega (arith, a.next_is)) few fit }
-
-  pub decided_no : (d : Decision) (rows : List (List ℕ)) (r : Refusal) → d ≡ Refuse r → Decided file d rows
-      → opening file ≡ refused r
-  decided_no d rows r e x = subst (λ k. Decided file k rows) e x
-
-  pub decided_yes : (d : Decision) (rows : List (List ℕ)) (count next : ℕ) → d ≡ Accept count next
-      → Decided file d rows → Accepted file count next rows
-  decided_yes d rows count next e x = subst (λ k. Decided file k rows) e x
 
 -- an accepted file
 opened_shape : (log store : List ℕ) (table left : List (List ℕ)) (ms : List Message) (next count size : ℕ)
@@ -95,14 +81,17 @@ opened_shape : (log store : List ℕ) (table left : List (List ℕ)) (ms : List 
       left = left';
       step = record {
         counters = record { next = next; live = size; size = size; dirty = false; count = count };
-        answer = Ordered (Replace size);
+        answer = Ok (Replace size);
       };
     }) (opened_log_by log store table left (record { left = ms; next = next }))
 opened_shape log store table left ms next count size log' store' table' left' l p b q z c = rw (l, p, b, q, z, c) refl
 
-module _ (log : List ℕ) (n : ℕ) (store : List ℕ) (table left rows : List (List ℕ)) (count next : ℕ)
+module _ (log : List ℕ) (n : ℕ) (store : List ℕ) (table left rows : List (List ℕ)) (kept : Kept)
     (s : sized (length log) n (length store) (length table) (length left) ≡ true) (wide : length rows ≡ 257)
-    (a : Accepted (take n log) count next rows) where
+    (a : Accepted (take n log) kept rows) where
+  abbrev count : ℕ
+  count = kept.count
+
   abbrev lent : Sized (length log) n (length store) (length table) (length left)
   lent = sized_all (length log) n (length store) (length table) (length left) s
 
@@ -159,9 +148,9 @@ module _ (log : List ℕ) (n : ℕ) (store : List ℕ) (table left rows : List (
       lent.file,
     ))
 
-    pub ready : (count ≤ length left') × (count ≤ 256) × (length store' ≡ 40960) × (length table ≡ 256)
+    pub ready : (length (take count left') ≤ 256) × (length store' ≡ 40960) × (length table ≡ 256)
         × (fit_left (take count left') ≡ true) × (length (image (from_store 0 (take count left') store')) ≤ length log)
-    ready = (omega (arith, left_long, a.rows.few), a.rows.few, store_long, lent.table_is, rows_fit_lem, image_room)
+    ready = (omega (arith, length-take count left', a.rows.few), store_long, lent.table_is, rows_fit_lem, image_room)
 
     pub opened_is : (log' : List ℕ) (table' : List (List ℕ)) (size : ℕ)
         → ◌≡◌ {A = Imaged} (record { log = log'; table = table'; size = size })
@@ -172,8 +161,8 @@ module _ (log : List ℕ) (n : ℕ) (store : List ℕ) (table left rows : List (
           table = table';
           left = left';
           step = record {
-            counters = record { next = next; live = size; size = size; dirty = false; count = count };
-            answer = Ordered (Replace size);
+            counters = record { next = kept.next; live = size; size = size; dirty = false; count = count };
+            answer = Ok (Replace size);
           };
         }) (opened_log_by log store table left (read_file (take n log)))
     opened_is log' table' size i =
@@ -182,7 +171,7 @@ module _ (log : List ℕ) (n : ℕ) (store : List ℕ) (table left rows : List (
         let l : log' ≡ write log 0 (image ms) = ap (λ x. x.log) im in
         let b : table' ≡ write table 0 (rows_from 0 ms) = ap (λ x. x.table) im in
         let z : size ≡ length (image ms) = ap (λ x. x.size) im in
-        opened_shape log store table left ms next count size log' store' table' left' l p b q z (sym count_is)
+        opened_shape log store table left ms kept.next count size log' store' table' left' l p b q z (sym count_is)
         ∙ (ap (λ k. opened_log_by log store table left (record { left = ms; next = k })) a.rows.next_is
         ∙ ap (λ l. opened_log_by log store table left (record { left = l; next = (read_file (take n log)).next }))
         (sym same))
@@ -190,7 +179,7 @@ module _ (log : List ℕ) (n : ℕ) (store : List ℕ) (table left rows : List (
 -- a refused one
 pub open_wrong : (log : List ℕ) (n : ℕ) (store : List ℕ) (table left : List (List ℕ)) (step : Answered)
     → sized (length log) n (length store) (length table) (length left) ≡ false → step
-    ≡ record { counters = no_counters; answer = Refused Sizes }
+    ≡ record { counters = no_counters; answer = Err Sizes }
     → ◌≡◌ {A = Opened} (record { log = log; store = store; table = table; left = left; step = step })
     (open_log log n store table left)
 unfolding open_log
@@ -198,7 +187,7 @@ open_wrong log n store table left step s e = cc
 
 pub open_refused : (log : List ℕ) (n : ℕ) (store : List ℕ) (table left : List (List ℕ)) (step : Answered) (r : Refusal)
     → sized (length log) n (length store) (length table) (length left) ≡ true → opening (take n log) ≡ refused r
-    → step ≡ record { counters = no_counters; answer = Refused r }
+    → step ≡ record { counters = no_counters; answer = Err r }
     → ◌≡◌ {A = Opened} (record { log = log; store = store; table = table; left = left; step = step })
     (open_log log n store table left)
 unfolding open_log

@@ -1,4 +1,5 @@
 -- Laws of a line's fields at opening: within the limits, and copied into an entry of the store.
+use Rattle.std.specs.Prelude.{Option, unwrap_or}
 use mathlib.Core.Path.{◌≡◌, refl, ap, sym, ◌∙◌}
 use mathlib.Core.Bool.{Bool, true, false, ◌&&◌}
 use mathlib.Core.List.{List}
@@ -12,12 +13,11 @@ use Rattle.text.specs.Format.{unescape, lines}
 use Rattle.text.specs.Line.{Line, name_of, body_of, name_field, body_field, first_text, read_line, line_at}
 use Rattle.text.specs.Bytes.{write}
 use Rattle.text.specs.Answers.{Filled, filled}
-use Rattle.text.specs.declared.escape.Measure.{Measure}
 use Rattle.text.proofs.LineLaws.{name_read, body_read}
 use Rattle.text.proofs.AnswerLaws.{filled_part, filled_answer}
 use Rattle.text.proofs.WriteLaws.{length_write}
 use Rattle.message_log.specs.declared.opening.Lengths.{Lengths}
-use Rattle.message_log.specs.Scan.{fit_line, measured_len, lengths_of}
+use Rattle.message_log.specs.Scan.{fit_line, lengths_of}
 use Rattle.message_log.proofs.OpeningLaws.{and_left, and_right}
 
 -- a field of the line at a place, unescaped
@@ -53,7 +53,7 @@ fit_body l e = leb-true (length (body_of l)) 128 (and_right (leb (length (name_o
     e)
 
 -- a field that was put into the part of a slice that begins at a
-module _ (d : List ℕ) (a : ℕ) (text field last : List ℕ) (r : Measure) (h : a + length text ≤ length d)
+module _ (d : List ℕ) (a : ℕ) (text field last : List ℕ) (r : Option ℕ) (h : a + length text ≤ length d)
     (e : unescape field ≡ text)
     (f : ◌≡◌ {A = Filled} (record { bytes = last; answer = r }) (filled (take (length d - a) (drop a d))
     (unescape field))) where
@@ -63,22 +63,22 @@ module _ (d : List ℕ) (a : ℕ) (text field last : List ℕ) (r : Measure) (h 
   pub put_bytes_lem : put_mid a (length d - a) d last ≡ write d a text
   put_bytes_lem = filled_part d a text last r h f'
 
-  pub put_length : (n : ℕ) → n ≡ measured_len r → n ≡ length text
+  pub put_length : (n : ℕ) → n ≡ unwrap_or r 0 → n ≡ length text
   put_length n q =
       let room : length text ≤ length (take (length d - a) (drop a d)) = simp (length-take, length-drop) (omega arith)
       in
-      q ∙ ap measured_len (filled_answer (take (length d - a) (drop a d)) text last r room f')
+      q ∙ ap (λ k. unwrap_or k 0) (filled_answer (take (length d - a) (drop a d)) text last r room f')
 
 -- a name and a body put into an entry, one after the other
 pub both_fields : (store named full : List ℕ) (base : ℕ) (name body field₁ field₂ last₁ last₂ : List ℕ)
-    (r₁ r₂ : Measure) (n₁ n₂ : ℕ) → base + 160 ≤ length store → length name ≤ 32 → length body ≤ 128
+    (r₁ r₂ : Option ℕ) (n₁ n₂ : ℕ) → base + 160 ≤ length store → length name ≤ 32 → length body ≤ 128
     → unescape field₁ ≡ name → unescape field₂ ≡ body
     → named ≡ put_mid base (length store - base) store last₁ → ◌≡◌ {A = Filled} (record { bytes = last₁; answer = r₁ })
     (filled (take (length store - base) (drop base store)) (unescape field₁))
     → full ≡ put_mid (base + 32) (length named - (base + 32)) named last₂
     → ◌≡◌ {A = Filled} (record { bytes = last₂; answer = r₂ })
     (filled (take (length named - (base + 32)) (drop (base + 32) named)) (unescape field₂))
-    → n₁ ≡ measured_len r₁ → n₂ ≡ measured_len r₂
+    → n₁ ≡ unwrap_or r₁ 0 → n₂ ≡ unwrap_or r₂ 0
     → (◌≡◌ {A = Lengths} (record { name = n₁; body = n₂ }) (lengths_of name body))
     × (full ≡ write (write store base name) (base + 32) body)
 both_fields store named full base name body field₁ field₂ last₁ last₂ r₁ r₂ n₁ n₂ h a b e f p x q y l m =

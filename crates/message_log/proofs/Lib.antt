@@ -13,7 +13,6 @@ pub mod WalLaws
 pub mod RowLaws
 pub mod SearchLaws
 pub mod FieldLaws
-pub mod SizeLaws
 pub mod ScanLaws
 pub mod PassLaws
 pub mod LeftLaws

@@ -1,9 +1,9 @@
 -- THE LOG'S THEOREM: recovery, over every list of calls and answers from an accepted opening. Its definitions are
 -- specs/Opening, Log, Opened and Recovery.
+use Rattle.std.specs.Prelude.{Option, Some, None}
 use mathlib.Core.Path.{◌≡◌, refl, sym, ap, ◌∙◌, subst}
 use mathlib.Core.Bool.{Bool, true, false}
 use mathlib.Core.Logic.{◌⊎◌, inl, inr}
-use mathlib.Core.Option.{Option, none, some}
 use mathlib.Core.List.Memᴰ
 use mathlib.Core.List.{List, [], ◌∷◌, append-nil}
 use Prim.Native.Nat.{ℕ, ◌+◌, ◌≤◌}
@@ -148,15 +148,15 @@ pub call_tail : (compactAt : ℕ) (w : Wal) (ms : List Message) (c : LogCall) �
 call_tail compactAt w ms c s = by (did_call compactAt w c).wal (did_call compactAt w c).order (acts compactAt w ms c s)
   where
     by : (after : Wal) (a : Option Order) → ActsBy w ms c after a → TailKept w after
-    by after (some o) x = x.tail
-    by after none x = ap (λ v. drop after.counters.size v.bytes) x
+    by after (Some o) x = x.tail
+    by after None x = ap (λ v. drop after.counters.size v.bytes) x
 
 -- one event
 issued_tail : (compactAt : ℕ) (w : LogWorld) (c : LogCall) (wal : Wal) (o : Option Order) → TailKept w.wal wal
     → TailKept w.wal (issued w c wal o).wal
 unfolding issue
-issued_tail compactAt w c wal (some o) t = t
-issued_tail compactAt w c wal none t = t
+issued_tail compactAt w c wal (Some o) t = t
+issued_tail compactAt w c wal None t = t
 
 step_tail : (compactAt : ℕ) (q : Status) (w : LogWorld) (e : Event) → Stands w.wal w.now
     → TailKept w.wal (step_log compactAt q w e).wal
@@ -191,7 +191,7 @@ tails_kept compactAt log n store table left r s ok events =
     r s ok))
 
 -- A call that orders nothing, since it is turned away or has nothing to do, changes nothing, on any log.
-pub call_idle : (compactAt : ℕ) (w : Wal) (c : LogCall) → (did_call compactAt w c).order ≡ none
+pub call_idle : (compactAt : ℕ) (w : Wal) (c : LogCall) → (did_call compactAt w c).order ≡ None
     → (did_call compactAt w c).wal
     ≡ w
 unfolding did_call append_of mark_of appended marked_done retry_of retried_at retry_written sync_log
@@ -201,50 +201,50 @@ call_idle compactAt w (append name body) = judged (append_refusal w (new_message
     m = new_message w name body
 
     put : (t : Bool) → leb (w.counters.size + length (record_line m)) (length w.bytes) ≡ t
-        → order_of_answer (appended w m).answer ≡ none → (appended w m).wal ≡ w
+        → order_of_answer (appended w m).answer ≡ None → (appended w m).wal ≡ w
     put true e q = let z : ◌≡◌ {A = ℕ} 0 1 = cc in absurd (omega arith)
     put false e q = let z : ◌≡◌ {A = ℕ} 0 1 = cc in absurd (omega arith)
 
-    judged : (x : Option Refusal) → order_of_answer (append_judged w m x).answer ≡ none → (append_judged w m x).wal ≡ w
-    judged none q = put (leb (w.counters.size + length (record_line m)) (length w.bytes)) refl q
-    judged (some r) q = refl
+    judged : (x : Option Refusal) → order_of_answer (append_judged w m x).answer ≡ None → (append_judged w m x).wal ≡ w
+    judged None q = put (leb (w.counters.size + length (record_line m)) (length w.bytes)) refl q
+    judged (Some r) q = refl
 call_idle compactAt w (mark id) = found (search_row id (open_rows w))
   where
     done : (v : Wal) (t : Bool) → keeps compactAt (length v.bytes) v.counters.live (v.counters.size + length
-        (done_line id)) ≡ t → ordered_due (marked_done compactAt v id).due ≡ none → ◌≡◌ {A = ℕ} 0 1
+        (done_line id)) ≡ t → ordered_due (marked_done compactAt v id).due ≡ None → ◌≡◌ {A = ℕ} 0 1
     done v true e q = cc
     done v false e q = cc
 
-    found : (x : Option ℕ) → ordered_due (mark_found compactAt w id x).due ≡ none → (mark_found compactAt w id x).wal ≡ w
-    found none q = refl
-    found (some i) q = let z : ◌≡◌ {A = ℕ} 0 1 = done (without_row w i) _ refl q in absurd (omega arith)
+    found : (x : Option ℕ) → ordered_due (mark_found compactAt w id x).due ≡ None → (mark_found compactAt w id x).wal ≡ w
+    found None q = refl
+    found (Some i) q = let z : ◌≡◌ {A = ℕ} 0 1 = done (without_row w i) _ refl q in absurd (omega arith)
 call_idle compactAt w (retry id n) = counted (counts_tries n) refl
   where
     written : (v : Wal) (t : Bool) → leb (v.counters.size + length (retry_line id n)) (length v.bytes) ≡ t
-        → ordered_due (retry_written v id n).due ≡ none → ◌≡◌ {A = ℕ} 0 1
+        → ordered_due (retry_written v id n).due ≡ None → ◌≡◌ {A = ℕ} 0 1
     written v true e q = cc
     written v false e q = cc
 
     tried : (i : ℕ) (t : Bool) → leb (with_tried w id i n).counters.live (length w.bytes) ≡ t
-        → ordered_due (retried_at w id n i).due ≡ none → (retried_at w id n i).wal ≡ w
+        → ordered_due (retried_at w id n i).due ≡ None → (retried_at w id n i).wal ≡ w
     tried i true e q =
         let d : retried_at w id n i ≡ retry_written (with_tried w id i n) id n = cc in
         let z : ◌≡◌ {A = ℕ} 0 1 = written (with_tried w id i n) _ refl (ap (λ x. ordered_due x.due) (sym d) ∙ q) in
         absurd (omega arith)
     tried i false e q = cc
 
-    found : (x : Option ℕ) → ordered_due (retry_found w id n x).due ≡ none → (retry_found w id n x).wal ≡ w
-    found none q = refl
-    found (some i) q = tried i _ refl q
+    found : (x : Option ℕ) → ordered_due (retry_found w id n x).due ≡ None → (retry_found w id n x).wal ≡ w
+    found None q = refl
+    found (Some i) q = tried i _ refl q
 
-    counted : (t : Bool) → counts_tries n ≡ t → ordered_due (retry_of w id n).due ≡ none → (retry_of w id n).wal ≡ w
+    counted : (t : Bool) → counts_tries n ≡ t → ordered_due (retry_of w id n).due ≡ None → (retry_of w id n).wal ≡ w
     counted true e q =
         let d : retry_of w id n ≡ retry_found w id n (search_row id (open_rows w)) = cc in
         ap (λ x. x.wal) d ∙ found (search_row id (open_rows w)) (ap (λ x. ordered_due x.due) (sym d) ∙ q)
     counted false e q = cc
 call_idle compactAt w sync = by w.counters.dirty refl
   where
-    by : (t : Bool) → w.counters.dirty ≡ t → ordered_due (sync_log w.counters).due ≡ none
+    by : (t : Bool) → w.counters.dirty ≡ t → ordered_due (sync_log w.counters).due ≡ None
         → (by_sync w (sync_log w.counters)).wal ≡ w
     by true e q = let z : ◌≡◌ {A = ℕ} 0 1 = cc in absurd (omega arith)
     by false e q = ap (λ s. (by_sync w s).wal) (sym (sync_clean w.counters e))

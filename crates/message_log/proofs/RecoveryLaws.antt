@@ -1,8 +1,8 @@
 -- Recovery: whatever file a cut leaves, opening accepts it and finds a moment no earlier than the last confirmed flush
 -- or replace.
+use Rattle.std.specs.Prelude.{Option, Some, None}
 use mathlib.Core.Path.{◌≡◌, refl, sym, ap, ◌∙◌, subst}
 use mathlib.Core.Logic.{◌⊎◌, inl, inr}
-use mathlib.Core.Option.{Option, none, some}
 use mathlib.Core.List.Memᴰ
 use mathlib.Core.List.{List, [], ◌∷◌, ◌++◌, append_assoc, append-nil, Memᴰ}
 use Prim.Native.Nat.{ℕ, ◌+◌, ◌-◌, ◌^◌, ◌≤◌, ◌<◌}
@@ -292,9 +292,9 @@ module _ (long : ℕ) where
 
   pub issued_sound : (w : LogWorld) (c : LogCall) → Steady w → (wal : Wal) (a : Option Order)
       → ActsBy w.wal w.now c wal a → Sound (issued w c wal a)
-  issued_sound w c st wal (some o) x = issue_sound w st wal (call_effect w.wal c w.now) x.stands x.long
+  issued_sound w c st wal (Some o) x = issue_sound w st wal (call_effect w.wal c w.now) x.stands x.long
       (sent wal.bytes o) x.kind
-  issued_sound w c st wal none x = unmoved w wal st x
+  issued_sound w c st wal None x = unmoved w wal st x
 
   step_settled : (compactAt : ℕ) (w : LogWorld) (e : Event) → Steady w → Sound (step_log compactAt settled w e)
   unfolding step_log called

@@ -1,23 +1,23 @@
 -- Laws of the rewrite: how long it is, the records packed one behind the other, and spread with their retry lines.
+use Rattle.std.specs.Prelude.{Some, None}
 use mathlib.Core.Path.{◌≡◌, refl, ap, sym, ◌∙◌, subst}
 use mathlib.Core.Bool.{Bool, true, false}
 use mathlib.Core.List.{List, [], ◌∷◌, ◌++◌, append_assoc}
-use Prim.Native.Nat.{ℕ, zero, suc, ◌+◌, ◌-◌, ◌≤◌, ◌<◌, min}
+use Prim.Native.Nat.{ℕ, zero, suc, ◌+◌, ◌-◌, ◌≤◌, ◌<◌}
 use native.Mathlib.Omega.{arith}
 use borrow.Author.Tests.{le-leb, lt-leb, leb-true, leb-false, ne_eqb}
 use lib.Dec.{leb}
 use lib.ListN.{length, take, drop, get_or, set, length-append, length-drop, length-set}
-use lib.Seq.{drop-drop, drop-set-lt, drop_at, take_at, take-suc, length-take-le, take_all}
+use lib.Seq.{drop-drop, drop-set-lt, drop_at, take_at, length-take-le, take_all}
 use lib.Seq.{get_or-drop, get_or-take}
 use Rattle.text.specs.Bytes.{write, part}
 use Rattle.text.specs.Format.{attempts_line, retry_line}
-use Rattle.text.specs.declared.escape.Measure.TheVariants.{Len, Over}
-use Rattle.text.proofs.WriteLaws.{write_none, write_one, write_write, write_cons, length_write, length_part}
+use Rattle.text.proofs.WriteLaws.{write_none, write_write, write_cons, length_write, length_part}
 use Rattle.text.proofs.WriteLaws.{take_write, take_written, drop_write, part_below}
 use Rattle.message_log.specs.Log.{row, row_id, row_at, row_len, row_tried, row_tries, row_span, rewritable, rows_image}
 use Rattle.message_log.specs.Log.{rows_placed, Rewritten, rewrite}
-use Rattle.message_log.specs.Rewrite.{rows_span, image_len, Packable, packed, rows_packed, NoHigher}
-use Rattle.message_log.proofs.TableLaws.{next_row, last_row}
+use Rattle.message_log.specs.Rewrite.{rows_span, end_behind, image_len, Packable, packed, rows_packed, NoHigher}
+use Rattle.message_log.proofs.TableLaws.{next_row, last_row, here_row, drop_front, write_before, set_before}
 
 sum_less : (a b : ℕ) → a + b - a ≡ b
 sum_less a b = omega arith
@@ -34,60 +34,6 @@ module _ {A : Type 0} where
       → write (write d at x) at y ≡ write d at y
   write_over d at x y h l = write_alike (write d at x) d at y (take_write d at at x (omega arith) h)
       (drop_write d at (at + length y) x (omega arith) h)
-
-  -- what stands from where a text was written on
-  drop_front : (d : List A) (at : ℕ) (x : List A) → at ≤ length d
-      → drop at (write d at x) ≡ x ++ drop (at + length x) d
-  unfolding write
-  drop_front d at x h = ap (drop at) (append_assoc (take at d) x (drop (at + length x) d))
-      ∙ drop_at (take at d) (x ++ drop (at + length x) d) at (length-take-le at d h)
-
-  -- one text, then another directly before it, is both at once
-  write_before : (d : List A) (at end : ℕ) (x y : List A) → end ≡ at + length x → end ≤ length d
-      → write (write d end y) at x ≡ write d at (x ++ y)
-  unfolding write
-  write_before d at end x y e h =
-      let t : take at (write d end y) ≡ take at d = take_write d end at y (omega arith) h in
-      let n : length (x ++ y) ≡ length x + length y = length-append x y in
-      let s : at + length (x ++ y) ≡ end + length y = omega arith in
-      let q : drop (at + length x) (write d end y) ≡ y ++ drop (at + length (x ++ y)) d
-      = ap (λ k. drop k (write d end y)) (sym e) ∙ (drop_front d end y h ∙ ap (λ k. y ++ drop k d) (sym s)) in
-      rw (t, q) (sym (append_assoc (take at d ++ x) y (drop (at + length (x ++ y)) d))
-      ∙ ap (λ l. l ++ drop (at + length (x ++ y)) d) (append_assoc (take at d) x y))
-
-  -- one element before a text
-  set_before : (d : List A) (at end : ℕ) (b : A) (y : List A) → end ≡ at + 1 → end + length y ≤ length d
-      → set (write d end y) at b ≡ write d at (b ∷ y)
-  set_before d at end b y e h =
-      let n : length (write d end y) ≡ length d = length_write d end y h in
-      sym (write_one (write d end y) at b (omega arith)) ∙ write_before d at end (b ∷ []) y e (omega arith)
-
-  -- the last element of a part
-  part_snoc : (d : List A) (a k : ℕ) (z : A) → 0 < k → a + k ≤ length d
-      → part d a (a + k) ≡ part d a (a + (k - 1)) ++ (get_or d (a + (k - 1)) z ∷ [])
-  part_snoc d a k z h l =
-      let s : a + k - a ≡ suc (k - 1) = omega arith in
-      let t : a + (k - 1) - a ≡ k - 1 = sum_less a (k - 1) in
-      rw (s, t) (take-suc (drop a d) (k - 1) z (omega (arith, length-drop a d))
-      ∙ ap (λ x. take (k - 1) (drop a d) ++ (x ∷ [])) (get_or-drop a d (k - 1) z))
-
-  -- a part moved up, from the last element on: one is moved, the others follow
-  pub move_up_step : (d : List A) (a k to : ℕ) (z : A) → 0 < k → a ≤ to → to + k ≤ length d
-      → write (set d (to + (k - 1)) (get_or d (a + (k - 1)) z)) to
-      (part (set d (to + (k - 1)) (get_or d (a + (k - 1)) z)) a (a + (k - 1)))
-      ≡ write d to (part d a (a + k))
-  move_up_step d a k to z h l r =
-      let b : A = get_or d (a + (k - 1)) z in
-      let one : write d (to + (k - 1)) (b ∷ []) ≡ set d (to + (k - 1)) b = write_one d (to + (k - 1)) b (omega arith) in
-      let rest : part (set d (to + (k - 1)) b) a (a + (k - 1)) ≡ part d a (a + (k - 1))
-      = ap (λ e. part e a (a + (k - 1))) (sym one)
-      ∙ part_below d (to + (k - 1)) a (a + (k - 1)) (b ∷ []) (omega arith) (omega arith) (omega arith) in
-      let n : length (part d a (a + (k - 1))) ≡ k - 1 = length_part d a (a + (k - 1)) (omega arith) (omega arith)
-      ∙ sum_less a (k - 1) in
-      ap (write (set d (to + (k - 1)) b) to) rest
-      ∙ (ap (λ e. write e to (part d a (a + (k - 1)))) (sym one)
-      ∙ (write_before d to (to + (k - 1)) (part d a (a + (k - 1))) (b ∷ []) (omega arith) (omega arith)
-      ∙ ap (write d to) (sym (part_snoc d a k z h (omega arith)))))
 
   -- what two lists have alike from a place on they have alike from a later one on
   drop_later : (d e : List A) (a b : ℕ) → a ≤ b → drop a d ≡ drop a e → drop b d ≡ drop b e
@@ -184,87 +130,99 @@ spans_fit long start to (r ∷ rs) e =
     omega (arith, spans_fit long (row_at r + row_len r) (to + row_span r) rs f.rest)
 
 -- the rows are being measured: what is said of those left is said of all
-pub record Measuring (long : ℕ) (rows : List (List ℕ)) (count start to i : ℕ) : Type 0 where
-  pub same : rewritable long 0 0 (take count rows) ≡ rewritable long start to (drop i (take count rows))
-  pub span : rows_span (take count rows) ≡ to + rows_span (drop i (take count rows))
+pub record Measuring (long : ℕ) (rows : List (List ℕ)) (start to i : ℕ) : Type 0 where
+  pub same : rewritable long 0 0 rows ≡ rewritable long start to (drop i rows)
+  pub span : rows_span rows ≡ to + rows_span (drop i rows)
   pub small : to ≤ long
 
-pub measuring_begins : (long : ℕ) (rows : List (List ℕ)) (count : ℕ) → Measuring long rows count 0 0 0
-measuring_begins long rows count = record { same = refl; span = omega arith; small = omega arith }
-
-image_len_lem : (long : ℕ) (rs : List (List ℕ)) → rewritable long 0 0 rs ≡ true → image_len long rs ≡ Len (rows_span rs)
+image_len_lem : (long : ℕ) (rs : List (List ℕ)) → rewritable long 0 0 rs ≡ true → image_len long rs ≡ Some (rows_span rs)
 unfolding image_len
 image_len_lem long rs e = cc
 
-image_over : (long : ℕ) (rs : List (List ℕ)) → rewritable long 0 0 rs ≡ false → image_len long rs ≡ Over
+image_over : (long : ℕ) (rs : List (List ℕ)) → rewritable long 0 0 rs ≡ false → image_len long rs ≡ None
 unfolding image_len
 image_over long rs e = cc
 
-module _ {long : ℕ} {rows : List (List ℕ)} {count start to i : ℕ} (s : Measuring long rows count start to i) where
-  pub measuring_ends : drop i (take count rows) ≡ [] → Len to ≡ image_len long (take count rows)
+module _ {long : ℕ} {rows : List (List ℕ)} {start to i : ℕ} (s : Measuring long rows start to i) where
+  pub measuring_ends : drop i rows ≡ [] → Some to ≡ image_len long rows
   unfolding rewritable rows_span
   measuring_ends e =
-      let f : rewritable long start to (drop i (take count rows)) ≡ true = ap (rewritable long start to) e
+      let f : rewritable long start to (drop i rows) ≡ true = ap (rewritable long start to) e
       ∙ le-leb to long s.small in
-      let n : rows_span (drop i (take count rows)) ≡ 0 = ap rows_span e in
-      let k : rows_span (take count rows) ≡ to = omega (arith, s.span) in
-      sym (image_len_lem long (take count rows) (s.same ∙ f) ∙ ap Len k)
+      let n : rows_span (drop i rows) ≡ 0 = ap rows_span e in
+      let k : rows_span rows ≡ to = omega (arith, s.span) in
+      sym (image_len_lem long rows (s.same ∙ f) ∙ ap Some k)
 
-  module _ (h : i < count) (l : i < length rows) where
+  module _ (h : i < length rows) where
     abbrev m : List ℕ
     m = get_or rows i []
 
-    next : drop i (take count rows) ≡ m ∷ drop (i + 1) (take count rows)
-    next = next_row [] rows count i h l
+    next : drop i rows ≡ m ∷ drop (i + 1) rows
+    next = here_row [] rows i h
 
-    over : rewritable long start to (m ∷ drop (i + 1) (take count rows)) ≡ false
-        → Over ≡ image_len long (take count rows)
-    over e = sym (image_over long (take count rows) (s.same ∙ (ap (rewritable long start to) next ∙ e)))
+    over : rewritable long start to (m ∷ drop (i + 1) rows) ≡ false
+        → None ≡ image_len long rows
+    over e = sym (image_over long rows (s.same ∙ (ap (rewritable long start to) next ∙ e)))
 
-    pub over_low : row_at m < start → Over ≡ image_len long (take count rows)
-    over_low p = over (fit_low long start to m (drop (i + 1) (take count rows)) p)
+    pub over_low : row_at m < start → None ≡ image_len long rows
+    over_low p = over (fit_low long start to m (drop (i + 1) rows) p)
 
-    pub over_long : long < row_at m + row_len m → Over ≡ image_len long (take count rows)
-    over_long p = over (fit_long long start to m (drop (i + 1) (take count rows)) p)
+    pub over_long : long < row_at m + row_len m → None ≡ image_len long rows
+    over_long p = over (fit_long long start to m (drop (i + 1) rows) p)
 
-    pub over_span : long < to + row_span m → Over ≡ image_len long (take count rows)
-    over_span p = over (fit_rest long start to m (drop (i + 1) (take count rows))
-        (too_long_lem long (row_at m + row_len m) (to + row_span m) (drop (i + 1) (take count rows)) p))
+    pub over_span : long < to + row_span m → None ≡ image_len long rows
+    over_span p = over (fit_rest long start to m (drop (i + 1) rows)
+        (too_long_lem long (row_at m + row_len m) (to + row_span m) (drop (i + 1) rows) p))
 
-    pub measured : start ≤ row_at m → row_at m + row_len m ≤ long → (to' : ℕ) → to' ≡ to + row_span m → to' ≤ long
-        → Measuring long rows count (row_at m + row_len m) to' (i + 1)
+    pub measured : start ≤ row_at m → row_at m + row_len m ≤ long → (start' to' : ℕ) → start' ≡ row_at m + row_len m
+        → to' ≡ to + row_span m → to' ≤ long → Measuring long rows start' to' (i + 1)
     unfolding rows_span
-    measured a b to' e k =
-        let n : rows_span (drop i (take count rows)) ≡ row_span m + rows_span (drop (i + 1) (take count rows))
-        = ap rows_span next in
+    measured a b start' to' f e k =
+        let n : rows_span (drop i rows) ≡ row_span m + rows_span (drop (i + 1) rows) = ap rows_span next in
         record {
-          same = s.same ∙ (ap (rewritable long start to) next
-              ∙ (fit_next long start to m (drop (i + 1) (take count rows)) a b
-              ∙ ap (λ t. rewritable long (row_at m + row_len m) t (drop (i + 1) (take count rows))) (sym e)));
+          same = s.same ∙ (ap (rewritable long start to) next ∙ (fit_next long start to m (drop (i + 1) rows) a b
+              ∙ rw (f, e) refl));
           span = omega (arith, s.span);
           small = k;
         }
+
+-- where n bytes behind others end
+pub end_is : (size n long end : ℕ) → Some end ≡ end_behind size n long → (end ≡ size + n) × (size + n ≤ long)
+unfolding end_behind
+end_is size n long end e = at (leb (size + n) long) refl
+  where
+    at : (t : Bool) → leb (size + n) long ≡ t → (end ≡ size + n) × (size + n ≤ long)
+    at true p = (cc, leb-true (size + n) long p)
+    at false p = absurd (cc)
+
+pub no_end : (size n long : ℕ) → None ≡ end_behind size n long → long < size + n
+unfolding end_behind
+no_end size n long e = at (leb (size + n) long) refl
+  where
+    at : (t : Bool) → leb (size + n) long ≡ t → long < size + n
+    at true p = absurd (cc)
+    at false p = leb-false (size + n) long p
 
 -- the measured length
 pub record Told (long n : ℕ) (rs : List (List ℕ)) : Type 0 where
   pub can : rewritable long 0 0 rs ≡ true
   pub is : n ≡ rows_span rs
 
-pub told_len : (long n : ℕ) (rs : List (List ℕ)) → Len n ≡ image_len long rs → Told long n rs
+pub told_len : (long n : ℕ) (rs : List (List ℕ)) → Some n ≡ image_len long rs → Told long n rs
 told_len long n rs e = at (rewritable long 0 0 rs) refl
   where
     at : (t : Bool) → rewritable long 0 0 rs ≡ t → Told long n rs
-    at true p = let q : Len n ≡ Len (rows_span rs) = e ∙ image_len_lem long rs p in record { can = p; is = cc }
+    at true p = let q : Some n ≡ Some (rows_span rs) = e ∙ image_len_lem long rs p in record { can = p; is = cc }
     at false p =
-        let q : Len n ≡ Over = e ∙ image_over long rs p in
+        let q : Some n ≡ None = e ∙ image_over long rs p in
         let z : ◌≡◌ {A = ℕ} 0 1 = cc in absurd (omega arith)
 
-pub told_over : (long : ℕ) (rs : List (List ℕ)) → Over ≡ image_len long rs → rewritable long 0 0 rs ≡ false
+pub told_over : (long : ℕ) (rs : List (List ℕ)) → None ≡ image_len long rs → rewritable long 0 0 rs ≡ false
 told_over long rs e = at (rewritable long 0 0 rs) refl
   where
     at : (t : Bool) → rewritable long 0 0 rs ≡ t → rewritable long 0 0 rs ≡ false
     at true p =
-        let q : Over ≡ Len (rows_span rs) = e ∙ image_len_lem long rs p in
+        let q : None ≡ Some (rows_span rs) = e ∙ image_len_lem long rs p in
         let z : ◌≡◌ {A = ℕ} 0 1 = cc in absurd (omega arith)
     at false p = p
 
@@ -282,20 +240,6 @@ pub record Packing (log₀ : List ℕ) (rows₀ : List (List ℕ)) (count : ℕ)
   pub table : write rows i (rows_packed to (drop i (take count rows₀)))
       ≡ write rows₀ 0 (rows_packed 0 (take count rows₀))
   pub fresh : drop i rows ≡ drop i rows₀
-
-pub packing_begins : (log : List ℕ) (rows : List (List ℕ)) (count : ℕ) → Packable (length log) 0 (take count rows)
-    → Packing log rows count log rows 0 0
-packing_begins log rows count h = record {
-  start = 0;
-  low = omega arith;
-  stand = h;
-  unmoved = refl;
-  long = refl;
-  many = refl;
-  bytes = refl;
-  table = refl;
-  fresh = refl;
-}
 
 module _ {log₀ : List ℕ} {rows₀ : List (List ℕ)} {count : ℕ} {log : List ℕ} {rows : List (List ℕ)} {to i : ℕ}
     (s : Packing log₀ rows₀ count log rows to i) where
@@ -594,16 +538,6 @@ rewritten : (bytes : List ℕ) (table rows : List (List ℕ)) → rewritable (le
     ≡ record { bytes = write bytes 0 (rows_image bytes rows); table = write table 0 (rows_placed 0 rows) }
 unfolding rewrite
 rewritten bytes table rows e = cc
-
--- the first rows of a table, by a number that is no more than it has
-pub cut_rows : (table : List (List ℕ)) (count n : ℕ) → n ≡ min count (length table) → take n table ≡ take count table
-cut_rows table count n e = at (leb count (length table)) refl
-  where
-    at : (t : Bool) → leb count (length table) ≡ t → take n table ≡ take count table
-    at true p = let q : n ≡ count = omega (arith, leb-true count (length table) p) in ap (λ k. take k table) q
-    at false p =
-        let q : length table < count = leb-false count (length table) p in
-        take_all n table (omega arith) ∙ sym (take_all count table (omega arith))
 
 -- the rows of a whole rewrite: the first n of the table, packed and then spread
 module _ (bytes : List ℕ) (table : List (List ℕ)) (n : ℕ) (enough : n ≤ length table)

@@ -1,7 +1,7 @@
 -- The log that opening writes is no longer than the file that it read, so that it fits where the file did.
+use Rattle.std.specs.Prelude.{Option, Some, None}
 use mathlib.Core.Path.{◌≡◌, refl, ap, sym, ◌∙◌, subst}
 use mathlib.Core.Bool.{Bool, true, false}
-use mathlib.Core.Option.{Option, none, some}
 use mathlib.Core.List.{List, [], ◌∷◌, ◌++◌}
 use Prim.Native.Nat.{ℕ, suc, ◌+◌, ◌≤◌, ◌<◌}
 use native.Mathlib.Omega.{arith}
@@ -148,8 +148,8 @@ record_short text m f e = at (split TAB text) refl (weight_split TAB text) (spli
     at_id : (a b c : List ℕ) (o : Option ℕ) → read_id a ≡ o → split TAB text ≡ a ∷ b ∷ c ∷ [] → weight (a ∷ b ∷ c ∷ [])
         ≡ suc (length text) → FreePieces TAB (a ∷ b ∷ c ∷ []) → FreePieces LF (a ∷ b ∷ c ∷ [])
         → length (record_line m) ≤ suc (length text)
-    at_id a b c none p q w g h = let z : ◌≡◌ {A = ℕ} 0 1 = cc in absurd (omega arith)
-    at_id a b c (some id) p q w g h =
+    at_id a b c None p q w g h = let z : ◌≡◌ {A = ℕ} 0 1 = cc in absurd (omega arith)
+    at_id a b c (Some id) p q w g h =
         let i : m.id ≡ id = cc in
         let n : m.name ≡ unescape b = cc in
         let d : m.body ≡ unescape c = cc in
@@ -161,8 +161,8 @@ record_short text m f e = at (split TAB text) refl (weight_split TAB text) (spli
         ))
 
     at_one : (o : Option ℕ) → done_of o ≡ put m → ⊥
-    at_one none p = let z : ◌≡◌ {A = ℕ} 0 1 = cc in omega arith
-    at_one (some id) p = let z : ◌≡◌ {A = ℕ} 0 1 = cc in omega arith
+    at_one None p = let z : ◌≡◌ {A = ℕ} 0 1 = cc in omega arith
+    at_one (Some id) p = let z : ◌≡◌ {A = ℕ} 0 1 = cc in omega arith
 
     at_two : (o p : Option ℕ) → attempts_of o p ≡ put m → ⊥
     at_two o p e = two_put o p m e

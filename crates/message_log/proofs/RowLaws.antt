@@ -1,7 +1,7 @@
 -- Laws of rows in rising id order: the place of an id, a row put in, a row taken out.
+use Rattle.std.specs.Prelude.{Option, Some, None, Ok, Err, ok_or}
 use mathlib.Core.Path.{◌≡◌, refl, ap, sym, ◌∙◌, subst}
 use mathlib.Core.Bool.{Bool, true, false, ◌&&◌}
-use mathlib.Core.Option.{none, some}
 use mathlib.Core.List.{List, [], ◌∷◌, ◌++◌, append_assoc}
 use Prim.Native.Nat.{ℕ, zero, suc, ◌+◌, ◌-◌, ◌^◌, ◌≤◌, ◌<◌}
 use native.Mathlib.Omega.{arith}
@@ -13,12 +13,11 @@ use lib.Seq.{drop-cons}
 use Rattle.text.specs.Line.{Line}
 use Rattle.text.specs.Bytes.{write, part}
 use Rattle.message_log.specs.declared.opening.Pass.{Pass}
-use Rattle.message_log.specs.declared.opening.Taken.{Taken}
-use Rattle.message_log.specs.declared.opening.Taken.TheVariants.{Next, Over}
+use Rattle.message_log.specs.declared.Refusal.{Refusal}
+use Rattle.message_log.specs.declared.Refusal.TheVariants.{LastId as NoNext}
 use Rattle.message_log.specs.Log.{row, row_id, row_at, row_len, find_row}
 use Rattle.message_log.specs.Scan.{RowsRise, insert_row, remove_row, PlaceOf, holds, TookNext, TookLine, LastId, Passed}
-use Rattle.message_log.specs.Scan.{retry_row, Scanned}
-use Rattle.message_log.specs.Opening.{read_file}
+use Rattle.message_log.specs.Scan.{retry_row, Scanned, LeftIn}
 use Rattle.message_log.proofs.OpeningLaws.{and_left, and_right}
 use Rattle.message_log.proofs.TableLaws.{taken_out, put_in}
 
@@ -165,8 +164,8 @@ module _ (rows : List (List ℕ)) (count i : ℕ) (e : List ℕ) (h : count ≤ 
           ∙ ap (λ x. e ∷ x) (sym here))
       at false l =
           let end : length (take count rows) ≤ i = ltb-false i (length (take count rows)) l in
-          let none : drop i (take count rows) ≡ [] = drop_of_length-le (take count rows) end in
-          row_alone e (drop i (take count rows)) none ∙ ap (λ x. e ∷ x) (sym none)
+          let None : drop i (take count rows) ≡ [] = drop_of_length-le (take count rows) end in
+          row_alone e (drop i (take count rows)) None ∙ ap (λ x. e ∷ x) (sym None)
 
   -- a full table: the new row is the last ..
   pub placed_last : holds (take count rows) i (row_id e) ≡ false → count ≤ i → insert_row e (take count rows)
@@ -201,12 +200,12 @@ remove_above id (x ∷ rs) high r = cc (
       (rise_low rs (suc (row_id x)) (suc id) high (omega (arith, r.0)) r.1),
 )
 
-pub remove_missing : (id j : ℕ) (rs : List (List ℕ)) → find_row j id rs ≡ none → remove_row id rs ≡ rs
+pub remove_missing : (id j : ℕ) (rs : List (List ℕ)) → find_row j id rs ≡ None → remove_row id rs ≡ rs
 unfolding find_row remove_row
 remove_missing id j [] e = refl
 remove_missing id j (x ∷ rs) e = at (eqb (row_id x) id) refl (remove_missing id (suc j) rs)
   where
-    at : (t : Bool) → eqb (row_id x) id ≡ t → (find_row (suc j) id rs ≡ none → remove_row id rs ≡ rs)
+    at : (t : Bool) → eqb (row_id x) id ≡ t → (find_row (suc j) id rs ≡ None → remove_row id rs ≡ rs)
         → remove_row id (x ∷ rs) ≡ x ∷ rs
     at true p ih = let z : ◌≡◌ {A = ℕ} 0 1 = cc in absurd (omega arith)
     at false p ih = let q : remove_row id rs ≡ rs = ih (cc) in cc
@@ -216,14 +215,14 @@ pub record Removed (id : ℕ) (rs : List (List ℕ)) (j k : ℕ) : Type 0 where
   pub within : k < j + length rs
   pub out : remove_row id rs ≡ take (k - j) rs ++ drop (suc (k - j)) rs
 
-pub remove_found : (id j k low high : ℕ) (rs : List (List ℕ)) → RowsRise low rs high → find_row j id rs ≡ some k
+pub remove_found : (id j k low high : ℕ) (rs : List (List ℕ)) → RowsRise low rs high → find_row j id rs ≡ Some k
     → Removed id rs j k
 unfolding find_row remove_row
 remove_found id j k low high [] r e = let z : ◌≡◌ {A = ℕ} 0 1 = cc in absurd (omega arith)
 remove_found id j k low high (x ∷ rs) r e = at (eqb (row_id x) id) refl (remove_found id (suc j) k (suc (row_id x)) high
     rs r.1)
   where
-    at : (t : Bool) → eqb (row_id x) id ≡ t → (find_row (suc j) id rs ≡ some k → Removed id rs (suc j) k)
+    at : (t : Bool) → eqb (row_id x) id ≡ t → (find_row (suc j) id rs ≡ Some k → Removed id rs (suc j) k)
         → Removed id (x ∷ rs) j k
     at true p ih =
         let here : j ≡ k = cc in
@@ -251,12 +250,12 @@ retry_above id n (x ∷ rs) high r = cc (
   retry_above id n rs high (rise_low rs (suc (row_id x)) (suc id) high (omega (arith, r.0)) r.1),
 )
 
-pub retry_missing : (id n j : ℕ) (rs : List (List ℕ)) → find_row j id rs ≡ none → retry_row id n rs ≡ rs
+pub retry_missing : (id n j : ℕ) (rs : List (List ℕ)) → find_row j id rs ≡ None → retry_row id n rs ≡ rs
 unfolding find_row retry_row
 retry_missing id n j [] e = refl
 retry_missing id n j (x ∷ rs) e = at (eqb (row_id x) id) refl (retry_missing id n (suc j) rs)
   where
-    at : (t : Bool) → eqb (row_id x) id ≡ t → (find_row (suc j) id rs ≡ none → retry_row id n rs ≡ rs)
+    at : (t : Bool) → eqb (row_id x) id ≡ t → (find_row (suc j) id rs ≡ None → retry_row id n rs ≡ rs)
         → retry_row id n (x ∷ rs) ≡ x ∷ rs
     at true p ih = let z : ◌≡◌ {A = ℕ} 0 1 = cc in absurd (omega arith)
     at false p ih = let q : retry_row id n rs ≡ rs = ih (cc) in cc
@@ -271,14 +270,14 @@ pub record RetriedAt (id n : ℕ) (rs : List (List ℕ)) (j k : ℕ) : Type 0 wh
   pub own : row_id (get_or rs (k - j) []) ≡ id
   pub is : retry_row id n rs ≡ set rs (k - j) (tried_row id n (get_or rs (k - j) []))
 
-pub retry_found_lem : (id n j k low high : ℕ) (rs : List (List ℕ)) → RowsRise low rs high → find_row j id rs ≡ some k
+pub retry_found_lem : (id n j k low high : ℕ) (rs : List (List ℕ)) → RowsRise low rs high → find_row j id rs ≡ Some k
     → RetriedAt id n rs j k
 unfolding find_row retry_row
 retry_found_lem id n j k low high [] r e = let z : ◌≡◌ {A = ℕ} 0 1 = cc in absurd (omega arith)
 retry_found_lem id n j k low high (x ∷ rs) r e =
     at (eqb (row_id x) id) refl (retry_found_lem id n (suc j) k (suc (row_id x)) high rs r.1)
   where
-    at : (t : Bool) → eqb (row_id x) id ≡ t → (find_row (suc j) id rs ≡ some k → RetriedAt id n rs (suc j) k)
+    at : (t : Bool) → eqb (row_id x) id ≡ t → (find_row (suc j) id rs ≡ Some k → RetriedAt id n rs (suc j) k)
         → RetriedAt id n (x ∷ rs) j k
     at true p ih =
         let here : j ≡ k = cc in
@@ -304,7 +303,7 @@ pub record Out (rows : List (List ℕ)) (count id i : ℕ) : Type 0 where
   pub gone : take (count - 1) (write rows i (part rows (i + 1) count)) ≡ remove_row id (take count rows)
 
 pub row_out : (rows : List (List ℕ)) (count id i : ℕ) → count ≤ length rows → RowsRise 0 (take count rows) (2 ^ 64)
-    → find_row 0 id (take count rows) ≡ some i → Out rows count id i
+    → find_row 0 id (take count rows) ≡ Some i → Out rows count id i
 row_out rows count id i h r e =
     let f = remove_found id 0 i 0 (2 ^ 64) (take count rows) r e in
     let l : i < count = omega (arith, f.within, length-take-le count rows h) in
@@ -322,7 +321,7 @@ pub record InPlace (rows : List (List ℕ)) (count id n i : ℕ) : Type 0 where
       (take count rows)
 
 pub row_tried_lem : (rows : List (List ℕ)) (count id n i : ℕ) → count ≤ length rows → RowsRise 0 (take count rows) (2 ^ 64)
-    → find_row 0 id (take count rows) ≡ some i → InPlace rows count id n i
+    → find_row 0 id (take count rows) ≡ Some i → InPlace rows count id n i
 row_tried_lem rows count id n i h r e =
     let f = retry_found_lem id n 0 i 0 (2 ^ 64) (take count rows) r e in
     let l : i < count = omega (arith, f.within, length-take-le count rows h) in
@@ -352,23 +351,26 @@ in_full rows count last i e h p q c l rows' w =
     )
 
 -- what a line does, by what the line says
-pub took_line : (lo : ℕ) (p : Pass) (rows : List (List ℕ)) (l l' : Line) (at : ℕ) (r : Taken) (rows' : List (List ℕ))
+pub took_line : (lo : ℕ) (p : Pass) (rows : List (List ℕ)) (l l' : Line) (at : ℕ) (r : Option Pass) (rows' : List (List ℕ))
     → l ≡ l' → TookLine lo p rows l at r rows' → TookLine lo p rows l' at r rows'
 took_line lo p rows l l' at r rows' e t = subst (λ k. TookLine lo p rows k at r rows') e t
 
-pub took_next : (lo : ℕ) (p : Pass) (rows : List (List ℕ)) (l : Line) (at : ℕ) (r : Taken) (rows' : List (List ℕ))
-    (q : Pass) → r ≡ Next q → TookLine lo p rows l at r rows' → (q.count ≤ length rows')
+pub took_next : (lo : ℕ) (p : Pass) (rows : List (List ℕ)) (l : Line) (at : ℕ) (r : Option Pass) (rows' : List (List ℕ))
+    (q : Pass) → r ≡ Some q → TookLine lo p rows l at r rows' → (q.count ≤ length rows')
     × TookNext lo p rows l at q rows'
 took_next lo p rows l at r rows' q e t = subst (λ k. TookLine lo p rows l at k rows') e t
 
-pub took_over : (lo : ℕ) (p : Pass) (rows : List (List ℕ)) (l : Line) (at : ℕ) (r : Taken) (rows' : List (List ℕ)) → r
-    ≡ Over → TookLine lo p rows l at r rows' → LastId l
+pub took_over : (lo : ℕ) (p : Pass) (rows : List (List ℕ)) (l : Line) (at : ℕ) (r : Option Pass) (rows' : List (List ℕ)) → r
+    ≡ None → TookLine lo p rows l at r rows' → LastId l
 took_over lo p rows l at r rows' e t = subst (λ k. TookLine lo p rows l at k rows') e t
 
-pub scanned_over : (file : List ℕ) (lo : ℕ) (r : Taken) (rows : List (List ℕ)) → r ≡ Over → Scanned file lo r rows
-    → 2 ^ 64 ≤ (read_file file).next
-scanned_over file lo r rows e s = subst (λ k. Scanned file lo k rows) e s
-
-pub scanned_next : (file : List ℕ) (lo : ℕ) (r : Taken) (rows : List (List ℕ)) (p : Pass) → r ≡ Next p
+pub scanned_ok : (file : List ℕ) (lo : ℕ) (r : Option Pass) (rows : List (List ℕ)) (p : Pass) → ok_or r NoNext ≡ Ok p
     → Scanned file lo r rows → Passed file lo p rows
-scanned_next file lo r rows p e s = subst (λ k. Scanned file lo k rows) e s
+scanned_ok file lo (Some q) rows p e s = let same : q ≡ p = cc in subst (λ k. Passed file lo k rows) same s
+scanned_ok file lo None rows p e s = absurd (cc)
+
+pub scanned_err : (file : List ℕ) (lo : ℕ) (r : Option Pass) (rows table : List (List ℕ)) (e : Refusal)
+    → ok_or r NoNext ≡ Err e → Scanned file lo r rows → LeftIn file (Err e) table
+scanned_err file lo (Some q) rows table e is s = absurd (cc)
+scanned_err file lo None rows table e is s =
+    let same : NoNext ≡ e = cc in subst (λ k. LeftIn file (Err k) table) same s

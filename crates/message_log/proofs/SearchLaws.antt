@@ -1,8 +1,8 @@
 -- Laws of the search by halving: what a turn of it leaves, on any rows; and that on rows in rising id order it finds
 -- what `find_row` finds.
+use Rattle.std.specs.Prelude.{Some, None}
 use mathlib.Core.Path.{◌≡◌, refl, ap, sym, ◌∙◌}
 use mathlib.Core.Bool.{Bool, true, false}
-use mathlib.Core.Option.{none, some}
 use mathlib.Core.List.{List, [], ◌∷◌}
 use Prim.Native.Nat.{ℕ, zero, suc, ◌+◌, ◌-◌, ◌≤◌, ◌<◌}
 use native.Mathlib.Omega.{arith}
@@ -31,17 +31,17 @@ unfolding search_row
 left_all id rs hi e = record { within = omega arith; turns = length rs; enough = omega arith; same = rw e refl }
 
 -- nothing is left
-halved_over : (n id : ℕ) (rs : List (List ℕ)) (lo hi : ℕ) → hi ≤ lo → halved n id rs lo hi ≡ none
+halved_over : (n id : ℕ) (rs : List (List ℕ)) (lo hi : ℕ) → hi ≤ lo → halved n id rs lo hi ≡ None
 unfolding halved
 halved_over zero id rs lo hi h = refl
 halved_over (suc n) id rs lo hi h = cc (le-ltb lo hi h)
 
-pub left_none : (id : ℕ) (rs : List (List ℕ)) (lo hi : ℕ) → Left id rs lo hi → hi ≤ lo → search_row id rs ≡ none
+pub left_none : (id : ℕ) (rs : List (List ℕ)) (lo hi : ℕ) → Left id rs lo hi → hi ≤ lo → search_row id rs ≡ None
 left_none id rs lo hi l h = sym l.same ∙ halved_over l.turns id rs lo hi h
 
 -- a turn, by the id in the middle
 module _ (n id : ℕ) (rs : List (List ℕ)) (lo hi : ℕ) (h : lo < hi) where
-  halved_here : row_id (get_or rs (middle lo hi) []) ≡ id → halved (suc n) id rs lo hi ≡ some (middle lo hi)
+  halved_here : row_id (get_or rs (middle lo hi) []) ≡ id → halved (suc n) id rs lo hi ≡ Some (middle lo hi)
   unfolding halved
   halved_here e = cc (lt-ltb lo hi h, eq-eqb (row_id (get_or rs (middle lo hi) [])) id e)
 
@@ -68,11 +68,11 @@ module _ (rows : List (List ℕ)) (count id lo hi : ℕ) (h : lo < hi) where
   own l = get_or-take count rows (middle lo hi) [] (omega (arith, length-take count rows))
 
   pub left_here : Left id (take count rows) lo hi → row_id (get_or rows (middle lo hi) []) ≡ id
-      → search_row id (take count rows) ≡ some (middle lo hi)
+      → search_row id (take count rows) ≡ Some (middle lo hi)
   left_here l e = at l.turns l.enough l.same
     where
       at : (n : ℕ) → hi - lo ≤ n → halved n id (take count rows) lo hi ≡ search_row id (take count rows)
-          → search_row id (take count rows) ≡ some (middle lo hi)
+          → search_row id (take count rows) ≡ Some (middle lo hi)
       at zero f s = absurd (omega arith)
       at (suc n) f s = sym s ∙ halved_here n id (take count rows) lo hi h (ap row_id (own l.within) ∙ e)
 
@@ -118,7 +118,7 @@ rise_upto (x ∷ rs) low high (suc i) (suc k) r h l = rise_upto rs (suc (row_id 
 
 -- a row of the id is the one that is found
 find_there : (id j k low high : ℕ) (rs : List (List ℕ)) → RowsRise low rs high → k < length rs
-    → row_id (get_or rs k []) ≡ id → find_row j id rs ≡ some (j + k)
+    → row_id (get_or rs k []) ≡ id → find_row j id rs ≡ Some (j + k)
 unfolding find_row
 find_there id j k low high [] r h e = absurd (omega arith)
 find_there id j zero low high (x ∷ rs) r h e =
@@ -132,7 +132,7 @@ find_there id j (suc k) low high (x ∷ rs) r h e =
 
 -- no row has the id
 find_nowhere : (id j : ℕ) (rs : List (List ℕ)) → ((k : ℕ) → k < length rs → row_id (get_or rs k []) ≡ id → ⊥)
-    → find_row j id rs ≡ none
+    → find_row j id rs ≡ None
 unfolding find_row
 find_nowhere id j [] f = refl
 find_nowhere id j (x ∷ rs) f = cc (
@@ -146,7 +146,7 @@ module _ (id low high : ℕ) (rs : List (List ℕ)) (r : RowsRise low rs high) w
     pub below : (k : ℕ) → k < lo → k < length rs → row_id (get_or rs k []) < id
     pub above : (k : ℕ) → hi ≤ k → k < length rs → id < row_id (get_or rs k [])
 
-  apart_none : (lo hi : ℕ) → Apart lo hi → hi ≤ lo → find_row 0 id rs ≡ none
+  apart_none : (lo hi : ℕ) → Apart lo hi → hi ≤ lo → find_row 0 id rs ≡ None
   apart_none lo hi a h = find_nowhere id 0 rs (λ k l e. at k l e (ltb k lo) refl)
     where
       at : (k : ℕ) → k < length rs → row_id (get_or rs k []) ≡ id → (t : Bool) → ltb k lo ≡ t → ⊥
@@ -183,7 +183,7 @@ module _ (id low high : ℕ) (rs : List (List ℕ)) (r : RowsRise low rs high) w
           let e : here ≡ id = eqb-true here id t in
           let z : 0 + middle lo hi ≡ middle lo hi = omega arith in
           halved_here n id rs lo hi h e
-          ∙ sym (find_there id 0 (middle lo hi) low high rs r (omega arith) e ∙ ap some z)
+          ∙ sym (find_there id 0 (middle lo hi) low high rs r (omega arith) e ∙ ap Some z)
       at_here h false t = at_less h (eqb-false here id t) (ltb here id) refl
 
       at : (t : Bool) → ltb lo hi ≡ t → halved (suc n) id rs lo hi ≡ find_row 0 id rs

@@ -1,7 +1,7 @@
 -- Every step of the log keeps that its state stands for the messages logged and not done.
+use Rattle.std.specs.Prelude.{Some}
 use mathlib.Core.Path.{◌≡◌, refl, ap, sym, ◌∙◌, subst}
 use mathlib.Core.Bool.{Bool, true, false}
-use mathlib.Core.Option.{some}
 use mathlib.Core.List.{List, [], ◌∷◌, ◌++◌}
 use Prim.Native.Nat.{ℕ, suc, ◌+◌, ◌-◌, ◌^◌, ◌≤◌, ◌<◌}
 use native.Mathlib.Omega.{arith}
@@ -181,12 +181,12 @@ remove_none id (x ∷ xs) high r = cc (
 )
 
 -- a row is found no lower than where the rows begin
-find_low : (id j k : ℕ) (rs : List (List ℕ)) → find_row j id rs ≡ some k → j ≤ k
+find_low : (id j k : ℕ) (rs : List (List ℕ)) → find_row j id rs ≡ Some k → j ≤ k
 unfolding find_row
 find_low id j k [] e = let z : ◌≡◌ {A = ℕ} 0 1 = cc in absurd (omega arith)
 find_low id j k (x ∷ rs) e = at (eqb (row_id x) id) refl (find_low id (suc j) k rs)
   where
-    at : (t : Bool) → eqb (row_id x) id ≡ t → (find_row (suc j) id rs ≡ some k → suc j ≤ k) → j ≤ k
+    at : (t : Bool) → eqb (row_id x) id ≡ t → (find_row (suc j) id rs ≡ Some k → suc j ≤ k) → j ≤ k
     at true p later = let here : j ≡ k = cc in omega arith
     at false p later = omega (arith, later (cc))
 
@@ -202,7 +202,7 @@ pub record Found (bytes : List ℕ) (start id : ℕ) (ms : List Message) (rs : L
 
 module _ (bytes : List ℕ) (id size high : ℕ) where
   pub found_row : (ms : List Message) (rs : List (List ℕ)) (low start j k : ℕ) → Rising low ms high
-      → Tabled bytes start ms rs size → find_row j id rs ≡ some k → Found bytes start id ms rs size high j k
+      → Tabled bytes start ms rs size → find_row j id rs ≡ Some k → Found bytes start id ms rs size high j k
   unfolding find_row remove image
   found_row [] [] low start j k r t e = let z : ◌≡◌ {A = ℕ} 0 1 = cc in absurd (omega arith)
   found_row [] (x ∷ rs) low start j k r t e = absurd t
@@ -216,7 +216,7 @@ module _ (bytes : List ℕ) (id size high : ℕ) where
       sized : row_span x ≡ length (message_lines m)
       sized = span_is m x t.0
 
-      at : (c : Bool) → eqb (row_id x) id ≡ c → (find_row (suc j) id rs ≡ some k
+      at : (c : Bool) → eqb (row_id x) id ≡ c → (find_row (suc j) id rs ≡ Some k
           → Found bytes (row_at x + length (record_line m)) id ms rs size high (suc j) k) → Found bytes start id (m ∷ ms)
           (x ∷ rs) size high j k
       at true c ih =
@@ -264,7 +264,7 @@ tried_lines m n told =
 
 module _ (bytes : List ℕ) (id n size high : ℕ) (some_tries : 0 < n) where
   pub tried_image : (ms : List Message) (rs : List (List ℕ)) (low start j k : ℕ) → Rising low ms high
-      → Tabled bytes start ms rs size → find_row j id rs ≡ some k
+      → Tabled bytes start ms rs size → find_row j id rs ≡ Some k
       → length (image (retried id n ms)) + length (row_tries (get_or rs (k - j) []))
       ≡ length (image ms) + length (retry_line id n)
   unfolding find_row retried image
@@ -280,7 +280,7 @@ module _ (bytes : List ℕ) (id n size high : ℕ) (some_tries : 0 < n) where
       own : row_tries x ≡ attempts_line m.id m.attempts
       own = let tried : row_tried x ≡ m.attempts = ap row_tried t.0 in cc
 
-      at : (c : Bool) → eqb (row_id x) id ≡ c → (find_row (suc j) id rs ≡ some k
+      at : (c : Bool) → eqb (row_id x) id ≡ c → (find_row (suc j) id rs ≡ Some k
           → length (image (retried id n ms)) + length (row_tries (get_or rs (k - suc j) []))
           ≡ length (image ms) + length (retry_line id n))
           → length (image (retried id n (m ∷ ms))) + length (row_tries (get_or (x ∷ rs) (k - j) []))
@@ -308,7 +308,7 @@ module _ (bytes : List ℕ) (id n size high : ℕ) (some_tries : 0 < n) where
               let p = find_low id (suc j) k rs (cc) in
               (omega arith, omega arith)
 
-module _ (w : Wal) (ms : List Message) (s : Stands w ms) (id i : ℕ) (e : find_row 0 id (open_rows w) ≡ some i) where
+module _ (w : Wal) (ms : List Message) (s : Stands w ms) (id i : ℕ) (e : find_row 0 id (open_rows w) ≡ Some i) where
   abbrev found : Found w.bytes 0 id ms (open_rows w) w.counters.size w.counters.next 0 i
   found = found_row w.bytes id w.counters.size w.counters.next ms (open_rows w) 0 0 0 i s.rising
       s.tabled e

@@ -1,6 +1,8 @@
 -- Laws of the store at opening: messages put into its entries, read back, and written into the log.
+use Rattle.std.specs.Prelude.{Option, unwrap_or}
+use Rattle.std.specs.List.{list_all}
 use mathlib.Core.Path.{◌≡◌, refl, ap, sym, ◌∙◌}
-use mathlib.Core.Bool.{true, false, ◌&&◌}
+use mathlib.Core.Bool.{true, ◌&&◌}
 use mathlib.Core.List.{List, [], ◌∷◌, ◌++◌, map}
 use Prim.Native.Nat.{ℕ, suc, ◌+◌, ◌-◌, ◌*◌, ◌≤◌, ◌<◌}
 use native.Mathlib.Numerals.{add-one}
@@ -14,30 +16,20 @@ use Rattle.text.specs.Format.{Message, record_text, record_line, attempts_line, 
 use Rattle.text.specs.Line.{line_at}
 use Rattle.text.specs.Bytes.{write, Wrote}
 use Rattle.text.specs.Answers.{Filled, filled}
-use Rattle.text.specs.declared.escape.Measure.{Measure}
 use Rattle.text.proofs.WriteLaws.{write_none, write_cons, length_write, take_write, take_written, write_write}
 use Rattle.text.proofs.AnswerLaws.{filled_part, filled_answer}
 use Rattle.message_log.specs.Opening.{fits, all_fit, image}
 use Rattle.message_log.specs.Log.{row, row_at}
 use Rattle.message_log.specs.Opened.{stored_at, stored, left_row, rows_from}
-use Rattle.message_log.specs.Scan.{row_message, row_messages, fit_line, fit_left, from_store, Imaged, imaged, measured_len}
+use Rattle.message_log.specs.Scan.{row_message, row_messages, fit_line, fit_left, from_store, Imaged, imaged}
 use Rattle.message_log.proofs.OpeningLaws.{and_left, and_right}
 
 -- the limits, row by row
-module _ (file : List ℕ) (rs : List (List ℕ)) where
-  pub fit_next : (r : List ℕ) (more : List (List ℕ)) → rs ≡ r ∷ more → fit_line (line_at file (row_at r)) ≡ true
-      → all_fit (row_messages file rs) ≡ all_fit (row_messages file more)
-  unfolding all_fit fits fit_line
-  fit_next r more e f = ap (λ l. all_fit (row_messages file l)) e ∙ ap (λ b. b && all_fit (row_messages file more)) f
-
-  pub fit_stop : (r : List ℕ) (more : List (List ℕ)) → rs ≡ r ∷ more → fit_line (line_at file (row_at r)) ≡ false
-      → all_fit (row_messages file rs) ≡ false
-  unfolding all_fit fits fit_line
-  fit_stop r more e f = ap (λ l. all_fit (row_messages file l)) e ∙ ap (λ b. b && all_fit (row_messages file more)) f
-
-  pub fit_end : rs ≡ [] → all_fit (row_messages file rs) ≡ true
-  unfolding all_fit
-  fit_end e = ap (λ l. all_fit (row_messages file l)) e
+pub all_fits : (file : List ℕ) (rs : List (List ℕ)) → list_all (λ r. fit_line (line_at file (row_at r))) rs
+    ≡ all_fit (row_messages file rs)
+unfolding all_fit fits fit_line
+all_fits file [] = refl
+all_fits file (r ∷ rs) = ap (λ b. fit_line (line_at file (row_at r)) && b) (all_fits file rs)
 
 -- what the first of messages that fit says
 pub record FitFirst (m : Message) (ms : List Message) : Type 0 where
@@ -147,31 +139,31 @@ left_fit [] f = refl
 left_fit (m ∷ ms) f = let g = fit_first m ms f in cc (g.first, left_fit ms g.others)
 
 -- storing, entry by entry
-pub record Storing (file : List ℕ) (rows : List (List ℕ)) (count : ℕ) (store₀ : List ℕ) (left₀ : List (List ℕ))
+pub record Storing (file : List ℕ) (rows : List (List ℕ)) (store₀ : List ℕ) (left₀ : List (List ℕ))
     (store : List ℕ) (left : List (List ℕ)) (i : ℕ) : Type 0 where
   pub long : length store ≡ length store₀
   pub many : length left ≡ length left₀
-  pub within : i ≤ count
-  pub entries : stored i (row_messages file (drop i (take count rows))) store
-      ≡ stored 0 (row_messages file (take count rows)) store₀
-  pub table : write left i (map left_row (row_messages file (drop i (take count rows))))
-      ≡ write left₀ 0 (map left_row (row_messages file (take count rows)))
-  pub fit : all_fit (row_messages file (drop i (take count rows))) ≡ true
+  pub within : i ≤ length rows
+  pub entries : stored i (row_messages file (drop i rows)) store
+      ≡ stored 0 (row_messages file rows) store₀
+  pub table : write left i (map left_row (row_messages file (drop i rows)))
+      ≡ write left₀ 0 (map left_row (row_messages file rows))
+  pub fit : all_fit (row_messages file (drop i rows)) ≡ true
 
-module _ {file : List ℕ} {rows : List (List ℕ)} {count : ℕ} {store₀ : List ℕ} {left₀ : List (List ℕ)} {store : List ℕ}
-    {left : List (List ℕ)} {i : ℕ} (s : Storing file rows count store₀ left₀ store left i) where
-  pub storing_ends : drop i (take count rows) ≡ [] → (store ≡ stored 0 (row_messages file (take count rows)) store₀)
-      × (left ≡ write left₀ 0 (map left_row (row_messages file (take count rows))))
+module _ {file : List ℕ} {rows : List (List ℕ)} {store₀ : List ℕ} {left₀ : List (List ℕ)} {store : List ℕ}
+    {left : List (List ℕ)} {i : ℕ} (s : Storing file rows store₀ left₀ store left i) where
+  pub storing_ends : drop i rows ≡ [] → (store ≡ stored 0 (row_messages file rows) store₀)
+      × (left ≡ write left₀ 0 (map left_row (row_messages file rows)))
   unfolding stored
   storing_ends e = (
     sym (ap (λ l. stored i (row_messages file l) store) e) ∙ s.entries,
     sym (ap (λ l. write left i (map left_row (row_messages file l))) e ∙ write_none left i) ∙ s.table,
   )
 
-  module _ (r : List ℕ) (h : i < count) (l : i < length left) (e : drop i (take count rows)
-      ≡ r ∷ drop (i + 1) (take count rows)) where
-    pub storing_fits : FitFirst (row_message file r) (row_messages file (drop (i + 1) (take count rows)))
-    storing_fits = fit_first (row_message file r) (row_messages file (drop (i + 1) (take count rows)))
+  module _ (r : List ℕ) (h : i < length rows) (l : i < length left) (e : drop i rows
+      ≡ r ∷ drop (i + 1) rows) where
+    pub storing_fits : FitFirst (row_message file r) (row_messages file (drop (i + 1) rows))
+    storing_fits = fit_first (row_message file r) (row_messages file (drop (i + 1) rows))
         (ap (λ x. all_fit (row_messages file x)) (sym e) ∙ s.fit)
 
     pub storing_line : fit_line (line_at file (row_at r)) ≡ true
@@ -179,12 +171,12 @@ module _ {file : List ℕ} {rows : List (List ℕ)} {count : ℕ} {store₀ : Li
     storing_line = storing_fits.first
 
     pub storing_more : (store' : List ℕ) → 160 * i + 160 ≤ length store → store' ≡ stored_at i (row_message file r) store
-        → (left' : List (List ℕ)) → left' ≡ set left i (left_row (row_message file r)) → Storing file rows count store₀
+        → (left' : List (List ℕ)) → left' ≡ set left i (left_row (row_message file r)) → Storing file rows store₀
         left₀ store' left' (i + 1)
     unfolding stored
     storing_more store' room p left' q =
         let m = row_message file r in
-        let more = row_messages file (drop (i + 1) (take count rows)) in
+        let more = row_messages file (drop (i + 1) rows) in
         record {
           long = ap length p ∙ (at_long i m store storing_fits.name storing_fits.body room ∙ s.long);
           many = ap length q ∙ (length-set left i (left_row m) ∙ s.many);
@@ -197,19 +189,19 @@ module _ {file : List ℕ} {rows : List (List ℕ)} {count : ℕ} {store₀ : Li
         }
 
 -- the image, record by record
-pub record Imaging (log₀ : List ℕ) (table₀ : List (List ℕ)) (store : List ℕ) (left : List (List ℕ)) (count : ℕ)
+pub record Imaging (log₀ : List ℕ) (table₀ : List (List ℕ)) (store : List ℕ) (left : List (List ℕ))
     (log : List ℕ) (table : List (List ℕ)) (at i : ℕ) : Type 0 where
   pub long : length log ≡ length log₀
   pub many : length table ≡ length table₀
-  pub within : i ≤ count
-  pub room : at + length (image (from_store i (drop i (take count left)) store)) ≤ length log
-  pub ends : at + length (image (from_store i (drop i (take count left)) store))
-      ≡ length (image (from_store 0 (take count left) store))
-  pub bytes : write log at (image (from_store i (drop i (take count left)) store))
-      ≡ write log₀ 0 (image (from_store 0 (take count left) store))
-  pub rows : write table i (rows_from at (from_store i (drop i (take count left)) store))
-      ≡ write table₀ 0 (rows_from 0 (from_store 0 (take count left) store))
-  pub fit : fit_left (drop i (take count left)) ≡ true
+  pub within : i ≤ length left
+  pub room : at + length (image (from_store i (drop i left) store)) ≤ length log
+  pub ends : at + length (image (from_store i (drop i left) store))
+      ≡ length (image (from_store 0 left store))
+  pub bytes : write log at (image (from_store i (drop i left) store))
+      ≡ write log₀ 0 (image (from_store 0 left store))
+  pub rows : write table i (rows_from at (from_store i (drop i left) store))
+      ≡ write table₀ 0 (rows_from 0 (from_store 0 left store))
+  pub fit : fit_left (drop i left) ≡ true
 
 -- the message of an entry
 abbrev pub entry_of : ℕ → List ℕ → List ℕ → Message
@@ -253,48 +245,48 @@ fit_row x xs e =
       others = and_right (leb (get_or x 1 0) 32 && leb (get_or x 2 0) 128) (fit_left xs) e;
     }
 
-module _ {log₀ : List ℕ} {table₀ : List (List ℕ)} {store : List ℕ} {left : List (List ℕ)} {count : ℕ} {log : List ℕ}
-    {table : List (List ℕ)} {at i : ℕ} (s : Imaging log₀ table₀ store left count log table at i) where
-  pub imaging_ends : drop i (take count left) ≡ [] → ◌≡◌ {A = Imaged} (record { log = log; table = table; size = at })
-      (imaged log₀ table₀ (from_store 0 (take count left) store))
+module _ {log₀ : List ℕ} {table₀ : List (List ℕ)} {store : List ℕ} {left : List (List ℕ)} {log : List ℕ}
+    {table : List (List ℕ)} {at i : ℕ} (s : Imaging log₀ table₀ store left log table at i) where
+  pub imaging_ends : drop i left ≡ [] → ◌≡◌ {A = Imaged} (record { log = log; table = table; size = at })
+      (imaged log₀ table₀ (from_store 0 left store))
   unfolding from_store image rows_from
   imaging_ends e =
-      let b : log ≡ write log₀ 0 (image (from_store 0 (take count left) store)) =
+      let b : log ≡ write log₀ 0 (image (from_store 0 left store)) =
       sym (ap (λ l. write log at (image (from_store i l store))) e ∙ write_none log at) ∙ s.bytes in
-      let t : table ≡ write table₀ 0 (rows_from 0 (from_store 0 (take count left) store)) =
+      let t : table ≡ write table₀ 0 (rows_from 0 (from_store 0 left store)) =
       sym (ap (λ l. write table i (rows_from at (from_store i l store))) e ∙ write_none table i) ∙ s.rows in
-      let n : at ≡ length (image (from_store 0 (take count left) store)) =
+      let n : at ≡ length (image (from_store 0 left store)) =
       omega (arith, s.ends, ap (λ l. length (image (from_store i l store))) e) in
       rw (b, t, n) refl
 
-  module _ (x : List ℕ) (h : i < count) (l : i < length table) (e : drop i (take count left)
-      ≡ x ∷ drop (i + 1) (take count left)) where
+  module _ (x : List ℕ) (h : i < length left) (l : i < length table) (e : drop i left
+      ≡ x ∷ drop (i + 1) left) where
     abbrev rest : List Message
-    rest = from_store (i + 1) (drop (i + 1) (take count left)) store
+    rest = from_store (i + 1) (drop (i + 1) left) store
 
     abbrev m : Message
     m = entry_of i x store
 
-    here : from_store i (drop i (take count left)) store ≡ m ∷ rest
+    here : from_store i (drop i left) store ≡ m ∷ rest
     unfolding from_store
-    here = ap (λ y. from_store i y store) e ∙ ap (λ k. m ∷ from_store k (drop (i + 1) (take count left)) store)
+    here = ap (λ y. from_store i y store) e ∙ ap (λ k. m ∷ from_store k (drop (i + 1) left) store)
         (sym (add-one i))
 
-    pub imaging_fits : FitRow x (drop (i + 1) (take count left))
-    imaging_fits = fit_row x (drop (i + 1) (take count left)) (ap fit_left (sym e) ∙ s.fit)
+    pub imaging_fits : FitRow x (drop (i + 1) left)
+    imaging_fits = fit_row x (drop (i + 1) left) (ap fit_left (sym e) ∙ s.fit)
 
     -- the retry line of the message
     abbrev tries : List ℕ
     tries = attempts_line (get_or x 0 0) (get_or x 3 0)
 
-    split : length (image (from_store i (drop i (take count left)) store))
+    split : length (image (from_store i (drop i left) store))
         ≡ length (record_line m) + length tries + length (image rest)
     unfolding image message_lines
     split = ap (λ y. length (image y)) here ∙ simp length-append refl
 
-    module _ (last : List ℕ) (r : Measure) (f : ◌≡◌ {A = Filled} (record { bytes = last; answer = r })
+    module _ (last : List ℕ) (r : Option ℕ) (f : ◌≡◌ {A = Filled} (record { bytes = last; answer = r })
         (filled (take (length log - at) (drop at log)) (record_line (sliced_of i x store)))) (n : ℕ) (q : n ≡
-        measured_len r)
+        unwrap_or r 0)
       where
         filled_here : ◌≡◌ {A = Filled} (record { bytes = last; answer = r })
             (filled (take (length log - at) (drop at log)) (record_line m))
@@ -307,7 +299,7 @@ module _ {log₀ : List ℕ} {table₀ : List (List ℕ)} {store : List ℕ} {le
         record_length =
             let room : length (record_line m) ≤ length (take (length log - at) (drop at log)) =
             simp (length-take, length-drop) (omega (arith, fits_here)) in
-            q ∙ ap measured_len (filled_answer (take (length log - at) (drop at log)) (record_line m) last r room
+            q ∙ ap (λ k. unwrap_or k 0) (filled_answer (take (length log - at) (drop at log)) (record_line m) last r room
             filled_here)
 
         pub size_fits : at + n ≤ length log
@@ -328,7 +320,7 @@ module _ {log₀ : List ℕ} {table₀ : List (List ℕ)} {store : List ℕ} {le
 
         pub imaging_more : (log' : List ℕ) (end : ℕ) → Wrote recorded (at + n) tries log' end → (table' : List (List ℕ))
             → table' ≡ set table i (row (get_or x 0 0) at n (get_or x 3 0))
-            → Imaging log₀ table₀ store left count log' table' end (i + 1)
+            → Imaging log₀ table₀ store left log' table' end (i + 1)
         unfolding image rows_from message_lines
         imaging_more log' end w table' t =
             let behind : at + n ≡ at + length (record_line m) = omega (arith, record_length) in

@@ -1,7 +1,7 @@
 -- What the code of a step has made is what its definition says: one law for each way through a step.
-use mathlib.Core.Path.{◌≡◌, refl, ap, ◌∙◌, subst}
+use Rattle.std.specs.Prelude.{Some, None, Ok, Err, Option, ok_or, SomeIff}
+use mathlib.Core.Path.{◌≡◌, refl, sym, ap, ◌∙◌, subst}
 use mathlib.Core.Bool.{Bool, true, false, ◌&&◌}
-use mathlib.Core.Option.{Option, none, some}
 use mathlib.Core.List.{List, []}
 use Prim.Native.Nat.{ℕ, ◌+◌, ◌-◌, ◌*◌, ◌/◌, ◌^◌, ◌≤◌, ◌<◌, max}
 use native.Mathlib.Omega.{arith}
@@ -11,18 +11,16 @@ use lib.ListN.{length, take, set, get_or}
 use Rattle.text.specs.Format.{ATTEMPTS, Message, record_line, done_line, retry_line}
 use Rattle.text.specs.Bytes.{write}
 use Rattle.message_log.specs.declared.Counters.{Counters}
-use Rattle.message_log.specs.declared.Order.TheVariants.{Append, Replace, Flush}
+use Rattle.message_log.specs.declared.Order.TheVariants.{Append, Replace}
 use Rattle.message_log.specs.declared.Refusal.TheVariants.{TooLong, Full, NoId, NoRoom}
-use Rattle.message_log.specs.declared.Answer.TheVariants.{Ordered}
-use Rattle.message_log.specs.declared.Due.TheVariants as due
-use Rattle.message_log.specs.declared.AnsweredDue.{AnsweredDue}
-use Rattle.message_log.specs.declared.table.Found.TheVariants.{At, Missing}
-use Rattle.message_log.specs.Log.{row, Wal, state, open_rows, DidAppend, DidMark, turned_away, extended, Rewritten}
-use Rattle.message_log.specs.Log.{rewrite, row_at, row_len, row_tries, nothing_due, with_tried, retry_written, retried_at}
+use Rattle.message_log.specs.Log.{row, Wal, state, open_rows, DidAppend, DidMark, AnsweredDue, turned_away, extended}
+use Rattle.message_log.specs.Log.{Rewritten}
+use Rattle.message_log.specs.Log.{rewrite, row_at, row_len, row_tries, nothing_due, with_tried, retry_written}
+use Rattle.message_log.specs.Log.{retried_at}
 use Rattle.message_log.specs.Log.{counts_tries, retry_of}
 use Rattle.message_log.specs.Log.{compacted, with_record, logged, new_message, append_refusal, appended, append_of}
-use Rattle.message_log.specs.Log.{search_row, without_row, keeps, grown, line_behind, all_anew, marked_done, mark_of, sync_log}
-use Rattle.message_log.specs.Table.{found_of}
+use Rattle.message_log.specs.Log.{search_row, without_row, keeps, grown, line_behind, all_anew, marked_done, mark_of}
+use Rattle.message_log.specs.Log.{sync_log}
 use Rattle.message_log.specs.Opening.{fits}
 use Rattle.message_log.proofs.OpeningLaws.{and_left}
 
@@ -86,7 +84,7 @@ module _ (w after : Wal) (m : Message) (len : ℕ) (e : len ≡ length (record_l
   pub appended_behind : leb (w.counters.size + len) (length w.bytes) ≡ true → after ≡ logged w m
       → ◌≡◌ {A = DidAppend} (record {
         wal = after;
-        answer = Ordered (Append w.counters.size
+        answer = Ok (Append w.counters.size
             (w.counters.size + len));
       })
       (appended w m)
@@ -95,7 +93,7 @@ module _ (w after : Wal) (m : Message) (len : ℕ) (e : len ≡ length (record_l
       ≡ true = rw e at t in cc
 
   pub appended_anew : leb (w.counters.size + len) (length w.bytes) ≡ false → after ≡ logged (compacted w) m
-      → ◌≡◌ {A = DidAppend} (record { wal = after; answer = Ordered (Replace (w.counters.live + len)) })
+      → ◌≡◌ {A = DidAppend} (record { wal = after; answer = Ok (Replace (w.counters.live + len)) })
       (appended w m)
   unfolding appended
   appended_anew t a = let no : leb (w.counters.size + length (record_line m)) (length w.bytes) ≡ false =
@@ -160,21 +158,29 @@ module _ (w : Wal) (name body : List ℕ) where
               le-leb more (length w.bytes) h,
             )
 
+-- an answer that is given, or a refusal where there is none
+pub given : {A E : Type 0} (o : Option A) (e : E) (x : A) → Ok x ≡ ok_or o e → Some x ≡ o
+given (Some y) e x is = cc
+given None e x is = absurd (cc)
+
+pub refused_with : {A E : Type 0} (o : Option A) (e r : E) → Err r ≡ ok_or o e → (None ≡ o) × (r ≡ e)
+refused_with (Some y) e r is = absurd (cc)
+refused_with None e r is = (refl, cc)
+
+-- a difference, where there is one
+pub less : (a b x : ℕ) (o : Option ℕ) → Some x ≡ o → SomeIff o (b ≤ a) (a - b) → (b ≤ a) × (x ≡ a - b)
+less a b x o e s = subst (λ k. SomeIff k (b ≤ a) (a - b)) (sym e) s
+
+pub no_less : (a b : ℕ) (o : Option ℕ) → None ≡ o → SomeIff o (b ≤ a) (a - b) → a < b
+no_less a b o e s = let n : ¬ (b ≤ a) = subst (λ k. SomeIff k (b ≤ a) (a - b)) (sym e) s in omega (arith, n)
+
 -- mark
-pub found_missing : (o : Option ℕ) → Missing ≡ found_of o → o ≡ none
-found_missing none e = refl
-found_missing (some i) e = let z : ◌≡◌ {A = ℕ} 0 1 = cc in absurd (omega arith)
-
-pub found_at : (i : ℕ) (o : Option ℕ) → At i ≡ found_of o → o ≡ some i
-found_at i none e = let z : ◌≡◌ {A = ℕ} 0 1 = cc in absurd (omega arith)
-found_at i (some j) e = cc
-
-pub mark_unknown : (limit : ℕ) (w : Wal) (id : ℕ) → search_row id (open_rows w) ≡ none
-    → record { wal = w; due = due.Nothing } ≡ mark_of limit w id
+pub mark_unknown : (limit : ℕ) (w : Wal) (id : ℕ) → search_row id (open_rows w) ≡ None
+    → record { wal = w; due = None } ≡ mark_of limit w id
 unfolding mark_of
 mark_unknown limit w id e = rw e refl
 
-pub mark_known : (limit : ℕ) (w : Wal) (id i : ℕ) → search_row id (open_rows w) ≡ some i
+pub mark_known : (limit : ℕ) (w : Wal) (id i : ℕ) → search_row id (open_rows w) ≡ Some i
     → marked_done limit (without_row w i) id ≡ mark_of limit w id
 unfolding mark_of
 mark_known limit w id i e = rw e refl
@@ -187,7 +193,7 @@ without_any log rows rows' c c' i e = ap (λ v. state log v.table v.counters) e
 
 -- the log rewritten
 pub all_anew_lem : (w after : Wal) → after ≡ compacted w
-    → ◌≡◌ {A = DidMark} (record { wal = after; due = due.Ordered (Replace w.counters.live) }) (all_anew w)
+    → ◌≡◌ {A = DidMark} (record { wal = after; due = Some (Replace w.counters.live) }) (all_anew w)
 all_anew_lem w after a = rw a refl
 
 -- a line of n bytes behind the file
@@ -195,7 +201,7 @@ pub line_behind_lem : (w : Wal) (line : List ℕ) (n : ℕ) → n ≡ length lin
     → (log' : List ℕ) → log' ≡ write w.bytes w.counters.size line
     → ◌≡◌ {A = DidMark} (record {
       wal = state log' w.table c;
-      due = due.Ordered (Append w.counters.size (w.counters.size + n));
+      due = Some (Append w.counters.size (w.counters.size + n));
     }) (line_behind w line)
 unfolding extended
 line_behind_lem w line n e c g log' p = rw (g, p, e) refl
@@ -234,7 +240,8 @@ module _ (log : List ℕ) (rows : List (List ℕ)) (c : Counters) (id n i : ℕ)
   abbrev tried_counters : ℕ → Counters
   tried_counters live = record { next = c.next; live = live; size = c.size; dirty = c.dirty; count = c.count }
 
-  module _ (rest len : ℕ) (p : rest ≡ c.live - length (row_tries (get_or rows i []))) (e : len ≡ length (retry_line id n))
+  module _ (rest len : ℕ) (p : rest ≡ c.live - length (row_tries (get_or rows i []))) (e : len ≡ length
+      (retry_line id n))
     where
       tried_is : state log tried_rows (tried_counters (rest + len)) ≡ with_tried (state log rows c) id i n
       unfolding with_tried
@@ -245,7 +252,8 @@ module _ (log : List ℕ) (rows : List (List ℕ)) (c : Counters) (id n i : ℕ)
           → did ≡ retried_at (state log rows c) id n i
       unfolding retried_at with_tried
       retry_fits t did d =
-          let yes : leb (c.live - length (row_tries (get_or rows i [])) + length (retry_line id n)) (length log) ≡ true =
+          let yes : leb (c.live - length (row_tries (get_or rows i [])) + length (retry_line id n))
+          (length log) ≡ true =
           subst (λ k. leb k (length log) ≡ true) (rw (p, e) refl) t in
           d ∙ (ap (λ v. retry_written v id n) tried_is ∙ cc)
 
@@ -253,7 +261,8 @@ module _ (log : List ℕ) (rows : List (List ℕ)) (c : Counters) (id n i : ℕ)
           → nothing_due (state log rows c) ≡ retried_at (state log rows c) id n i
       unfolding retried_at with_tried
       retry_no_room t =
-          let no : leb (c.live - length (row_tries (get_or rows i [])) + length (retry_line id n)) (length log) ≡ false =
+          let no : leb (c.live - length (row_tries (get_or rows i [])) + length (retry_line id n))
+          (length log) ≡ false =
           subst (λ k. leb k (length log) ≡ false) (rw (p, e) refl) t in
           cc
 
@@ -262,40 +271,22 @@ module _ (w : Wal) (id n : ℕ) where
   unfolding retry_of
   retry_uncounted e = cc
 
-  pub retry_unknown : counts_tries n ≡ true → search_row id (open_rows w) ≡ none → nothing_due w ≡ retry_of w id n
+  pub retry_unknown : counts_tries n ≡ true → search_row id (open_rows w) ≡ None → nothing_due w ≡ retry_of w id n
   unfolding retry_of
   retry_unknown c e = cc
 
-  pub retry_known : (i : ℕ) → counts_tries n ≡ true → search_row id (open_rows w) ≡ some i
+  pub retry_known : (i : ℕ) → counts_tries n ≡ true → search_row id (open_rows w) ≡ Some i
       → retried_at w id n i ≡ retry_of w id n
   unfolding retry_of
   retry_known i c e = cc
 
--- whether a number can be told
-pub counts_none : counts_tries 0 ≡ false
-unfolding counts_tries
-counts_none = refl
-
+-- of a number that is not 0, only that it is at most the largest one is left to ask
 pub counts_most : (n : ℕ) → (n ≡ 0 → ⊥) → leb n ATTEMPTS ≡ counts_tries n
 unfolding counts_tries
 counts_most n above = cc (lt-ltb 0 n (omega arith))
 
--- sync
-pub sync_dirty : (c : Counters) → c.dirty ≡ true
-    → ◌≡◌ {A = AnsweredDue} (record {
-      counters = record {
-        next = c.next;
-        live = c.live;
-        size = c.size;
-        dirty = false;
-        count = c.count;
-      };
-      due = due.Ordered Flush;
-    }) (sync_log c)
-unfolding sync_log
-sync_dirty c e = rw e refl
-
-pub sync_clean : (c : Counters) → c.dirty ≡ false → ◌≡◌ {A = AnsweredDue} (record { counters = c; due = due.Nothing })
+-- sync where nothing is due
+pub sync_clean : (c : Counters) → c.dirty ≡ false → ◌≡◌ {A = AnsweredDue} (record { counters = c; due = None })
     (sync_log c)
 unfolding sync_log
 sync_clean c e = cc

@@ -4,7 +4,6 @@ pub mod Skipped
 pub mod Log
 pub mod Rewrite
 pub mod Opened
-pub mod Table
 pub mod Scan
 pub mod Recovery
 pub mod Stands

@@ -1,18 +1,13 @@
 -- The log's state, and what each call makes of it (docs/RULES.md, 2). Every definition is total: on any bytes, any
 -- table and any counters.
-use Rattle.std.specs.Prelude.{Bool, true, false, ◌&&◌, List, [], ◌∷◌, ◌++◌, ◌≡◌, ℕ, zero, suc, ◌+◌, ◌-◌, ◌*◌, ◌/◌, ◌^◌, ◌≤◌, ◌<◌, max, eqb, leb, ltb, length, take, get_or, set}
-use Rattle.std.proofs.Math.Option.{Option, none, some}
+use Rattle.std.specs.Prelude.{Bool, true, false, ◌&&◌, List, [], ◌∷◌, ◌++◌, ◌≡◌, ℕ, zero, suc, ◌+◌, ◌-◌, ◌*◌, ◌/◌, ◌^◌, ◌≤◌, ◌<◌, max, eqb, leb, ltb, length, take, get_or, set, Option, Some, None, Result, Ok, Err}
+use Rattle.message_log.specs.declared.Order.{Order}
 use Rattle.text.specs.Format.{Message, ATTEMPTS, untried, record_line, done_line, retry_line, attempts_line}
 use Rattle.text.specs.Bytes.{write, part}
 use Rattle.message_log.specs.declared.Counters.{Counters}
 use Rattle.message_log.specs.declared.Order.TheVariants.{Append, Replace, Flush}
 use Rattle.message_log.specs.declared.Refusal.{Refusal}
 use Rattle.message_log.specs.declared.Refusal.TheVariants.{Sizes, LastId, TooMuch, TooLong, Full, NoId, NoRoom}
-use Rattle.message_log.specs.declared.Answer.{Answer}
-use Rattle.message_log.specs.declared.Answer.TheVariants.{Ordered, Refused}
-use Rattle.message_log.specs.declared.Due.{Due}
-use Rattle.message_log.specs.declared.Due.TheVariants as due
-use Rattle.message_log.specs.declared.AnsweredDue.{AnsweredDue}
 use Rattle.message_log.specs.Opening.{fits}
 
 -- the number of each refusal (docs/RULES.md, 8; a full table: 256 messages are logged and live)
@@ -72,16 +67,21 @@ open_rows w = take w.counters.count w.table
 -- the log after an append, and the answer
 pub record DidAppend : Type 0 where
   pub wal : Wal
-  pub answer : Answer
+  pub answer : Result Order Refusal
 
 -- the log after a mark or a retry, and the order that is due
 pub record DidMark : Type 0 where
   pub wal : Wal
-  pub due : Due
+  pub due : Option Order
+
+-- the counters after a sync, and the order that is due
+pub record AnsweredDue : Type 0 where
+  pub counters : Counters
+  pub due : Option Order
 
 -- a refused append: the log is as it was, and the answer is the refusal
 abbrev pub turned_away : Wal → Refusal → DidAppend
-turned_away w r = record { wal = w; answer = Refused r }
+turned_away w r = record { wal = w; answer = Err r }
 
 -- the counters of a file that has n bytes more
 abbrev pub grown : Counters → ℕ → Counters
@@ -166,17 +166,17 @@ new_message w name body = untried w.counters.next name body
 -- would not fit
 unfoldable pub append_refusal : Wal → Message → Option Refusal
 append_refusal w m = elim (fits m) [
-  | false ↦ some TooLong
+  | false ↦ Some TooLong
   | true ↦
       elim (ltb w.counters.count (length w.table)) [
-        | false ↦ some Full
+        | false ↦ Some Full
         | true ↦
             elim (ltb w.counters.next (2 ^ 64 - 1)) [
-              | false ↦ some NoId
+              | false ↦ Some NoId
               | true ↦
                   elim (leb (w.counters.live + length (record_line m)) (length w.bytes)) [
-                    | false ↦ some NoRoom
-                    | true ↦ none
+                    | false ↦ Some NoRoom
+                    | true ↦ None
                   ]
             ]
       ]
@@ -188,18 +188,18 @@ unfoldable pub appended : Wal → Message → DidAppend
 appended w m = elim (leb (w.counters.size + length (record_line m)) (length w.bytes)) [
   | true ↦ record {
     wal = logged w m;
-    answer = Ordered (Append w.counters.size (w.counters.size + length (record_line m)));
+    answer = Ok (Append w.counters.size (w.counters.size + length (record_line m)));
   }
   | false ↦ record {
     wal = logged (compacted w) m;
-    answer = Ordered (Replace (w.counters.live + length (record_line m)));
+    answer = Ok (Replace (w.counters.live + length (record_line m)));
   }
 ]
 
 -- with no refusal the message is logged, else it is turned away with this one
 abbrev pub append_judged : Wal → Message → Option Refusal → DidAppend
-append_judged w m none = appended w m
-append_judged w m (some r) = turned_away w r
+append_judged w m None = appended w m
+append_judged w m (Some r) = turned_away w r
 
 -- Append: a message is logged under the next id, or turned away
 unfoldable pub append_of : Wal → List ℕ → List ℕ → DidAppend
@@ -214,8 +214,8 @@ pub record CanAppend (w : Wal) (m : Message) (len : ℕ) : Type 0 where
 
 -- the place of the first row of an id, of rows that begin at place i
 unfoldable pub find_row : ℕ → ℕ → List (List ℕ) → Option ℕ
-find_row i id [] = none
-find_row i id (r ∷ rs) = elim (eqb (row_id r) id) [ true ↦ some i | false ↦ find_row (suc i) id rs ]
+find_row i id [] = None
+find_row i id (r ∷ rs) = elim (eqb (row_id r) id) [ true ↦ Some i | false ↦ find_row (suc i) id rs ]
 
 -- the place in the middle of those from lo on and below hi
 abbrev pub middle : ℕ → ℕ → ℕ
@@ -224,12 +224,12 @@ middle lo hi = lo + (hi - lo) / 2
 -- the place of an id's row, from place lo on and below place hi, searched by halving in at most n turns: the row in
 -- the middle has the id, or the search goes on behind it if its id is smaller, and before it if not
 unfoldable pub halved : ℕ → ℕ → List (List ℕ) → ℕ → ℕ → Option ℕ
-halved zero id rs lo hi = none
+halved zero id rs lo hi = None
 halved (suc n) id rs lo hi = elim (ltb lo hi) [
-  | false ↦ none
+  | false ↦ None
   | true ↦
       elim (eqb (row_id (get_or rs (middle lo hi) [])) id) [
-        | true ↦ some (middle lo hi)
+        | true ↦ Some (middle lo hi)
         | false ↦
             elim (ltb (row_id (get_or rs (middle lo hi) [])) id) [
               | true ↦ halved n id rs (middle lo hi + 1) hi
@@ -269,12 +269,12 @@ with_done w id = w.counters.size + length (done_line id)
 abbrev pub line_behind : Wal → List ℕ → DidMark
 line_behind w line = record {
   wal = extended w line;
-  due = due.Ordered (Append w.counters.size (w.counters.size + length line));
+  due = Some (Append w.counters.size (w.counters.size + length line));
 }
 
 -- the log rewritten to its open records and their retry lines, and a replace by these, which are live, ordered
 abbrev pub all_anew : Wal → DidMark
-all_anew w = record { wal = compacted w; due = due.Ordered (Replace w.counters.live) }
+all_anew w = record { wal = compacted w; due = Some (Replace w.counters.live) }
 
 -- the row of the id is out already: its done line goes behind the file, as long as `keeps` allows it; else the log is
 -- rewritten to the records still open
@@ -286,13 +286,13 @@ marked_done compactAt w id = elim (keeps compactAt (length w.bytes) w.counters.l
 
 -- a log on which nothing is due
 abbrev pub nothing_due : Wal → DidMark
-nothing_due w = record { wal = w; due = due.Nothing }
+nothing_due w = record { wal = w; due = None }
 
 -- by the place of its row: an id without one changes nothing, and no order is due; else the row is taken out, and
 -- the id is done
 abbrev pub mark_found : ℕ → Wal → ℕ → Option ℕ → DidMark
-mark_found compactAt w id none = nothing_due w
-mark_found compactAt w id (some i) = marked_done compactAt (without_row w i) id
+mark_found compactAt w id None = nothing_due w
+mark_found compactAt w id (Some i) = marked_done compactAt (without_row w i) id
 
 -- Mark: an id that is not open does nothing; else its message is done
 unfoldable pub mark_of : ℕ → Wal → ℕ → DidMark
@@ -330,8 +330,8 @@ retried_at w id n i = elim (leb (with_tried w id i n).counters.live (length w.by
 
 -- by the place of its row: an id without one changes nothing, and no order is due
 abbrev pub retry_found : Wal → ℕ → ℕ → Option ℕ → DidMark
-retry_found w id n none = nothing_due w
-retry_found w id n (some i) = retried_at w id n i
+retry_found w id n None = nothing_due w
+retry_found w id n (Some i) = retried_at w id n i
 
 -- a retry line may say 1 to 255
 unfoldable pub counts_tries : ℕ → Bool
@@ -350,7 +350,7 @@ unfoldable pub sync_log : Counters → AnsweredDue
 sync_log c = elim c.dirty [
   | true ↦ record {
     counters = record { next = c.next; live = c.live; size = c.size; dirty = false; count = c.count };
-    due = due.Ordered Flush;
+    due = Some Flush;
   }
-  | false ↦ record { counters = c; due = due.Nothing }
+  | false ↦ record { counters = c; due = None }
 ]

@@ -1,12 +1,11 @@
 -- What the call that opens a log makes of the lent log, body store and tables.
-use Rattle.std.specs.Prelude.{Bool, true, false, ◌&&◌, List, [], ◌∷◌, map, ℕ, suc, ◌+◌, ◌*◌, eqb, leb, length, take}
+use Rattle.std.specs.Prelude.{Bool, true, false, ◌&&◌, List, [], ◌∷◌, map, ℕ, suc, ◌+◌, ◌*◌, eqb, leb, length, take, Ok, Err}
 use Rattle.text.specs.Format.{Message, record_line, message_lines}
 use Rattle.text.specs.Bytes.{write}
 use Rattle.message_log.specs.declared.Counters.{Counters}
 use Rattle.message_log.specs.declared.Order.TheVariants.{Replace}
 use Rattle.message_log.specs.declared.Refusal.{Refusal}
 use Rattle.message_log.specs.declared.Refusal.TheVariants.{Sizes}
-use Rattle.message_log.specs.declared.Answer.TheVariants.{Ordered, Refused}
 use Rattle.message_log.specs.declared.Answered.{Answered}
 use Rattle.message_log.specs.Opening.{Read, Opening, refused, opened, opening, image, RECORDS, NAME, ENTRY, STORE}
 use Rattle.message_log.specs.Log.{row}
@@ -57,7 +56,7 @@ closed_by log store table left r = record {
   store = store;
   table = table;
   left = left;
-  step = record { counters = no_counters; answer = Refused r };
+  step = record { counters = no_counters; answer = Err r };
 }
 
 -- accepted: the messages left stand in the store in id order, the log is written anew from them, and the order is a
@@ -76,7 +75,7 @@ opened_log_by log store table left r = record {
       dirty = false;
       count = length r.left;
     };
-    answer = Ordered (Replace (length (image r.left)));
+    answer = Ok (Replace (length (image r.left)));
   };
 }
 

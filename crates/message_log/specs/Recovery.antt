@@ -1,17 +1,13 @@
 -- What may be on the disk after a power cut, the moments of a list of calls, and what the next opening may then find
 -- (docs/RULES.md, 3).
-use Rattle.std.specs.Prelude.{◌≡◌, ◌⊎◌, ℕ, ◌-◌, ◌≤◌, length, take, drop}
-use Rattle.std.proofs.Math.Option.{Option, none, some}
+use Rattle.std.specs.Prelude.{◌≡◌, ◌⊎◌, ℕ, ◌-◌, ◌≤◌, length, take, drop, Option, Some, None, Result, Ok, Err}
+use Rattle.message_log.specs.declared.Refusal.{Refusal}
 use mathlib.Core.List.{List, [], ◌∷◌, ◌++◌, Memᴰ}
 use Rattle.text.specs.Format.{Message}
 use Rattle.text.specs.Bytes.{part}
 use Rattle.message_log.specs.declared.Order.{Order}
 use Rattle.message_log.specs.declared.Order.TheVariants.{Append, Replace, Flush}
-use Rattle.message_log.specs.declared.Answer.{Answer}
-use Rattle.message_log.specs.declared.Answer.TheVariants.{Ordered, Refused}
-use Rattle.message_log.specs.declared.Due.{Due}
-use Rattle.message_log.specs.declared.Due.TheVariants as due
-use Rattle.message_log.specs.declared.AnsweredDue.{AnsweredDue}
+use Rattle.message_log.specs.Log.{AnsweredDue}
 use Rattle.message_log.specs.Opening.{Read, remove, retried, RECORDS, STORE}
 use Rattle.message_log.specs.Log.{Wal, DidAppend, DidMark, new_message, append_of, mark_of, retry_of, sync_log}
 use Rattle.message_log.specs.Opened.{Opened, opened_log_by, open_log}
@@ -24,14 +20,14 @@ pub data LogCall : Type 0 where
   sync : LogCall
 
 -- the order of an answer, and the order that is due, if any
-abbrev pub order_of_answer : Answer → Option Order
-order_of_answer (Ordered o) = some o
-order_of_answer (Refused r) = none
+abbrev pub order_of_answer : Result Order Refusal → Option Order
+order_of_answer (Ok o) = Some o
+order_of_answer (Err r) = None
 
 -- the order that a mark, a retry or a sync has due; none where nothing is due
-abbrev pub ordered_due : Due → Option Order
-ordered_due (due.Ordered o) = some o
-ordered_due due.Nothing = none
+abbrev pub ordered_due : Option Order → Option Order
+ordered_due (Some o) = Some o
+ordered_due None = None
 
 -- the log after a call, and its order, if any
 pub record Called : Type 0 where
@@ -148,8 +144,8 @@ issue w wal now s = record {
 -- with an order: it goes out, with bytes of the log after the call, and its moment has the call's effect;
 -- without one only the log changes, to what the call left
 abbrev pub issued : LogWorld → LogCall → Wal → Option Order → LogWorld
-issued w c wal (some o) = issue w wal (call_effect w.wal c w.now) (sent wal.bytes o)
-issued w c wal none = record { wal = wal; disk = w.disk; moments = w.moments; now = w.now; firm = w.firm }
+issued w c wal (Some o) = issue w wal (call_effect w.wal c w.now) (sent wal.bytes o)
+issued w c wal None = record { wal = wal; disk = w.disk; moments = w.moments; now = w.now; firm = w.firm }
 
 -- a call made: the log is what it left, and if it has an order, that goes out and makes a moment
 unfoldable pub called : LogWorld → LogCall → Called → LogWorld
@@ -201,9 +197,9 @@ abbrev pub opened_wal : Opened → Wal
 opened_wal o = record { bytes = o.log; table = o.table; counters = o.step.counters }
 
 -- the disk after an opening: its replace waits, not yet answered; where it was refused nothing does
-abbrev pub status_of : List ℕ → Answer → Status
-status_of bytes (Ordered o) = waits (sent bytes o)
-status_of bytes (Refused r) = settled
+abbrev pub status_of : List ℕ → Result Order Refusal → Status
+status_of bytes (Ok o) = waits (sent bytes o)
+status_of bytes (Err r) = settled
 
 -- where a list of calls begins, after the opening of a file which left these messages: the file given counts as
 -- confirmed, the opening's replace is not yet answered, and the messages left are the first moment, the firm one

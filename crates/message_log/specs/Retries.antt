@@ -1,7 +1,6 @@
 -- Retry lines by example: files that have them, as one list, and calls that write them, as another; and the rule of
 -- writing in the order in which its tests are asked for.
-use Rattle.std.specs.Prelude.{◌≡◌, Bool, true, false, ◌&&◌, List, [], ◌∷◌, ◌++◌, map, ℕ, ◌+◌, ◌-◌, ◌≤◌, eqb, leb, length, drop, replicate}
-use Rattle.std.proofs.Math.Option.{Option, none, some}
+use Rattle.std.specs.Prelude.{◌≡◌, Bool, true, false, ◌&&◌, List, [], ◌∷◌, ◌++◌, map, ℕ, ◌+◌, ◌-◌, ◌≤◌, eqb, leb, length, drop, replicate, Option, Some, None}
 use Rattle.text.specs.Format.{TAB, Message, line, retry_line}
 use Rattle.text.specs.Bytes.{part}
 use Rattle.message_log.specs.declared.Order.{Order}
@@ -79,22 +78,22 @@ retry_files =
 
 -- the order of a call is this append, this replace, or none
 abbrev pub is_append : Option Order → ℕ → ℕ → Bool
-is_append (some (Append a b)) from to = eqb a from && eqb b to
-is_append (some (Replace n)) from to = false
-is_append (some Flush) from to = false
-is_append none from to = false
+is_append (Some (Append a b)) from to = eqb a from && eqb b to
+is_append (Some (Replace n)) from to = false
+is_append (Some Flush) from to = false
+is_append None from to = false
 
 -- the order is a replace by the first n bytes
 abbrev pub is_replace : Option Order → ℕ → Bool
-is_replace (some (Append a b)) n = false
-is_replace (some (Replace k)) n = eqb k n
-is_replace (some Flush) n = false
-is_replace none n = false
+is_replace (Some (Append a b)) n = false
+is_replace (Some (Replace k)) n = eqb k n
+is_replace (Some Flush) n = false
+is_replace None n = false
 
 -- there is no order
 abbrev pub is_none : Option Order → Bool
-is_none (some o) = false
-is_none none = true
+is_none (Some o) = false
+is_none None = true
 
 -- the log's size and live are these
 abbrev pub sizes : Wal → ℕ → ℕ → Bool

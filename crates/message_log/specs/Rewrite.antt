@@ -1,10 +1,12 @@
 -- The two halves of a rewrite in place: the records are packed one behind the other, then spread so that each retry
 -- line has its place behind its record.
-use Rattle.std.specs.Prelude.{true, false, List, [], ◌∷◌, ◌++◌, ℕ, ◌+◌, ◌≤◌}
+use Rattle.std.specs.Prelude.{true, false, List, [], ◌∷◌, ◌++◌, ℕ, ◌+◌, ◌≤◌, leb, Option, Some, None}
 use Rattle.text.specs.Bytes.{part}
-use Rattle.text.specs.declared.escape.Measure.{Measure}
-use Rattle.text.specs.declared.escape.Measure.TheVariants.{Len, Over}
 use Rattle.message_log.specs.Log.{row, row_id, row_at, row_len, row_tried, row_span, rewritable}
+
+-- where n bytes behind `size` bytes end, where they fit into a log of this length
+unfoldable pub end_behind : ℕ → ℕ → ℕ → Option ℕ
+end_behind size n long = elim (leb (size + n) long) [ true ↦ Some (size + n) | false ↦ None ]
 
 -- how long the rows' records and retry lines are together
 unfoldable pub rows_span : List (List ℕ) → ℕ
@@ -12,8 +14,8 @@ rows_span [] = 0
 rows_span (r ∷ rs) = row_span r + rows_span rs
 
 -- the length of what a rewrite writes, where the rows can be rewritten in a log of this length
-unfoldable pub image_len : ℕ → List (List ℕ) → Measure
-image_len long rs = elim (rewritable long 0 0 rs) [ true ↦ Len (rows_span rs) | false ↦ Over ]
+unfoldable pub image_len : ℕ → List (List ℕ) → Option ℕ
+image_len long rs = elim (rewritable long 0 0 rs) [ true ↦ Some (rows_span rs) | false ↦ None ]
 
 -- the rows stand one behind the other in a log of this length, from `start` on
 abbrev pub Packable : ℕ → ℕ → List (List ℕ) → Type 0

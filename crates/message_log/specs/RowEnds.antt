@@ -1,9 +1,9 @@
 -- The row ends 1 to 7 that are marked to be proved, as one list; the examples of the refusals that belong to the log,
 -- as another; and files that have ids in other spellings, as a third.
-use Rattle.std.specs.Prelude.{Bool, true, false, ◌&&◌, List, [], ◌∷◌, ◌++◌, ℕ, zero, suc, eqb, length, replicate}
+use Rattle.std.specs.Prelude.{Bool, true, false, ◌&&◌, List, [], ◌∷◌, ◌++◌, ℕ, zero, suc, eqb, length, replicate, Result, Ok, Err}
+use Rattle.message_log.specs.declared.Refusal.{Refusal}
+use Rattle.message_log.specs.declared.Order.{Order}
 use Rattle.text.specs.Format.{TAB, Message, untried, record_line, line, unescape}
-use Rattle.message_log.specs.declared.Answer.{Answer}
-use Rattle.message_log.specs.declared.Answer.TheVariants.{Ordered, Refused}
 use Rattle.message_log.specs.Opening.{Opening, refused, opened, opening, image}
 use Rattle.message_log.specs.Log.{Wal, log_number_of, append_of}
 use Rattle.message_log.specs.Recovery.{LogCall, append, mark, did_call}
@@ -31,9 +31,9 @@ refused_by (refused r) n = eqb (log_number_of r) n
 refused_by (opened r) n = false
 
 -- the append was refused, and with this number
-unfoldable pub turned_away_by : Answer → ℕ → Bool
-turned_away_by (Ordered o) n = false
-turned_away_by (Refused r) n = eqb (log_number_of r) n
+unfoldable pub turned_away_by : Result Order Refusal → ℕ → Bool
+turned_away_by (Ok o) n = false
+turned_away_by (Err r) n = eqb (log_number_of r) n
 
 -- a message with this id, name and body, not tried yet
 unfoldable pub message : ℕ → List ℕ → List ℕ → Message

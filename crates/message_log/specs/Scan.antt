@@ -1,26 +1,21 @@
 -- Reading a file with a table of rows (id, where its line begins, attempts): what the parts of the reader answer. Rows
 -- beyond the table's room are let go from the largest id on, and read in a later pass.
-use Rattle.std.specs.Prelude.{◌≡◌, Bool, true, false, ◌&&◌, List, [], ◌∷◌, ◌++◌, map, ℕ, suc, ◌+◌, ◌-◌, ◌*◌, ◌^◌, ◌≤◌, ◌<◌, max, eqb, leb, ltb, length, take, drop, get_or}
+use Rattle.std.specs.Prelude.{◌≡◌, Bool, true, false, ◌&&◌, List, [], ◌∷◌, ◌++◌, map, ℕ, suc, ◌+◌, ◌-◌, ◌*◌, ◌^◌, ◌≤◌}
+use Rattle.std.specs.Prelude.{◌<◌, max, eqb, leb, ltb, length, take, drop, get_or, Option, Some, None, Result, Ok}
+use Rattle.std.specs.Prelude.{Err}
 use Rattle.text.specs.Format.{Message}
-use Rattle.text.specs.Line.{Line, read_line, put, done, retry, other, name_of, body_of, line_at}
-use Rattle.text.specs.Bytes.{write, part}
-use Rattle.text.specs.declared.escape.Measure.{Measure}
+use Rattle.text.specs.Line.{Line, put, done, retry, other, name_of, body_of, line_at}
+use Rattle.text.specs.Bytes.{write}
 use Rattle.message_log.specs.declared.opening.Lengths.{Lengths}
 use Rattle.message_log.specs.declared.opening.Pass.{Pass}
-use Rattle.message_log.specs.declared.opening.Taken.{Taken}
-use Rattle.message_log.specs.declared.opening.Taken.TheVariants.{Next, Over}
-use Rattle.message_log.specs.declared.opening.Passing.{Passing}
-use Rattle.text.specs.declared.lines.Line as reader
-use Rattle.text.specs.declared.lines.Line.TheVariants.{At, End}
-use Rattle.message_log.specs.declared.opening.LeftRows.{LeftRows}
-use Rattle.message_log.specs.declared.opening.LeftRows.TheVariants.{NoNext, Many, Rows}
-use Rattle.message_log.specs.declared.opening.Decision.{Decision}
-use Rattle.message_log.specs.declared.opening.Decision.TheVariants.{Refuse, Accept}
+use Rattle.message_log.specs.declared.opening.Kept.{Kept}
+use Rattle.message_log.specs.declared.Refusal.{Refusal}
+use Rattle.message_log.specs.declared.Refusal.TheVariants.{Sizes, LastId as NoNext, TooMuch, TooLong, Full, NoId}
+use Rattle.message_log.specs.declared.Refusal.TheVariants.{NoRoom}
 use Rattle.message_log.specs.Opening.{read_file, all_fit, Rising, refused, opened, opening, image, RECORDS, NAME, BODY}
 use Rattle.message_log.specs.Opening.{ENTRY}
 use Rattle.message_log.specs.Log.{row, row_id, row_at, row_len, row_tried}
 use Rattle.message_log.specs.Opened.{rows_from}
-use Rattle.text.specs.declared.escape.Measure.TheVariants as measure
 
 -- the message of a row: its id and its attempts, with the name and body of the line where it begins
 abbrev pub row_message : List ℕ → List ℕ → Message
@@ -105,36 +100,9 @@ LastId other = ⊥
 
 -- what a line did to a pass: it goes on, changed as above, with no more rows than the table has; or it is over, and the
 -- line is a record with the last id
-abbrev pub TookLine : ℕ → Pass → List (List ℕ) → Line → ℕ → Taken → List (List ℕ) → Type 0
-TookLine lo p table l at (Next q) table' = (q.count ≤ length table') × TookNext lo p table l at q table'
-TookLine lo p table l at Over table' = LastId l
-
--- a pass that has read nothing yet, and whether one goes on after a line
-abbrev pub pass_begun : Passing
-pass_begun = record { taken = Next (record { count = 0; hi = 18446744073709551615; next = 0 }); on = true }
-
--- a pass goes on unless it is over
-abbrev pub going : Taken → Bool
-going (Next p) = true
-going Over = false
-
--- what the reader handed back can be taken in, and was
-abbrev pub CanTake : ℕ → List ℕ → List (List ℕ) → Taken → reader.Line → Type 0
-CanTake lo file table (Next p) (At a e) =
-    (p.count ≤ length table) × (0 < length table) × RowsRise lo (pass_rows p table) p.hi
-    × (a ≤ e) × (e ≤ length file)
-CanTake lo file table (Next p) End = Unit {0}
-CanTake lo file table Over (At a e) = Unit {0}
-CanTake lo file table Over End = Unit {0}
-
--- a line that the reader found was taken in, and the pass goes on unless it is over now; with no line left, or over
--- before, the pass stops as it is, and the table keeps its rows
-abbrev pub TookNextLine : ℕ → List ℕ → List (List ℕ) → Taken → reader.Line → Passing → List (List ℕ) → Type 0
-TookNextLine lo file table (Next p) (At a e) r table' =
-    TookLine lo p table (read_line (part file a e)) a r.taken table' × (r.on ≡ going r.taken)
-TookNextLine lo file table (Next p) End r table' = (r.taken ≡ Next p) × (r.on ≡ false) × (table' ≡ table)
-TookNextLine lo file table Over (At a e) r table' = (r.taken ≡ Over) × (r.on ≡ false) × (table' ≡ table)
-TookNextLine lo file table Over End r table' = (r.taken ≡ Over) × (r.on ≡ false) × (table' ≡ table)
+abbrev pub TookLine : ℕ → Pass → List (List ℕ) → Line → ℕ → Option Pass → List (List ℕ) → Type 0
+TookLine lo p table l at (Some q) table' = (q.count ≤ length table') × TookNext lo p table l at q table'
+TookLine lo p table l at None table' = LastId l
 
 -- the messages left by ids: below lo, the rows, and from hi on
 pub record Window (file : List ℕ) (lo hi : ℕ) (these : List (List ℕ)) : Type 0 where
@@ -153,33 +121,38 @@ pub record Passed (file : List ℕ) (lo : ℕ) (p : Pass) (table : List (List �
   pub window : Window file lo p.hi (pass_rows p table)
 
 -- one whole pass over the file, with the rows from lo on and the next id; or over, since that would be 2 ^ 64 or more
-abbrev pub Scanned : List ℕ → ℕ → Taken → List (List ℕ) → Type 0
-Scanned file lo (Next p) table = Passed file lo p table
-Scanned file lo Over table = 2 ^ 64 ≤ (read_file file).next
+abbrev pub Scanned : List ℕ → ℕ → Option Pass → List (List ℕ) → Type 0
+Scanned file lo (Some p) table = Passed file lo p table
+Scanned file lo None table = 2 ^ 64 ≤ (read_file file).next
 
--- the rows of all messages left, or that there are more than 256 of them, or that there is no next id
-pub record AllRows (file : List ℕ) (count next : ℕ) (table : List (List ℕ)) : Type 0 where
-  pub few : count ≤ RECORDS
-  pub next_is : next ≡ (read_file file).next
-  pub left_are : (read_file file).left ≡ row_messages file (take count table)
+-- the first rows are those of all messages left, at most 256, and the next id
+pub record AllRows (file : List ℕ) (kept : Kept) (table : List (List ℕ)) : Type 0 where
+  pub few : kept.count ≤ RECORDS
+  pub next_is : kept.next ≡ (read_file file).next
+  pub left_are : (read_file file).left ≡ row_messages file (take kept.count table)
 
--- by the answer: the next id would be 2 ^ 64 or more; or it is below, and more than 256 messages are left; or the first
--- `count` rows are those of all messages left, and `next` is the next id
-abbrev pub LeftIn : List ℕ → LeftRows → List (List ℕ) → Type 0
-LeftIn file NoNext table = 2 ^ 64 ≤ (read_file file).next
-LeftIn file Many table = ((read_file file).next < 2 ^ 64) × (RECORDS < length (read_file file).left)
-LeftIn file (Rows count next) table = AllRows file count next table
+-- by the answer: the rows of all messages left; or the next id would be 2 ^ 64 or more; or it is below, and more than
+-- 256 messages are left. No other refusal is given.
+abbrev pub LeftIn : List ℕ → Result Kept Refusal → List (List ℕ) → Type 0
+LeftIn file (Ok kept) table = AllRows file kept table
+LeftIn file (Err NoNext) table = 2 ^ 64 ≤ (read_file file).next
+LeftIn file (Err TooMuch) table = ((read_file file).next < 2 ^ 64) × (RECORDS < length (read_file file).left)
+LeftIn file (Err Sizes) table = ⊥
+LeftIn file (Err TooLong) table = ⊥
+LeftIn file (Err Full) table = ⊥
+LeftIn file (Err NoId) table = ⊥
+LeftIn file (Err NoRoom) table = ⊥
 
 -- what is decided before anything is written
-pub record Accepted (file : List ℕ) (count next : ℕ) (table : List (List ℕ)) : Type 0 where
-  pub rows : AllRows file count next table
+pub record Accepted (file : List ℕ) (kept : Kept) (table : List (List ℕ)) : Type 0 where
+  pub rows : AllRows file kept table
   pub fit : all_fit (read_file file).left ≡ true
   pub opens : opening file ≡ opened (read_file file)
 
 -- `opening` decides the same on the file: refused by the same refusal; or accepted, with the rows of all messages left
-abbrev pub Decided : List ℕ → Decision → List (List ℕ) → Type 0
-Decided file (Refuse r) table = opening file ≡ refused r
-Decided file (Accept count next) table = Accepted file count next table
+abbrev pub Decided : List ℕ → Result Kept Refusal → List (List ℕ) → Type 0
+Decided file (Ok kept) table = Accepted file kept table
+Decided file (Err r) table = opening file ≡ refused r
 
 -- whether the name and the body of a line are within the limits
 unfoldable pub fit_line : Line → Bool
@@ -212,11 +185,6 @@ pub record Imaged : Type 0 where
 abbrev pub imaged : List ℕ → List (List ℕ) → List Message → Imaged
 imaged log table ms =
     record { log = write log 0 (image ms); table = write table 0 (rows_from 0 ms); size = length (image ms) }
-
--- a measured length, 0 where there is none
-abbrev pub measured_len : Measure → ℕ
-measured_len (measure.Len n) = n
-measured_len measure.Over = 0
 
 -- the lengths of a name and a body
 abbrev pub lengths_of : List ℕ → List ℕ → Lengths

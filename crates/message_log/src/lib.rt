@@ -35,15 +35,16 @@ pub const ENTRY: usize = NAME + BODY;
 pub const STORE: usize = RECORDS * ENTRY;
 
 // The id under which a message is logged.
-#[derive(Clone, Copy)]
+#[derive(Clone, Copy, PartialEq, Eq, Debug)]
 pub struct LogId(pub u64);
 
 // A row of the open records, as it is lent: the id, where the record begins, its length, and its attempts.
+// Kept: it is four numbers, since the public calls take tables of these, and another type would ask callers for more.
 pub type RecordRow = [u64; 4];
 
 // The log's counters: the next id, the length of the open records and their retry lines, the file's length, whether a
 // record was appended since the last flush, and the number of open records.
-#[derive(Clone, Copy)]
+#[derive(Clone, Copy, PartialEq, Eq, Debug)]
 pub struct Counters {
     pub next: u64,
     pub live: usize,
@@ -60,57 +61,29 @@ pub enum Order {
     Flush,
 }
 
-// Why a call was turned away.
-#[derive(Drop)]
+// Why a call was turned away, with its number.
+#[derive(Clone, Copy, PartialEq, Eq, Debug)]
 pub enum Refusal {
-    Sizes,
-    LastId,
-    TooMuch,
-    TooLong,
-    Full,
-    NoId,
-    NoRoom,
+    Sizes = 2,
+    LastId = 3,
+    TooMuch = 4,
+    TooLong = 5,
+    Full = 8,
+    NoId = 9,
+    NoRoom = 10,
 }
 
-// What an opening or an append answers: its order, or why it was turned away.
-#[derive(Drop)]
-pub enum Answer {
-    Ordered(Order),
-    Refused(Refusal),
-}
-
-// What a mark, a retry or a sync has due: an order, or nothing. None of them is ever turned away.
-#[derive(Drop)]
-pub enum Due {
-    Ordered(Order),
-    Nothing,
-}
-
-// The counters after an opening or an append, and its answer.
+// The counters after an opening, and its answer.
+// Kept: the two stand side by side, since an opening that is refused also gives counters, all 0 (`closed_by`).
 #[derive(Drop)]
 pub struct Answered {
     pub counters: Counters,
-    pub answer: Answer,
-}
-
-// The counters after a mark, a retry or a sync, and the order that is due.
-#[derive(Drop)]
-pub struct AnsweredDue {
-    pub counters: Counters,
-    pub due: Due,
+    pub answer: Result<Order, Refusal>,
 }
 
 // The number of a refusal.
 pub fn number(r: Refusal) -> u64
     ensures { result ≡ log_number_of r }
 {
-    match r {
-        Refusal::Sizes => 2,
-        Refusal::LastId => 3,
-        Refusal::TooMuch => 4,
-        Refusal::TooLong => 5,
-        Refusal::Full => 8,
-        Refusal::NoId => 9,
-        Refusal::NoRoom => 10,
-    }
+    r as u64
 }

@@ -1,32 +1,26 @@
 // Rows of the table of open records: an id, where its record begins, the record's length, and its attempts. The first
 // `count` rows are in use.
+// Kept: the number of rows in use stands beside the table. Both are lent, and each call says what it does also where
+// the table has fewer rows (specs/Log); of a slice of the rows in use that could not be said.
 ghost use Rattle.std.specs.Prelude.{◌≡◌, ◌∷◌, ◌+◌, ◌≤◌, ◌<◌, length, take, set};
 ghost use Rattle.text.specs.Bytes.{write, part};
 ghost use Rattle.message_log.specs.Log.{row, search_row};
-ghost use Rattle.message_log.specs.Table.{found_of};
 
 use crate::RecordRow;
 
-#[derive(Drop)]
-pub enum Found {
-    At(usize),
-    Missing,
-}
-
 // The place of an id's row. Ids rise, so it is searched by halving: of 256 rows at most 9 are read.
-pub(crate) fn search_row(rows: &[RecordRow], count: usize, id: u64) -> Found
-    ensures { result ≡ found_of (search_row id (take count rows.now)) }
+// Kept: the library's `binary_search_by_key` halves in another way, so that on rows that do not rise it finds other
+// places than the definition `search_row`, by which `mark` and `retry` say what they do on any table.
+pub(crate) fn search_row(rows: &[RecordRow], count: usize, id: u64) -> Option<usize>
+    ensures { result ≡ search_row id (take count rows.now) }
 {
     let mut lo: usize = 0;
-    let mut hi = count;
-    if rows.len() < hi {
-        hi = rows.len();
-    }
+    let mut hi = count.min(rows.len());
     while lo < hi {
         let mid = lo + (hi - lo) / 2;
         let here = rows[mid][0];
         if here == id {
-            return Found::At(mid);
+            return Some(mid);
         }
         if here < id {
             lo = mid + 1;
@@ -34,16 +28,15 @@ pub(crate) fn search_row(rows: &[RecordRow], count: usize, id: u64) -> Found
             hi = mid;
         }
     }
-    Found::Missing
+    None
 }
 
 // A row stored, where there is one at that place.
 pub(crate) fn set_row(rows: &mut [RecordRow], i: usize, id: u64, at: usize, len: usize, tried: u64)
     ensures { rows.new ≡ set rows.old i (row id at len tried) }
 {
-    let r = [id, at as u64, len as u64, tried];
     if i < rows.len() {
-        rows[i] = r;
+        rows[i] = [id, at as u64, len as u64, tried];
     }
 }
 
@@ -51,19 +44,9 @@ pub(crate) fn set_row(rows: &mut [RecordRow], i: usize, id: u64, at: usize, len:
 pub(crate) fn close_row(rows: &mut [RecordRow], i: usize, count: usize)
     ensures { rows.new ≡ write rows.old i (part rows.old (i + 1) count) }
 {
-    if rows.len() <= i {
-        return;
-    }
-    let mut to = i;
-    let mut k = i + 1;
-    while k < count {
-        if rows.len() <= k {
-            return;
-        }
-        let r = rows[k];
-        rows[to] = r;
-        to = k;
-        k += 1;
+    let end = count.min(rows.len());
+    if i < end {
+        rows.copy_within(i + 1..end, i);
     }
 }
 
@@ -72,13 +55,6 @@ pub(crate) fn open_row(rows: &mut [RecordRow], i: usize, n: usize, row: RecordRo
     requires { (i ≤ n) × (n < length rows.old) }
     ensures { rows.new ≡ write rows.old i (row ∷ part rows.old i n) }
 {
-    let mut carry = row;
-    let mut j = i;
-    while j < n {
-        let r = rows[j];
-        rows[j] = carry;
-        carry = r;
-        j += 1;
-    }
-    rows[n] = carry;
+    rows.copy_within(i..n, i + 1);
+    rows[i] = row;
 }

@@ -3,7 +3,7 @@ use mathlib.Core.Path.{◌≡◌, refl, ap, sym, ◌∙◌}
 use mathlib.Core.Bool.{Bool, true, false}
 use mathlib.Core.List.{List, [], ◌∷◌, ◌++◌, append_assoc}
 use Prim.Native.Nat.{ℕ, zero, suc, ◌+◌, ◌-◌, ◌*◌, ◌/◌, ◌%◌, ◌≤◌, ◌<◌}
-use native.Mathlib.Nat.{div-add-mod, mod-lt, mul-zero, mul-suc, mul-le-mul_left}
+use native.Mathlib.Nat.{div-add-mod, mul-zero, mul-suc, mul-le-mul_left}
 use native.Mathlib.Numerals.{add-one}
 use native.Mathlib.Omega.{arith}
 use borrow.Author.Tests.{le-leb, lt-leb}
@@ -131,15 +131,6 @@ pub record GoingDown (width all : ℕ) (d₀ : List ℕ) (a to : ℕ) (d : List 
   pub long : length d ≡ length d₀
   pub rest : steps_down width (all - count) d (a + width * count) (to + width * count) ≡ steps_down width all d₀ a to
 
-pub going_down : (width all : ℕ) (d : List ℕ) (a to : ℕ) → to ≤ a → a + width * all ≤ length d
-    → GoingDown width all d a to d 0
-going_down width all d a to h l =
-    let z : width * 0 ≡ 0 = mul-zero width in
-    let x : a + width * 0 ≡ a = omega arith in
-    let y : to + width * 0 ≡ to = omega arith in
-    let w : all - 0 ≡ all = omega arith in
-    record { few = omega arith; low = h; room = l; long = refl; rest = rw (w, x, y) refl }
-
 module _ {width all : ℕ} {d₀ : List ℕ} {a to : ℕ} {d : List ℕ} {count : ℕ} (s : GoingDown width all d₀ a to d count)
   where
     -- the next step lies inside
@@ -194,12 +185,6 @@ pub record GoingUp (width all : ℕ) (d₀ : List ℕ) (a to : ℕ) (d : List �
   pub long : length d ≡ length d₀
   pub rest : steps_up width (all - count) d a to ≡ steps_up width all d₀ a to
 
-pub going_up : (width all : ℕ) (d : List ℕ) (a to : ℕ) → a ≤ to → to + width * all ≤ length d
-    → GoingUp width all d a to d 0
-going_up width all d a to h l =
-    let w : all - 0 ≡ all = omega arith in
-    record { few = omega arith; high = h; room = l; long = refl; rest = rw w refl }
-
 module _ {width all : ℕ} {d₀ : List ℕ} {a to : ℕ} {d : List ℕ} {count : ℕ} (s : GoingUp width all d₀ a to d count)
   where
     -- one more step is taken, of the last bytes that are left
@@ -234,20 +219,6 @@ module _ {width all : ℕ} {d₀ : List ℕ} {a to : ℕ} {d : List ℕ} {count 
     up_ends h =
         let z : all - count ≡ 0 = omega arith in
         sym (ap (λ k. steps_up width k d a to) z) ∙ s.rest
-
--- eight bytes more are left where a step of eight is left ..
-pub eight_left : (n count left : ℕ) → left ≡ n - 8 * count → 8 ≤ left → count < n / 8
-eight_left n count left e h =
-    let m : n % 8 < 8 = mod-lt n (omega arith) in
-    omega (arith, div-add-mod n 8)
-
--- .. and fewer where all are taken; what is left then are the single steps
-pub eights_taken : (n count left : ℕ) → left ≡ n - 8 * count → 8 * count ≤ n → left < 8
-    → (count ≡ n / 8) × (left ≡ n % 8)
-eights_taken n count left e l h =
-    let d : 8 * (n / 8) + n % 8 ≡ n = div-add-mod n 8 in
-    let m : n % 8 < 8 = mod-lt n (omega arith) in
-    (omega arith, omega arith)
 
 -- the byte behind a text is stored
 store_next : (d : List ℕ) (to k : ℕ) (x : List ℕ) (b : ℕ) → length x ≡ k → to + k < length d

@@ -2,6 +2,9 @@
 // It holds no state. `move_down` takes n bytes to a lower place, the first bytes first, and `move_up` to a higher one,
 // the last bytes first, so that the two places may overlap. A move takes n / 8 steps of eight bytes and n % 8 single
 // ones, and counts them as it goes. Where the bytes or their new place do not lie inside the slice, nothing is moved.
+// Kept: a place and a length go beside the slice, since the bytes and their new place overlap, and two slices of them
+// could not be lent at once.
+// Kept: each loop raises `count` at every step that it takes, so that its answer is what it counted.
 // The definitions are in specs/Moves. Steps of eight leave what single ones leave (`eights_are_singles`), so that a
 // move leaves what moving singly leaves, and what moving all bytes at once leaves (`down_as_singly`, `up_as_singly`;
 // proofs/MoveLaws).
@@ -18,7 +21,17 @@ pub struct Steps {
     pub singles: usize,
 }
 
+impl Steps {
+    // No step, as where a move is refused.
+    const NONE: Steps = Steps {
+        eights: 0,
+        singles: 0,
+    };
+}
+
 // One step of eight: all eight bytes are read before the first one is written.
+// Kept: the edits byte_7_read_from_6, seven_of_the_eight_stored and down_two_bytes_swapped change one of these lines
+// each, and a call of the library's `copy_within` has no such lines.
 fn move_eight(bytes: &mut [u8], from: usize, to: usize)
     requires { (from + 8 ≤ length bytes.old) × (to + 8 ≤ length bytes.old) }
     ensures { bytes.new ≡ moved_at_once bytes.old from 8 to }
@@ -48,10 +61,8 @@ fn eights_down(bytes: &mut [u8], from: usize, n: usize, to: usize) -> usize
     ensures count { result ≡ n / 8 }
 {
     let mut count: usize = 0;
-    let mut k: usize = 0;
-    while 8 <= n - k {
-        move_eight(bytes, from + k, to + k);
-        k += 8;
+    for k in 0..n / 8 {
+        move_eight(bytes, from + 8 * k, to + 8 * k);
         count += 1;
     }
     count
@@ -64,9 +75,8 @@ fn singles_down(bytes: &mut [u8], from: usize, n: usize, to: usize) -> usize
     ensures count { result ≡ n }
 {
     let mut count: usize = 0;
-    while count < n {
-        let b = bytes[from + count];
-        bytes[to + count] = b;
+    for k in 0..n {
+        bytes[to + k] = bytes[from + k];
         count += 1;
     }
     count
@@ -79,9 +89,8 @@ fn eights_up(bytes: &mut [u8], from: usize, n: usize, to: usize) -> usize
     ensures count { result ≡ n / 8 }
 {
     let mut count: usize = 0;
-    let mut left = n;
-    while 8 <= left {
-        left -= 8;
+    for k in (0..n / 8).rev() {
+        let left = 8 * k + n % 8;
         move_eight(bytes, from + left, to + left);
         count += 1;
     }
@@ -95,11 +104,8 @@ fn singles_up(bytes: &mut [u8], from: usize, n: usize, to: usize) -> usize
     ensures count { result ≡ n }
 {
     let mut count: usize = 0;
-    let mut left = n;
-    while 0 < left {
-        left -= 1;
-        let b = bytes[from + left];
-        bytes[to + left] = b;
+    for left in (0..n).rev() {
+        bytes[to + left] = bytes[from + left];
         count += 1;
     }
     count
@@ -107,26 +113,12 @@ fn singles_up(bytes: &mut [u8], from: usize, n: usize, to: usize) -> usize
 
 // n bytes moved down from `from` to `to`, and the steps that this took. Refused, with no step: a place above the
 // bytes, and bytes that do not lie inside the slice.
+#[tactic(auto, using(crate::proofs::MoveLaws::down_too_high, crate::proofs::MoveLaws::down_too_long))]
 pub fn move_down(bytes: &mut [u8], from: usize, n: usize, to: usize) -> Steps
     ensures { record { bytes = bytes.new; steps = result } ≡ move_down bytes.old from n to }
 {
-    if from < to {
-        return Steps {
-            eights: 0,
-            singles: 0,
-        };
-    }
-    if bytes.len() < from {
-        return Steps {
-            eights: 0,
-            singles: 0,
-        };
-    }
-    if bytes.len() - from < n {
-        return Steps {
-            eights: 0,
-            singles: 0,
-        };
+    if from < to || bytes.len() < from || bytes.len() - from < n {
+        return Steps::NONE;
     }
     let eights = eights_down(bytes, from, n, to);
     let done = 8 * eights;
@@ -136,26 +128,12 @@ pub fn move_down(bytes: &mut [u8], from: usize, n: usize, to: usize) -> Steps
 
 // n bytes moved up from `from` to `to`, and the steps that this took. Refused, with no step: a place below the bytes,
 // and one where they would not lie inside the slice.
+#[tactic(auto, using(crate::proofs::MoveLaws::up_too_low, crate::proofs::MoveLaws::up_too_long))]
 pub fn move_up(bytes: &mut [u8], from: usize, n: usize, to: usize) -> Steps
     ensures { record { bytes = bytes.new; steps = result } ≡ move_up bytes.old from n to }
 {
-    if to < from {
-        return Steps {
-            eights: 0,
-            singles: 0,
-        };
-    }
-    if bytes.len() < to {
-        return Steps {
-            eights: 0,
-            singles: 0,
-        };
-    }
-    if bytes.len() - to < n {
-        return Steps {
-            eights: 0,
-            singles: 0,
-        };
+    if to < from || bytes.len() < to || bytes.len() - to < n {
+        return Steps::NONE;
     }
     let eights = eights_up(bytes, from, n, to);
     let singles = singles_up(bytes, from, n % 8, to);

@@ -1,18 +1,40 @@
--- What the words of a place mean, by the kind of the place. Assumes nothing.
-use mathlib.Core.Path.{◌≡◌}
+-- What the words of a place mean, by whether it is at rest, a question or a point. Assumes nothing.
+use Rattle.std.proofs.Common.{◌≡◌, true, false, arith}
+use Rattle.points.specs.declared.at.At.{At}
 use Rattle.points.specs.declared.at.At.TheVariants as at
-use Rattle.points.specs.declared.words.AtKind.TheVariants as kind
+use Rattle.points.specs.declared.at.Ask.{Ask}
+use Rattle.points.specs.declared.at.Point.{Point}
+use Rattle.points.specs.declared.words.Place.{Place}
+use Rattle.points.specs.declared.words.Place.TheVariants as place
 use Rattle.points.specs.declared.words.Where.{Where}
-use Rattle.points.specs.Words.{at_kind_of, ask_of, point_of, at_of}
+use Rattle.points.specs.Words.{place_asks, place_runs, ask_of, point_of, at_by, at_of}
 
-pub at_rest : (w : Where) → at_kind_of w.place ≡ kind.Rest → at_of w ≡ at.Rest
+pub at_rest : (w : Where) → w.place ≡ place.Rest → at_of w ≡ at.Rest
 unfolding at_of
 at_rest w is = rw is
 
-pub at_asks : (w : Where) → at_kind_of w.place ≡ kind.Asks → at_of w ≡ at.Asks (ask_of w)
+pub at_asks : (w : Where) → place_asks w.place ≡ true → at_of w ≡ at.Asks (ask_of w)
 unfolding at_of
-at_asks w is = rw is
+at_asks w is = grind arith
 
-pub at_runs : (w : Where) → at_kind_of w.place ≡ kind.Runs → at_of w ≡ at.Runs (point_of w)
+pub at_runs : (w : Where) → place_runs w.place ≡ true → at_of w ≡ at.Runs (point_of w)
 unfolding at_of
-at_runs w is = rw is
+at_runs w is = grind arith
+
+-- a place that is no point is at rest or a question
+pub at_stays : {A : Type 0} (w : Where) (f : At → A) (a : A) → place_runs w.place ≡ false → f at.Rest ≡ a
+    → ((q : Ask) → f (at.Asks q) ≡ a) → f (at_of w) ≡ a
+unfolding at_of
+at_stays w f a is rests asks = by_place w.place is
+  where
+    by_place : (p : Place) → place_runs p ≡ false → f (at_by p w) ≡ a
+    by_place p e = grind (arith, rests, asks)
+
+-- a place that is no question is at rest or a point
+pub at_unasked : {A : Type 0} (w : Where) (f : At → A) (a : A) → place_asks w.place ≡ false → f at.Rest ≡ a
+    → ((p : Point) → f (at.Runs p) ≡ a) → f (at_of w) ≡ a
+unfolding at_of
+at_unasked w f a is rests runs = by_place w.place is
+  where
+    by_place : (p : Place) → place_asks p ≡ false → f (at_by p w) ≡ a
+    by_place p e = grind (arith, rests, runs)

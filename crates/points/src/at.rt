@@ -12,7 +12,6 @@ use actor::question::Who;
 use steps::eval::{EvalAsk, EvalWords};
 use steps::fixed::{FixedAsk, FixedWords};
 use steps::step::{End, Step};
-use steps::{eval, fixed};
 
 // The step under way: its actor, the tick's clock, and how many keys its group still has to pop after it.
 #[derive(Clone, Copy)]
@@ -112,25 +111,23 @@ pub fn ready_after(c: Cursor) -> Where
 }
 
 // A step of a fixed actor is at its next question, or ended.
+#[tactic(auto, unfolding(steps::specs::Words::fixed_next_of))]
 pub fn fixed_after(c: Cursor, next: FixedWords) -> Where
     ensures { at_of result ≡ fixed_after c (fixed_next_of next) }
 {
-    let ended = fixed::has_ended(next);
-    if ended {
-        let step = next.step;
-        return words::fixed_end(c, step);
+    match next.ask {
+        Some(ask) => words::fixed(c, ask),
+        None => words::fixed_end(c, next.step),
     }
-    words::fixed(c, next.ask)
 }
 
 // A step of an eval actor is at its next question, or ended.
+#[tactic(auto, unfolding(steps::specs::Words::eval_next_of))]
 pub fn eval_after(c: Cursor, next: EvalWords) -> Where
     ensures { at_of result ≡ eval_after c (eval_next_of next) }
 {
-    let ended = eval::has_ended(next);
-    if ended {
-        let step = next.step;
-        return words::eval_end(c, step);
+    match next.ask {
+        Some(ask) => words::eval(c, ask, next.outcome),
+        None => words::eval_end(c, next.step),
     }
-    words::eval(c, next.ask, next.outcome)
 }

@@ -1,8 +1,9 @@
 -- An admission that is logged, by what the log's words say. And an admission that its table lets through, as far as it
 -- needs nothing of the log, goes by what the log answers.
+use Rattle.std.specs.Prelude.{Option, Some, None, Err, Ok}
+use Rattle.message_log.specs.declared.Order.{Order}
 use mathlib.Core.Path.{◌≡◌, refl, sym, ap, ◌∙◌}
 use mathlib.Core.Bool.{Bool, true, false, false≢true, ◌||◌}
-use mathlib.Core.Option.{Option, some}
 use mathlib.Core.List.{List}
 use Prim.Native.Nat.{ℕ, ◌+◌, ◌-◌, ◌^◌, ◌≤◌}
 use lib.Dec.{ltb, leb}
@@ -10,74 +11,40 @@ use lib.ListN.{length}
 use borrow.Author.Tests.{ltb-false, le-leb}
 use Rattle.lists.specs.Links.{INBOX}
 use Rattle.text.specs.Format.{record_line}
-use Rattle.message_log.specs.declared.Due.{Due}
-use Rattle.message_log.specs.declared.Due.TheVariants as due
 use Rattle.message_log.specs.declared.Refusal as of-log
 use Rattle.message_log.specs.declared.Refusal.TheVariants as logged
 use Rattle.message_log.specs.Opening.{fits}
 use Rattle.message_log.specs.Log.{DidAppend, new_message, append_refusal, append_judged, append_of}
-use Rattle.actor.specs.declared.message.Caller.{Caller}
-use Rattle.actor.specs.declared.message.Caller.TheVariants as caller
 use Rattle.actor.specs.declared.message.CallerId.{CallerId}
-use Rattle.actor.specs.declared.message.Logged.TheVariants as id
-use Rattle.turn.specs.declared.state.OrderFor.TheVariants as orderFor
-use Rattle.turn.specs.State.{State, wal_of, with_pool, with_log, with_disk, disk_for}
-use Rattle.turn.specs.Words.{is_due}
-use Rattle.turn.specs.Logged.{append_answer}
+use Rattle.turn.specs.State.{State, wal_of, with_log}
 use Rattle.answers.specs.declared.answer.Refusal.{Refusal}
-use Rattle.answers.specs.declared.refusals.Check.TheVariants as check
 use Rattle.actor.specs.Entry.{Messages, keep_of}
-use Rattle.answers.specs.Answers.{Did, log_refusal, refused, shown, messages_in, with_messages, kept}
+use Rattle.answers.specs.Answers.{Did, log_refusal, refused, shown, messages_in, with_messages}
 use Rattle.answers.specs.Refusals.{judged, by_table, too_long, admit_refusals_first}
 use Rattle.answers.specs.Refusals.{admit_refusals_logged}
 use Rattle.answers.proofs.RefusalLaws.{first_refuses, first_fine, fine_clear}
-use Rattle.pool.specs.Admit.{next_id, recorded_in, recorded_by, admit_logged, admit_called, admit_of}
+use Rattle.pool.specs.Admit.{next_id, recorded, recorded_in, recorded_by, admit_logged, admit_called, admit_of}
 
 -- ---- by what the log answered
 
--- an order is due: the message is in the inbox, with its record ordered
-logged_ordered : (s : State) (name body : List ℕ) (d : DidAppend) (o : Due) (r : of-log.Refusal)
-    → d.answer ≡ append_answer o r → is_due o ≡ true
-    → shown
-    (kept
-    (with_log (with_pool s (with_disk s.pool d.wal.counters (disk_for o orderFor.Record))) d.wal.bytes
-    d.wal.table)
-    (record { name = name; body = body; caller = caller.Nobody; id = id.As (next_id s) })
-    INBOX)
-    ≡ recorded_by s name body d
-unfolding recorded_by is_due append_answer
-logged_ordered s name body d (due.Ordered o) r is ordered = ap (recorded_in s name body d) (sym is)
-logged_ordered s name body d due.Nothing r is ordered = absurd (false≢true ordered)
-
-pub logged_kept : (s : State) (name body : List ℕ) (d : DidAppend) (o : Due) (r : of-log.Refusal) (m : Messages)
-    → d.answer ≡ append_answer o r → is_due o ≡ true
+-- an order: the message is in the inbox, with its record ordered
+pub logged_kept : (s : State) (name body : List ℕ) (d : DidAppend) (o : Order) (m : Messages)
+    → d.answer ≡ Ok o
     → m
     ≡ keep_of (messages_in s)
-    (record { name = name; body = body; caller = caller.Nobody; id = id.As (next_id s) })
+    (record { name = name; body = body; caller = None; id = Some (next_id s) })
     INBOX
-    → shown
-    (with_messages
-    (with_log (with_pool s (with_disk s.pool d.wal.counters (disk_for o orderFor.Record))) d.wal.bytes
-    d.wal.table)
-    m)
-    ≡ recorded_by s name body d
-logged_kept s name body d o r m is ordered keeps =
-    ap
-    (λ (x : Messages). shown
-    (with_messages
-    (with_log (with_pool s (with_disk s.pool d.wal.counters (disk_for o orderFor.Record))) d.wal.bytes
-    d.wal.table)
-    x))
-    keeps
-    ∙ logged_ordered s name body d o r is ordered
+    → shown (with_messages (recorded s d o) m) ≡ recorded_by s name body d
+unfolding recorded_by
+logged_kept s name body d o m is keeps =
+    ap (λ (x : Messages). shown (with_messages (recorded s d o) x)) keeps ∙ ap (recorded_in s name body d) (sym is)
 
--- none is due: it is refused
-pub logged_refused : (s : State) (name body : List ℕ) (d : DidAppend) (o : Due) (r : of-log.Refusal)
-    → d.answer ≡ append_answer o r → is_due o ≡ false
+-- none: it is refused
+pub logged_refused : (s : State) (name body : List ℕ) (d : DidAppend) (r : of-log.Refusal)
+    → d.answer ≡ Err r
     → refused (with_log s d.wal.bytes d.wal.table) (log_refusal r) ≡ recorded_by s name body d
-unfolding recorded_by is_due append_answer
-logged_refused s name body d (due.Ordered o) r is none = absurd (false≢true (sym none))
-logged_refused s name body d due.Nothing r is none = ap (recorded_in s name body d) (sym is)
+unfolding recorded_by
+logged_refused s name body d r is = ap (recorded_in s name body d) (sym is)
 
 -- ---- by the table
 
@@ -96,27 +63,27 @@ module _ (s : State) (name body : List ℕ) (short : fits (new_message (wal_of s
   abbrev AsLogged : Type 0
   AsLogged =
       admit_logged s name body
-      ≡ by_table s (judged (admit_refusals_logged s name body caller.Nobody)) (admit_logged s name body)
+      ≡ by_table s (judged (admit_refusals_logged s name body None)) (admit_logged s name body)
 
   -- the log refuses: so does the admission
-  log_refuses : (r : of-log.Refusal) → append_refusal (wal_of s) (new_message (wal_of s) name body) ≡ some r
+  log_refuses : (r : of-log.Refusal) → append_refusal (wal_of s) (new_message (wal_of s) name body) ≡ Some r
       → admit_logged s name body ≡ refused s (log_refusal r)
   unfolding admit_logged recorded_by append_of
   log_refuses r says =
       ap (λ (x : Option of-log.Refusal). recorded_by s name body
       (append_judged (wal_of s) (new_message (wal_of s) name body) x)) says
 
-  says_full : has_row ≡ false → append_refusal (wal_of s) (new_message (wal_of s) name body) ≡ some logged.Full
+  says_full : has_row ≡ false → append_refusal (wal_of s) (new_message (wal_of s) name body) ≡ Some logged.Full
   unfolding append_refusal
   says_full row = cc (short, row)
 
   says_no_id : has_row ≡ true → has_id ≡ false
-      → append_refusal (wal_of s) (new_message (wal_of s) name body) ≡ some logged.NoId
+      → append_refusal (wal_of s) (new_message (wal_of s) name body) ≡ Some logged.NoId
   unfolding append_refusal
   says_no_id row id = cc (short, row, id)
 
   says_no_room : has_row ≡ true → has_id ≡ true → has_room ≡ false
-      → append_refusal (wal_of s) (new_message (wal_of s) name body) ≡ some logged.NoRoom
+      → append_refusal (wal_of s) (new_message (wal_of s) name body) ≡ Some logged.NoRoom
   unfolding append_refusal
   says_no_room row id room = cc (short, row, id, room)
 
@@ -161,7 +128,7 @@ short_both name body e = go (ltb 32 (length name)) refl e
     go false is e = (ltb-false 32 (length name) is, ltb-false 128 (length body) e)
 
 -- where no line of the first part holds, name and body are short enough for the log
-short_enough : (s : State) (name body : List ℕ) → judged (admit_refusals_first s name body) ≡ check.Fine
+short_enough : (s : State) (name body : List ℕ) → judged (admit_refusals_first s name body) ≡ Ok tt
     → fits (new_message (wal_of s) name body) ≡ true
 unfolding fits admit_refusals_first
 short_enough s name body says =
@@ -169,24 +136,24 @@ short_enough s name body says =
     simp (le-leb (length name) 32 short.0, le-leb (length body) 128 short.1)
 
 module _ (s : State) (name body : List ℕ) (did : Did) where
-  pub admit_refused : (who : Caller) (r : Refusal) → judged (admit_refusals_first s name body) ≡ check.Refuse r
+  pub admit_refused : (who : Option CallerId) (r : Refusal) → judged (admit_refusals_first s name body) ≡ Err r
       → did ≡ refused s r → did ≡ admit_of s name body who
   unfolding admit_of
   admit_refused who r says does =
       let table = first_refuses (admit_refusals_first s name body) (admit_refusals_logged s name body who) r says in
       rw table does
 
-  pub admit_called_lem : (who : CallerId) → judged (admit_refusals_first s name body) ≡ check.Fine
-      → did ≡ admit_called s name body who → did ≡ admit_of s name body (caller.From who)
+  pub admit_called_lem : (who : CallerId) → judged (admit_refusals_first s name body) ≡ Ok tt
+      → did ≡ admit_called s name body who → did ≡ admit_of s name body (Some who)
   unfolding admit_of admit_refusals_logged judged
   admit_called_lem who says does =
       let table =
-      first_fine (admit_refusals_first s name body) (admit_refusals_logged s name body (caller.From who)) says in
+      first_fine (admit_refusals_first s name body) (admit_refusals_logged s name body (Some who)) says in
       rw table does
 
-  pub admit_logged_lem : judged (admit_refusals_first s name body) ≡ check.Fine → did ≡ admit_logged s name body
-      → did ≡ admit_of s name body caller.Nobody
+  pub admit_logged_lem : judged (admit_refusals_first s name body) ≡ Ok tt → did ≡ admit_logged s name body
+      → did ≡ admit_of s name body None
   unfolding admit_of
   admit_logged_lem says does =
-      let table = first_fine (admit_refusals_first s name body) (admit_refusals_logged s name body caller.Nobody) says in
+      let table = first_fine (admit_refusals_first s name body) (admit_refusals_logged s name body None) says in
       rw table (does ∙ as_logged s name body (short_enough s name body says))

@@ -1,6 +1,9 @@
 -- Admission and routing mean one group: the group of a name given as bytes is the one that is found for the name in
 -- the entry of the body store where it was written. So a message that is kept for a loaded program is routed to a
 -- group that may have an actor, and one for any other program would not be. Assumes nothing.
+use Rattle.std.specs.Prelude.{Option, Some, None}
+use Rattle.message_log.specs.declared.LogId.{LogId}
+use Rattle.actor.specs.declared.message.CallerId.{CallerId}
 use mathlib.Core.Path.{◌≡◌, refl, sym, ap, ◌∙◌}
 use mathlib.Core.Bool.{true, false}
 use mathlib.Core.List.{List, []}
@@ -11,13 +14,8 @@ use lib.ListN.{length, drop, get_or}
 use lib.Seq.{get_or-take, get_or-drop}
 use borrow.Author.Tests.{ltb-true, lt-leb, lt-ltb}
 use Rattle.text.specs.Bytes.{part}
-use Rattle.lists.specs.declared.Found.TheVariants.{Entry}
 use Rattle.lists.specs.Links.{Table, FREE, first_of}
-use Rattle.actor.specs.declared.message.Caller.{Caller}
-use Rattle.actor.specs.declared.message.Logged.{Logged}
 use Rattle.actor.proofs.Back.{message_put}
-use Rattle.group.specs.declared.settings.Named.{Named}
-use Rattle.group.specs.declared.settings.Named.TheVariants as found
 use Rattle.group.specs.Settings.{group_at, agrees, named, by_name, has_name, group_named, may_run, loaded_in}
 use Rattle.actor.specs.Entry.{Messages, Arrival, store_entry, new_row, keep_at, keep_of}
 use Rattle.actor.proofs.Parts.{name_back}
@@ -70,20 +68,20 @@ one_group groups count store name body e long inside short =
 module _ (groups : Table) (count : ℕ) (name : List ℕ) where
   -- the group of a loaded program
   loaded_group : loaded_in groups name count ≡ true
-      → (g : ℕ) × ((group_named groups name count ≡ found.Group g) × (0 < (group_at groups g).ceiling))
+      → (g : ℕ) × ((group_named groups name count ≡ Some g) × (0 < (group_at groups g).ceiling))
   unfolding loaded_in
   loaded_group loaded = go (group_named groups name count) refl
     where
-      go : (n : Named) → group_named groups name count ≡ n
-          → (g : ℕ) × ((group_named groups name count ≡ found.Group g) × (0 < (group_at groups g).ceiling))
-      go (found.Group g) is =
+      go : (n : Option ℕ) → group_named groups name count ≡ n
+          → (g : ℕ) × ((group_named groups name count ≡ Some g) × (0 < (group_at groups g).ceiling))
+      go (Some g) is =
           (g, (is, ltb-true 0 (group_at groups g).ceiling (ap (may_run groups) (sym is) ∙ loaded)))
-      go found.Nothing is = let z : ◌≡◌ {A = ℕ} 0 1 = cc in absurd (omega arith)
+      go None is = let z : ◌≡◌ {A = ℕ} 0 1 = cc in absurd (omega arith)
 
   -- what is kept in the first free entry, for a program that is loaded, is routed to a group that may have an actor
-  pub kept_loaded : (m : Messages) (body : List ℕ) (who : Caller) (id : Logged) (to e : ℕ)
+  pub kept_loaded : (m : Messages) (body : List ℕ) (who : Option CallerId) (id : Option LogId) (to e : ℕ)
       → length m.store ≡ 40960 → length m.rows ≡ 256 → e < 256 → length name ≤ 32
-      → first_of m.links FREE ≡ Entry e → loaded_in groups name count ≡ true
+      → first_of m.links FREE ≡ Some e → loaded_in groups name count ≡ true
       → (let a : Arrival = record { name = name; body = body; caller = who; id = id } in
       LoadedAt groups count (keep_of m a to).store (keep_of m a to).rows e)
   unfolding keep_of keep_at

@@ -1,4 +1,5 @@
 -- An opening that its table lets through as far as it needs nothing of the file goes by what the log answers.
+use Rattle.std.specs.Prelude.{Some, Ok, Err}
 use mathlib.Core.Path.{◌≡◌, refl, ap, ◌∙◌}
 use mathlib.Core.Bool.{Bool, true, false, ◌&&◌}
 use mathlib.Core.List.{List}
@@ -14,7 +15,6 @@ use Rattle.message_log.specs.Opening as of-file
 use Rattle.message_log.specs.Opening.{read_file, all_fit, judge, opening}
 use Rattle.message_log.specs.Opened as log
 use Rattle.actor.specs.declared.question.Question.TheVariants as question
-use Rattle.actor.specs.declared.question.Asked.TheVariants as asked
 use Rattle.points.specs.declared.at.At.{At}
 use Rattle.settings.specs.Ranges.{groups_from}
 use Rattle.settings.specs.Tables.{LeftPlaced, put_left}
@@ -27,7 +27,6 @@ use Rattle.turn.specs.Asks.{asked_in}
 use Rattle.answers.specs.declared.answer.Answer.{Answer}
 use Rattle.answers.specs.declared.answer.Answer.TheVariants as answer
 use Rattle.answers.specs.declared.answer.Refusal.{Refusal}
-use Rattle.answers.specs.declared.refusals.Check.TheVariants as check
 use Rattle.answers.specs.Answers.{Did, log_refusal, refused}
 use Rattle.answers.specs.Refusals.{Lent, file_in, log_sized, judged, by_table, open_refusals_first, open_refusals_logged}
 use Rattle.answers.proofs.RefusalLaws.{first_refuses, first_fine}
@@ -41,7 +40,7 @@ pub filled : (f : FillFrom) (o : Order) (t : Tables) (groups links rows keys : T
     (put_left (start_from 0 (length t.links)) t.rows f.left 0 f.counters.count)
     → keys ≡ replicate (length t.keys) blank_row
     → p ≡ new_pool (limits_from f.settings (length f.given)) f.counters (disk.Waits o orderFor.Nothing)
-    → a ≡ answer.Open (asked.Open (question.Store o))
+    → a ≡ answer.Open (Some (question.Store o))
     → ◌≡◌ {A = PoolFilled}
     (record { groups = groups; links = links; rows = rows; keys = keys; pool = p; answer = a })
     (filled_by f o t)
@@ -51,7 +50,7 @@ filled f o t groups links rows keys p a by-groups by_left by-keys by-pool by_ans
 
 -- the order that waits is what is open
 pub store_open : (d : Disk) (a : At) (links rows : Table) (o : Order) (w : OrderFor) → d ≡ disk.Waits o w
-    → asked_in d a links rows ≡ asked.Open (question.Store o)
+    → asked_in d a links rows ≡ Some (question.Store o)
 unfolding asked_in
 store_open d a links rows o w is = rw is
 
@@ -133,12 +132,12 @@ module _ (l : Lent) where
       by_size false e = not_sized e
 
 module _ (l : Lent) (did : Did) where
-  pub open_refused : (r : Refusal) → judged (open_refusals_first l) ≡ check.Refuse r → did ≡ refused (unopened l) r
+  pub open_refused : (r : Refusal) → judged (open_refusals_first l) ≡ Err r → did ≡ refused (unopened l) r
       → did ≡ open_of l
   unfolding open_of
   open_refused r says does = rw (first_refuses (open_refusals_first l) (open_refusals_logged l) r says) does
 
-  pub open_effect_lem : judged (open_refusals_first l) ≡ check.Fine → did ≡ open_effect l → did ≡ open_of l
+  pub open_effect_lem : judged (open_refusals_first l) ≡ Ok tt → did ≡ open_effect l → did ≡ open_of l
   unfolding open_of
   open_effect_lem says does =
       rw (first_fine (open_refusals_first l) (open_refusals_logged l) says) (does ∙ as_opened l)

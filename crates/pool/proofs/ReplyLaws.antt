@@ -1,56 +1,47 @@
 -- A reply by where the turn stands; and one that is no order's: a message that was sent, or the answer to the turn's
 -- question.
-use mathlib.Core.Path.{◌≡◌, sym, ap, ◌∙◌}
+use Rattle.std.specs.Prelude.{Ok}
+use mathlib.Core.Path.{◌≡◌, refl, sym, ap, ◌∙◌}
 use mathlib.Core.Bool.{true, false}
 use mathlib.Core.List.{List}
 use Prim.Native.Nat.{ℕ}
 use Rattle.actor.specs.declared.question.Reply.{Reply}
+use Rattle.actor.specs.declared.question.Reply.TheVariants as reply
 use Rattle.points.specs.declared.at.At.{At}
 use Rattle.points.specs.declared.at.At.TheVariants as at
 use Rattle.points.specs.declared.at.Ask.{Ask}
-use Rattle.points.specs.declared.at.Point.{Point}
-use Rattle.turn.specs.declared.state.Disk.TheVariants as disk
-use Rattle.turn.specs.State.{Pool, State, with_pool, with_disk}
+use Rattle.points.specs.declared.words.Where.{Where}
+use Rattle.points.specs.Words.{place_asks, at_of}
+use Rattle.points.proofs.WordLaws.{at_unasked}
+use Rattle.turn.specs.State.{Pool, State, with_pool}
 use Rattle.turn.specs.Resume.{resume_of}
-use Rattle.answers.specs.declared.refusals.Check.TheVariants as check
-use Rattle.answers.specs.Answers.{Did, shown}
-use Rattle.answers.specs.Refusals.{judged, in_turn, is_message, turn_refusals}
-use Rattle.pool.specs.declared.calls.StoredIn.TheVariants as stored
+use Rattle.answers.specs.Answers.{Did}
+use Rattle.answers.specs.Refusals.{judged, is_message, turn_refusals}
+use Rattle.pool.specs.Stored as stored
 use Rattle.pool.specs.Calls.{begun_turn, turn_of, stored_in, stored_of, failed_of, collect_send, resume_in, resume_at}
 use Rattle.pool.specs.Calls.{resumed_of}
 use Rattle.pool.specs.Calls.{reply_effect}
 use Rattle.pool.specs.Run.{run_of}
 
--- ---- a turn begins, or goes on once its order is stored
+-- ---- a turn begins
 
-pub turn_runs : (s : State) (p : Pool) (did : Did) → judged (turn_refusals s.pool) ≡ check.Fine
+pub turn_runs : (s : State) (p : Pool) (did : Did) → judged (turn_refusals s.pool) ≡ Ok tt
     → p ≡ begun_turn s.pool → did ≡ run_of (with_pool s p) → did ≡ turn_of s
 unfolding turn_of
 turn_runs s p did fine begun runs = rw fine (runs ∙ ap (λ (q : Pool). run_of (with_pool s q)) begun)
 
-module _ (s : State) (p : Pool) (did : Did) (free : p ≡ with_disk s.pool s.pool.turn.counters disk.Free) where
-  pub stored_runs : in_turn s.pool.turn.at ≡ true → did ≡ run_of (with_pool s p) → did ≡ stored_of s
-  unfolding stored_of
-  stored_runs during runs = rw during (runs ∙ ap (λ (q : Pool). run_of (with_pool s q)) free)
-
-  pub stored_shows : in_turn s.pool.turn.at ≡ false → did ≡ shown (with_pool s p) → did ≡ stored_of s
-  unfolding stored_of
-  stored_shows rests shows = rw rests (shows ∙ ap (λ (q : Pool). shown (with_pool s q)) free)
-
 -- ---- where a reply finds the turn
 
 -- where nothing is asked the state is as it was
-pub resume_rests : (s : State) (r : Reply) → s.pool.turn.at ≡ at.Rest → s ≡ resume_at s r
+pub resume_unasked : (s : State) (w : Where) (r : Reply) → s.pool.turn.at ≡ at_of w → place_asks w.place ≡ false
+    → s ≡ resume_at s r
 unfolding resume_at
-resume_rests s r is = ap (λ (a : At). resume_in s a r) (sym is)
+resume_unasked s w r is none =
+    sym (ap (λ (a : At). resume_in s a r) is ∙ at_unasked w (λ (a : At). resume_in s a r) s none refl (λ p. refl))
 
 pub resume_asks : (s : State) (a : Ask) (r : Reply) → s.pool.turn.at ≡ at.Asks a → resume_of s a r ≡ resume_at s r
 unfolding resume_at
 resume_asks s a r is = ap (λ (a : At). resume_in s a r) (sym is)
-
-pub resume_runs : (s : State) (p : Point) (r : Reply) → s.pool.turn.at ≡ at.Runs p → s ≡ resume_at s r
-unfolding resume_at
-resume_runs s p r is = ap (λ (a : At). resume_in s a r) (sym is)
 
 -- ---- what a reply is
 
@@ -71,3 +62,17 @@ module _ (s : State) (r : Reply) (name body : List ℕ) (did : Did) (other : sto
   pub resumes : is_message r ≡ false → did ≡ resumed_of s r → did ≡ reply_effect s r name body
   unfolding reply_effect
   resumes message does = rw (other, message) does
+
+-- a reply that is not to an order, and no message that was sent
+pub answers_turn : (r : Reply) → (r ≡ reply.Stored → ⊥) → (r ≡ reply.Failed → ⊥) → (r ≡ reply.Message → ⊥)
+    → (stored_in r ≡ stored.Other) × (is_message r ≡ false)
+answers_turn reply.Yes a b c = (refl, refl)
+answers_turn reply.No a b c = (refl, refl)
+answers_turn (reply.Clock ns) a b c = (refl, refl)
+answers_turn (reply.Count n) a b c = (refl, refl)
+answers_turn (reply.Ran s) a b c = (refl, refl)
+answers_turn reply.Message a b c = absurd (c refl)
+answers_turn reply.End a b c = (refl, refl)
+answers_turn reply.Told a b c = (refl, refl)
+answers_turn reply.Stored a b c = absurd (a refl)
+answers_turn reply.Failed a b c = absurd (b refl)

@@ -1,12 +1,9 @@
 -- Turn, reply, sync and close: refused by its table (crates/answers/specs/Refusals), or with its effect.
-use Rattle.std.specs.Prelude.{Bool, true, false, List, ℕ}
+use Rattle.std.specs.Prelude.{Bool, true, false, List, ℕ, Option, Some, None}
+use Rattle.message_log.specs.declared.Order.{Order}
 use Rattle.lists.specs.Links.{pick, PENDING, ENTRIES}
-use Rattle.message_log.specs.declared.Due.{Due}
-use Rattle.message_log.specs.declared.Due.TheVariants as due
-use Rattle.message_log.specs.declared.AnsweredDue.{AnsweredDue}
+use Rattle.message_log.specs.Log.{AnsweredDue}
 use Rattle.message_log.specs.Log as log
-use Rattle.actor.specs.declared.message.Caller.TheVariants as caller
-use Rattle.actor.specs.declared.message.Logged.TheVariants as id
 use Rattle.actor.specs.declared.question.Reply.{Reply}
 use Rattle.actor.specs.declared.question.Reply.TheVariants as reply
 use Rattle.points.specs.declared.at.At.{At}
@@ -19,8 +16,8 @@ use Rattle.turn.specs.Resume.{resume_of}
 use Rattle.answers.specs.Answers.{Did, shown, kept}
 use Rattle.answers.specs.Refusals.{judged, by_table, in_turn, is_message, turn_refusals, reply_refusals, sync_refusals}
 use Rattle.answers.specs.Refusals.{close_refusals}
-use Rattle.pool.specs.declared.calls.StoredIn.{StoredIn}
-use Rattle.pool.specs.declared.calls.StoredIn.TheVariants as stored
+use Rattle.pool.specs.Stored.{StoredIn}
+use Rattle.pool.specs.Stored as stored
 use Rattle.pool.specs.Run.{run_of}
 
 -- ---- turn
@@ -68,7 +65,7 @@ failed_of s = shown (with_pool s (with_disk s.pool s.pool.turn.counters disk.Fai
 -- a message that was sent goes to pending's end, not logged, and Sends is asked again
 unfoldable pub collect_send : State → List ℕ → List ℕ → Did
 collect_send s name body =
-    shown (kept s (record { name = name; body = body; caller = caller.Nobody; id = id.Never }) PENDING)
+    shown (kept s (record { name = name; body = body; caller = None; id = None }) PENDING)
 
 -- the turn's question is answered, where one is open
 abbrev pub resume_in : State → At → Reply → State
@@ -101,9 +98,9 @@ reply_of s r name body = by_table s (judged (reply_refusals s r name body)) (rep
 -- ---- sync, close
 
 -- an order that is due waits, and the log's counters are new; with none due the pool is as it was
-abbrev pub synced_in : Pool → AnsweredDue → Due → Pool
-synced_in p d (due.Ordered o) = with_disk p d.counters (disk.Waits o orderFor.Nothing)
-synced_in p d due.Nothing = p
+abbrev pub synced_in : Pool → AnsweredDue → Option Order → Pool
+synced_in p d (Some o) = with_disk p d.counters (disk.Waits o orderFor.Nothing)
+synced_in p d None = p
 
 -- a flush waits, if one was due
 unfoldable pub synced_by : Pool → AnsweredDue → Pool

@@ -1,10 +1,9 @@
 -- What an admission and the routing of its message have in common: they mean one group. The theorem is `one_group`, in
 -- proofs/Names.antt; crates/theorem/specs/Rail says of every admission that it goes by this.
-use Rattle.std.specs.Prelude.{◌≡◌, List, ℕ, ◌≤◌, ◌<◌, length}
+use Rattle.std.specs.Prelude.{◌≡◌, List, ℕ, ◌≤◌, ◌<◌, length, Some}
 use Rattle.message_log.specs.Opening.{NAME, STORE}
 use Rattle.lists.specs.Links.{Table, ENTRIES}
 use Rattle.actor.specs.Messages.{message_at}
-use Rattle.group.specs.declared.settings.Named.TheVariants.{Group}
 use Rattle.group.specs.Settings.{group_at, by_name, group_named}
 use Rattle.actor.specs.Entry.{store_entry}
 
@@ -18,7 +17,7 @@ OneGroup = (groups : Table) (count : ℕ) (store name body : List ℕ) (e : ℕ)
 -- routing finds a group for the message of an entry, whose name has len bytes, and this group may have an actor
 pub record Routes (groups : Table) (count : ℕ) (store : List ℕ) (e len : ℕ) : Type 0 where
   pub group : ℕ
-  pub found : by_name groups store e len count ≡ Group group
+  pub found : by_name groups store e len count ≡ Some group
   pub ceiling : 0 < (group_at groups group).ceiling
 
 -- the message of an entry is for a program that is loaded

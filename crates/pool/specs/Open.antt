@@ -1,16 +1,14 @@
 -- An opening: refused by its table (crates/answers/specs/Refusals); else the tables at the start, the messages left in
 -- pending in rising id order, and the order of a replace.
-use Rattle.std.specs.Prelude.{[], ◌∷◌, ℕ, length, replicate}
+use Rattle.std.specs.Prelude.{[], ◌∷◌, ℕ, length, replicate, Some, Ok, Err, Result}
 use Rattle.lists.specs.Links.{Table, start_from}
 use Rattle.lists.specs.KeyLists.{blank_row}
 use Rattle.message_log.specs.declared.Counters.{Counters}
 use Rattle.message_log.specs.declared.Order.{Order}
-use Rattle.message_log.specs.declared.Answer as of-log
-use Rattle.message_log.specs.declared.Answer.TheVariants as logged
+use Rattle.message_log.specs.declared.Refusal as of-log
 use Rattle.message_log.specs.Opened as log
 use Rattle.message_log.specs.Opening.{RECORDS}
 use Rattle.actor.specs.declared.question.Question.TheVariants as question
-use Rattle.actor.specs.declared.question.Asked.TheVariants as asked
 use Rattle.settings.specs.declared.ranges.Settings.{Settings}
 use Rattle.settings.specs.Ranges.{groups_from}
 use Rattle.settings.specs.Tables.{LeftPlaced, put_left}
@@ -70,7 +68,7 @@ filled_with f o t p = record {
   rows = p.rows;
   keys = replicate (length t.keys) blank_row;
   pool = new_pool (limits_from f.settings (length f.given)) f.counters (disk.Waits o orderFor.Nothing);
-  answer = answer.Open (asked.Open (question.Store o));
+  answer = answer.Open (Some (question.Store o));
 }
 
 -- lists with every entry free at first; then the messages left, as many as records are open, go to pending
@@ -143,9 +141,9 @@ left_alone l o = record {
 }
 
 -- by what the log answered
-abbrev pub opened_in : Lent → log.Opened → of-log.Answer → Did
-opened_in l o (logged.Ordered order) = opened_with l o (filled_by (fill_from l o) order (tables_in l))
-opened_in l o (logged.Refused r) = refused (left_alone l o) (log_refusal r)
+abbrev pub opened_in : Lent → log.Opened → Result Order of-log.Refusal → Did
+opened_in l o (Ok order) = opened_with l o (filled_by (fill_from l o) order (tables_in l))
+opened_in l o (Err r) = refused (left_alone l o) (log_refusal r)
 
 -- the log was asked to open: the tables are filled and its replace is open, or the opening is refused
 unfoldable pub opened_by : Lent → log.Opened → Did

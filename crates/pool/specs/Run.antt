@@ -1,14 +1,23 @@
 -- A turn runs on. It ends with busy (an actor was stepped, or pending is not empty) and waiters (some waiting list is
 -- not empty).
-use Rattle.std.specs.Prelude.{Bool, true, false, ℕ, zero, suc, ltb}
+use Rattle.std.specs.Prelude.{Bool, true, false, ℕ, zero, suc, ltb, Result}
 use Rattle.lists.specs.Links.{pick, Table, len_of, PENDING}
 use Rattle.lists.specs.KeyLists.{keys_at, count_of}
 use Rattle.group.specs.Roster.{waiting_row}
+use Rattle.turn.specs.declared.state.Rail.{Rail}
+use Rattle.turn.specs.Words.{pool_of}
+use Rattle.turn.specs.Rail.{state_in}
 use Rattle.turn.specs.State.{Counts, State}
 use Rattle.turn.specs.Step.{advanced}
+use Rattle.answers.specs.declared.answer.Refusal.{Refusal}
+use Rattle.answers.specs.declared.answer.Accepted.{Accepted}
 use Rattle.answers.specs.declared.answer.Answer.TheVariants as answer
-use Rattle.answers.specs.Answers.{Did, shown}
+use Rattle.answers.specs.Answers.{Did, shown, answer_of}
 use Rattle.answers.specs.Refusals.{in_turn}
+
+-- the state that a call left in its hands, and its answer
+abbrev pub did_in : Rail → Result Accepted Refusal → Did
+did_in t c = record { state = state_in t; answer = answer_of c (pool_of t.pool.now) t.links.now t.rows.now }
 
 -- some waiting list of the first n groups is not empty
 unfoldable pub waiters_from : Table → ℕ → Bool

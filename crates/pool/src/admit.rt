@@ -7,15 +7,15 @@ ghost use Rattle.answers.specs.Answers.{answer_of};
 ghost use Rattle.pool.specs.Admit.{admit_logged, admit_called, admit_of};
 
 use actor::entry;
-use actor::message::{Caller, CallerId, Logged, MessageRow};
-use answers::answer::Called;
-use answers::refusals::Check;
-use answers::{answer, refusals};
+use actor::entry::Arrival;
+use actor::message::{CallerId, MessageRow};
+use answers::answer::{Accepted, Called};
+use answers::refusals;
 use group::settings::GroupRow;
 use lists::LinkRow;
-use message_log::{LogId, RecordRow};
-use turn::state::PoolCells;
-use turn::{logged, state};
+use message_log::{LogId, RecordRow, wal};
+use turn::state;
+use turn::state::{PoolCells, What};
 
 // Logged under the next id, then in the inbox; or refused by the log.
 fn admit_logged(
@@ -57,30 +57,18 @@ fn admit_logged(
         })
         name.now body.now }
 {
-    let before = state::counters(pool);
-    let id = LogId(before.next);
-    let a = logged::append(log, records, before, name, body);
-    let due = a.due;
-    let some = state::is_due(due);
-    if some {
-        entry::keep(
-            store,
-            links,
-            rows,
-            name,
-            body,
-            Caller::Nobody,
-            Logged::As(id),
-            lists::INBOX,
-        );
-        let counters = a.counters;
-        let disk = state::waiting(due, state::RECORD, 0);
-        state::set_log(pool, counters, disk);
-        return answer::shown_now();
-    }
-    let refusal = a.refusal;
-    let r = answer::log_refusal(refusal);
-    answer::refused(r)
+    let mut counters = state::counters(pool);
+    let id = LogId(counters.next);
+    let order = wal::append(&mut counters, log, records, name, body)?;
+    let message = Arrival {
+        name,
+        body,
+        caller: None,
+        id: Some(id),
+    };
+    entry::keep(store, links, rows, message, lists::INBOX);
+    state::set_log(pool, counters, state::waits(order, What::Record, 0));
+    Ok(Accepted::Open)
 }
 
 // A caller's message is not logged.
@@ -122,17 +110,14 @@ fn admit_called(
         })
         name.now body.now caller }
 {
-    entry::keep(
-        store,
-        links,
-        rows,
+    let message = Arrival {
         name,
         body,
-        Caller::From(caller),
-        Logged::Never,
-        lists::INBOX,
-    );
-    answer::shown_now()
+        caller: Some(caller),
+        id: None,
+    };
+    entry::keep(store, links, rows, message, lists::INBOX);
+    Ok(Accepted::Open)
 }
 
 // A message for the program of a group.
@@ -146,7 +131,7 @@ pub fn admit(
     rows: &mut [MessageRow],
     name: &[u8],
     body: &[u8],
-    caller: Caller,
+    caller: Option<CallerId>,
 ) -> Called
     ensures { (keys actors : Table) →
         record {
@@ -177,14 +162,9 @@ pub fn admit(
         })
         name.now body.now caller }
 {
-    let check = refusals::admit_check(pool, groups, links, name, body);
-    match check {
-        Check::Refuse(r) => answer::refused(r),
-        Check::Fine => {
-            match caller {
-                Caller::From(who) => admit_called(pool, store, links, rows, name, body, who),
-                Caller::Nobody => admit_logged(pool, log, records, store, links, rows, name, body),
-            }
-        }
+    refusals::admit_check(pool, groups, links, name, body)?;
+    match caller {
+        Some(who) => admit_called(pool, store, links, rows, name, body, who),
+        None => admit_logged(pool, log, records, store, links, rows, name, body),
     }
 }

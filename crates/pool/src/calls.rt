@@ -3,36 +3,30 @@ ghost use Rattle.std.specs.Prelude.{◌≡◌, List, ℕ};
 ghost use Rattle.lists.specs.Links.{Table};
 ghost use Rattle.points.specs.Words.{at_of};
 ghost use Rattle.turn.specs.Words.{pool_of};
+ghost use Rattle.turn.specs.Rail.{state_in, RailKept};
 ghost use Rattle.answers.specs.Answers.{answer_of};
-ghost use Rattle.pool.specs.Calls.{first_point, begun_turn, turn_of, stored_in, stored_of, failed_of, collect_send};
+ghost use Rattle.pool.specs.Run.{did_in};
+ghost use Rattle.pool.specs.Calls.{first_point, begun_turn, turn_of, stored_of, failed_of, collect_send};
 ghost use Rattle.pool.specs.Calls.{resume_at};
 ghost use Rattle.pool.specs.Calls.{resumed_of, reply_of, sync_did, sync_of};
 ghost use Rattle.pool.specs.Calls.{close_of};
 
 use crate::run;
 use actor::entry;
-use actor::message::{Caller, Logged, MessageRow};
+use actor::entry::Arrival;
+use actor::message::MessageRow;
 use actor::question::Reply;
 use actor::state::ActorRow;
-use answers::answer::Called;
-use answers::refusals::Check;
-use answers::{answer, refusals};
+use answers::answer::{Accepted, Called};
+use answers::refusals;
 use group::settings::GroupRow;
 use lists::LinkRow;
 use lists::keys::KeyRow;
-use message_log::RecordRow;
+use message_log::{RecordRow, wal};
 use points::words;
-use points::words::{AtKind, Where};
-use turn::state::PoolCells;
-use turn::{logged, resume, state};
-
-// A reply read as the answer to an order.
-#[derive(Drop)]
-pub enum StoredIn {
-    Stored,
-    Failed,
-    Other,
-}
+use points::words::Where;
+use turn::state::{PoolCells, Rail, What};
+use turn::{resume, state};
 
 // Where a turn begins: the first one with the spawns.
 fn first_point(seeded: bool) -> Where
@@ -49,9 +43,7 @@ fn first_point(seeded: bool) -> Where
 fn begin(pool: &mut PoolCells)
     ensures { pool_of pool.new ≡ begun_turn (pool_of pool.old) }
 {
-    let seeded = state::seeded(pool);
-    let at = first_point(seeded);
-    state::begin_at(pool, at);
+    state::begin_at(pool, first_point(state::seeded(pool)));
 }
 
 // A turn: it runs until a question or an order is open, or it ended.
@@ -93,81 +85,35 @@ pub fn turn(
           actors = actors.old;
         }) }
 {
-    let check = refusals::turn_check(pool);
-    match check {
-        Check::Refuse(r) => answer::refused(r),
-        Check::Fine => {
-            begin(pool);
-            run::run(pool, log, records, store, groups, links, rows, keys, actors)
-        }
-    }
-}
-
-fn stored_in(r: Reply) -> StoredIn
-    ensures { result ≡ stored_in r }
-{
-    match r {
-        Reply::Yes => StoredIn::Other,
-        Reply::No => StoredIn::Other,
-        Reply::Clock(_) => StoredIn::Other,
-        Reply::Count(_) => StoredIn::Other,
-        Reply::Ran(_) => StoredIn::Other,
-        Reply::Message => StoredIn::Other,
-        Reply::End => StoredIn::Other,
-        Reply::Told => StoredIn::Other,
-        Reply::Stored => StoredIn::Stored,
-        Reply::Failed => StoredIn::Failed,
-    }
+    refusals::turn_check(pool)?;
+    begin(pool);
+    run::run(&mut Rail {
+        pool,
+        log,
+        records,
+        store,
+        groups,
+        links,
+        rows,
+        keys,
+        actors,
+    })
 }
 
 // The order is stored: a turn that waited for it runs on, or its question is shown again; with no turn under way
 // nothing is open.
-fn stored(
-    pool: &mut PoolCells,
-    log: &mut [u8],
-    records: &mut [RecordRow],
-    store: &[u8],
-    groups: &[GroupRow],
-    links: &mut [LinkRow],
-    rows: &mut [MessageRow],
-    keys: &mut [KeyRow],
-    actors: &mut [ActorRow],
-) -> Called
-    ensures { record {
-      state = record {
-        pool = pool_of pool.new;
-        bytes = log.new;
-        records = records.new;
-        store = store.now;
-        groups = groups.now;
-        links = links.new;
-        rows = rows.new;
-        keys = keys.new;
-        actors = actors.new;
-      };
-      answer = answer_of result (pool_of pool.new) links.new rows.new;
-    }
-        ≡ stored_of
-        (record {
-          pool = pool_of pool.old;
-          bytes = log.old;
-          records = records.old;
-          store = store.now;
-          groups = groups.now;
-          links = links.old;
-          rows = rows.old;
-          keys = keys.old;
-          actors = actors.old;
-        }) }
+#[tactic(auto, unfolding(crate::specs::Calls::stored_of, answers::specs::Answers::shown))]
+fn stored(t: &mut Rail) -> Called
+    ensures kept { RailKept t.old t.new }
+    ensures did { did_in t.new result ≡ stored_of (state_in t.old) }
 {
-    let at = state::where_in(pool);
-    let during = refusals::in_turn(at);
-    let disk = state::free();
-    state::set_disk(pool, disk);
+    let pool = &mut *t.pool;
+    let during = refusals::in_turn(state::where_in(pool));
+    state::set_disk(pool, state::free());
     if during {
-        return run::run(pool, log, records, store, groups, links, rows, keys, actors);
+        return run::run(t);
     }
-    answer::shown_now()
+    Ok(Accepted::Open)
 }
 
 // The order failed: nothing is open, and nothing is taken any more.
@@ -200,9 +146,8 @@ fn failed(pool: &mut PoolCells) -> Called
           actors = actors;
         }) }
 {
-    let disk = state::failed();
-    state::set_disk(pool, disk);
-    answer::shown_now()
+    state::set_disk(pool, state::failed());
+    Ok(Accepted::Open)
 }
 
 // A message that was sent goes to pending's end, not logged, and Sends is asked again.
@@ -243,107 +188,38 @@ fn collect_send(
         })
         name.now body.now }
 {
-    entry::keep(
-        store,
-        links,
-        rows,
+    let message = Arrival {
         name,
         body,
-        Caller::Nobody,
-        Logged::Never,
-        lists::PENDING,
-    );
-    answer::shown_now()
+        caller: None,
+        id: None,
+    };
+    entry::keep(store, links, rows, message, lists::PENDING);
+    Ok(Accepted::Open)
 }
 
 // The turn's question is answered, where one is open.
-fn resume_at(
-    pool: &mut PoolCells,
-    groups: &[GroupRow],
-    links: &mut [LinkRow],
-    rows: &[MessageRow],
-    keys: &mut [KeyRow],
-    actors: &mut [ActorRow],
-    reply: Reply,
-)
-    ensures { (bytes : List ℕ) (records : Table) (store : List ℕ) →
-        record {
-          pool = pool_of pool.new;
-          bytes = bytes;
-          records = records;
-          store = store;
-          groups = groups.now;
-          links = links.new;
-          rows = rows.now;
-          keys = keys.new;
-          actors = actors.new;
-        }
-        ≡ resume_at
-        (record {
-          pool = pool_of pool.old;
-          bytes = bytes;
-          records = records;
-          store = store;
-          groups = groups.now;
-          links = links.old;
-          rows = rows.now;
-          keys = keys.old;
-          actors = actors.old;
-        })
-        reply }
+#[tactic(auto, using(crate::proofs::ReplyLaws::resume_unasked))]
+fn resume_at(t: &mut Rail, reply: Reply)
+    ensures kept { RailKept t.old t.new }
+    ensures resumed { state_in t.new ≡ resume_at (state_in t.old) reply }
 {
+    let pool = &mut *t.pool;
     let w = state::where_in(pool);
-    let kind = words::at_kind(w.place);
-    match kind {
-        AtKind::Rest => {}
-        AtKind::Asks => resume::resume(pool, groups, links, rows, keys, actors, w, reply),
-        AtKind::Runs => {}
+    if w.place.asks() {
+        let rows = &mut *t.rows;
+        resume::resume(pool, t.groups, t.links, rows, t.keys, t.actors, w, reply);
     }
 }
 
 // The turn goes on from the reply to its question.
-fn resumed(
-    pool: &mut PoolCells,
-    log: &mut [u8],
-    records: &mut [RecordRow],
-    store: &[u8],
-    groups: &[GroupRow],
-    links: &mut [LinkRow],
-    rows: &mut [MessageRow],
-    keys: &mut [KeyRow],
-    actors: &mut [ActorRow],
-    reply: Reply,
-) -> Called
-    ensures { record {
-      state = record {
-        pool = pool_of pool.new;
-        bytes = log.new;
-        records = records.new;
-        store = store.now;
-        groups = groups.now;
-        links = links.new;
-        rows = rows.new;
-        keys = keys.new;
-        actors = actors.new;
-      };
-      answer = answer_of result (pool_of pool.new) links.new rows.new;
-    }
-        ≡ resumed_of
-        (record {
-          pool = pool_of pool.old;
-          bytes = log.old;
-          records = records.old;
-          store = store.now;
-          groups = groups.now;
-          links = links.old;
-          rows = rows.old;
-          keys = keys.old;
-          actors = actors.old;
-        })
-        reply }
+#[tactic(auto, unfolding(crate::specs::Calls::resumed_of))]
+fn resumed(t: &mut Rail, reply: Reply) -> Called
+    ensures kept { RailKept t.old t.new }
+    ensures did { did_in t.new result ≡ resumed_of (state_in t.old) reply }
 {
-    resume_at(pool, groups, links, rows, keys, actors, reply);
-    run::run(pool, log, records, store, groups, links, rows, keys, actors)
+    resume_at(t, reply);
+    run::run(t)
 }
 
 // A reply, with the bytes of a message that was sent: the order's, such a message, or the answer to the turn's
@@ -390,27 +266,35 @@ pub fn reply(
         })
         reply name.now body.now }
 {
-    let check = refusals::reply_check(pool, links, rows, reply, name, body);
-    match check {
-        Check::Refuse(r) => answer::refused(r),
-        Check::Fine => {
-            let kind = stored_in(reply);
-            match kind {
-                StoredIn::Stored => stored(
-                    pool, log, records, store, groups, links, rows, keys, actors,
-                ),
-                StoredIn::Failed => failed(pool),
-                StoredIn::Other => {
-                    let message = refusals::is_message(reply);
-                    if message {
-                        return collect_send(pool, store, links, rows, name, body);
-                    }
-                    resumed(
-                        pool, log, records, store, groups, links, rows, keys, actors, reply,
-                    )
-                }
-            }
-        }
+    refusals::reply_check(pool, links, rows, reply, name, body)?;
+    match reply {
+        Reply::Stored => stored(&mut Rail {
+            pool,
+            log,
+            records,
+            store,
+            groups,
+            links,
+            rows,
+            keys,
+            actors,
+        }),
+        Reply::Failed => failed(pool),
+        Reply::Message => collect_send(pool, store, links, rows, name, body),
+        _ => resumed(
+            &mut Rail {
+                pool,
+                log,
+                records,
+                store,
+                groups,
+                links,
+                rows,
+                keys,
+                actors,
+            },
+            reply,
+        ),
     }
 }
 
@@ -444,17 +328,11 @@ fn sync_log(pool: &mut PoolCells) -> Called
           actors = actors;
         }) }
 {
-    let before = state::counters(pool);
-    let s = logged::sync(before);
-    let due = s.due;
-    let some = state::is_due(due);
-    if some {
-        let counters = s.counters;
-        let disk = state::waiting(due, state::NOTHING, 0);
-        state::set_log(pool, counters, disk);
-        return answer::shown_now();
+    let mut counters = state::counters(pool);
+    if let Some(order) = wal::sync(&mut counters) {
+        state::set_log(pool, counters, state::waits(order, What::Nothing, 0));
     }
-    answer::shown_now()
+    Ok(Accepted::Open)
 }
 
 // A flush is ordered, if a record was appended since the last one.
@@ -487,11 +365,8 @@ pub fn sync(pool: &mut PoolCells) -> Called
           actors = actors;
         }) }
 {
-    let check = refusals::sync_check(pool);
-    match check {
-        Check::Refuse(r) => answer::refused(r),
-        Check::Fine => sync_log(pool),
-    }
+    refusals::sync_check(pool)?;
+    sync_log(pool)
 }
 
 // No more is admitted; closing twice is accepted.
@@ -524,12 +399,7 @@ pub fn close(pool: &mut PoolCells) -> Called
           actors = actors;
         }) }
 {
-    let check = refusals::sync_check(pool);
-    match check {
-        Check::Refuse(r) => answer::refused(r),
-        Check::Fine => {
-            state::close(pool);
-            answer::shown_now()
-        }
-    }
+    refusals::sync_check(pool)?;
+    state::close(pool);
+    Ok(Accepted::Open)
 }

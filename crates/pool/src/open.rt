@@ -6,9 +6,8 @@ ghost use Rattle.pool.specs.Open.{limits_from, no_pool, filled_by, open_of};
 
 use actor::message::MessageRow;
 use actor::state::ActorRow;
-use answers::answer::Called;
-use answers::refusals::Check;
-use answers::{answer, refusals};
+use answers::answer::{Accepted, Called, Refusal};
+use answers::refusals;
 use group::settings::GroupRow;
 use lists::LinkRow;
 use lists::keys::KeyRow;
@@ -17,7 +16,7 @@ use message_log::{Counters, Order, RECORDS, RecordRow, opening};
 use settings::ranges::Settings;
 use settings::{ranges, tables};
 use turn::state;
-use turn::state::{Limits, PoolCells};
+use turn::state::{Limits, PoolCells, What};
 
 fn limits_from(s: Settings, groups: usize) -> Limits
     ensures { result ≡ limits_from s groups }
@@ -35,22 +34,24 @@ fn limits_from(s: Settings, groups: usize) -> Limits
 fn no_pool(pool: &mut PoolCells)
     ensures { pool_of pool.new ≡ no_pool }
 {
-    let limits = Limits {
-        groups: 0,
-        inbox: 0,
-        backlog: 0,
-        compact_at: 0,
-        tick: 0,
-    };
-    let counters = Counters {
-        next: 0,
-        live: 0,
-        size: 0,
-        dirty: false,
-        count: 0,
-    };
-    let disk = state::failed();
-    state::start(pool, limits, counters, disk);
+    state::start(
+        pool,
+        Limits {
+            groups: 0,
+            inbox: 0,
+            backlog: 0,
+            compact_at: 0,
+            tick: 0,
+        },
+        Counters {
+            next: 0,
+            live: 0,
+            size: 0,
+            dirty: false,
+            count: 0,
+        },
+        state::failed(),
+    );
 }
 
 // The log is opened: the tables at the start, and the messages left in pending.
@@ -88,13 +89,17 @@ fn open_pool(
     lists::start(links);
     tables::put_left(links, rows, left, counters.count);
     tables::blank_keys(keys);
-    let limits = limits_from(settings, given.len());
-    let disk = state::waits(order, state::NOTHING, 0);
-    state::start(pool, limits, counters, disk);
-    answer::shown_now()
+    state::start(
+        pool,
+        limits_from(settings, given.len()),
+        counters,
+        state::waits(order, What::Nothing, 0),
+    );
+    Ok(Accepted::Open)
 }
 
 // Opens a pool on the first n bytes of the log.
+// Kept: the length of the file beside the log, since any length is promised an answer, and one past the log a refusal.
 pub fn open(
     pool: &mut PoolCells,
     settings: Settings,
@@ -138,26 +143,19 @@ pub fn open(
           actors = actors.now;
         }) }
 {
-    let check = refusals::open_check(settings, given, groups, links, rows, keys, actors);
-    match check {
-        Check::Refuse(r) => {
+    if let Err(r) = refusals::open_check(settings, given, groups, links, rows, keys, actors) {
+        no_pool(pool);
+        return Err(r);
+    }
+    let mut left = [[0u64; 4]; RECORDS];
+    let s = opening::open_log(log, n, store, records, &mut left);
+    match s.answer {
+        Ok(order) => open_pool(
+            pool, settings, given, &left, s.counters, order, groups, links, rows, keys,
+        ),
+        Err(r) => {
             no_pool(pool);
-            answer::refused(r)
-        }
-        Check::Fine => {
-            let mut left = [[0u64; 4]; RECORDS];
-            let s = opening::open_log(log, n, store, records, &mut left);
-            let counters = s.counters;
-            let answer = s.answer;
-            match answer {
-                message_log::Answer::Ordered(order) => open_pool(
-                    pool, settings, given, &left, counters, order, groups, links, rows, keys,
-                ),
-                message_log::Answer::Refused(r) => {
-                    no_pool(pool);
-                    answer::refused(answer::log_refusal(r))
-                }
-            }
+            Err(Refusal::from(r))
         }
     }
 }

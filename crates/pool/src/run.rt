@@ -2,31 +2,24 @@
 ghost use Rattle.std.specs.Prelude.{◌≡◌, List, ℕ};
 ghost use Rattle.lists.specs.Links.{Table};
 ghost use Rattle.turn.specs.Words.{pool_of};
+ghost use Rattle.turn.specs.Rail.{state_in, RailKept};
 ghost use Rattle.answers.specs.Answers.{answer_of};
-ghost use Rattle.pool.specs.Run.{waiters_from, busy_of, answered_of, run_of};
+ghost use Rattle.pool.specs.Run.{waiters_from, busy_of, answered_of, did_in, run_of};
 
-use actor::message::MessageRow;
-use actor::state::ActorRow;
-use answers::answer::Called;
-use answers::{answer, refusals};
+use answers::answer::{Accepted, Called};
+use answers::refusals;
 use group::roster;
-use group::settings::GroupRow;
 use lists::keys::KeyRow;
 use lists::{LinkRow, keys};
-use message_log::RecordRow;
-use turn::state::PoolCells;
+use turn::state::{PoolCells, Rail};
 use turn::{state, step};
 
 // Whether some waiting list is not empty.
 fn waiters(keys: &[KeyRow], groups: usize) -> bool
     ensures { result ≡ waiters_from keys.now groups }
 {
-    let mut g = groups;
-    while 0 < g {
-        g -= 1;
-        let row = roster::waiting_row(g);
-        let n = keys::count_at(keys, row);
-        if 0 < n {
+    for g in 0..groups {
+        if 0 < keys::count_at(keys, roster::waiting_row(g)) {
             return true;
         }
     }
@@ -34,15 +27,11 @@ fn waiters(keys: &[KeyRow], groups: usize) -> bool
 }
 
 // Whether an actor was stepped, or pending is not empty.
+#[tactic(auto, unfolding(crate::specs::Run::busy_of))]
 fn busy(pool: &PoolCells, links: &[LinkRow]) -> bool
     ensures { result ≡ busy_of (pool_of pool.now).turn.counts links.now }
 {
-    let stepped = state::stepped(pool);
-    let pending = lists::length_of(links, lists::PENDING);
-    if stepped {
-        return true;
-    }
-    0 < pending
+    state::stepped(pool) || 0 < lists::length_of(links, lists::PENDING)
 }
 
 // The turn ended where it is at rest; else a question or an order is open.
@@ -75,56 +64,24 @@ fn answered(pool: &PoolCells, links: &[LinkRow], keys: &[KeyRow]) -> Called
           actors = actors;
         }) }
 {
-    let at = state::where_in(pool);
-    let during = refusals::in_turn(at);
-    if during {
-        return answer::shown_now();
+    if refusals::in_turn(state::where_in(pool)) {
+        return Ok(Accepted::Open);
     }
-    let b = busy(pool, links);
-    let count = state::groups(pool);
-    let w = waiters(keys, count);
-    answer::turn_ended(b, w)
+    Ok(Accepted::Ended {
+        busy: busy(pool, links),
+        waiters: waiters(keys, state::groups(pool)),
+    })
 }
 
 // Runs until a question, an order or the end.
-pub(crate) fn run(
-    pool: &mut PoolCells,
-    log: &mut [u8],
-    records: &mut [RecordRow],
-    store: &[u8],
-    groups: &[GroupRow],
-    links: &mut [LinkRow],
-    rows: &mut [MessageRow],
-    keys: &mut [KeyRow],
-    actors: &mut [ActorRow],
-) -> Called
-    ensures { record {
-      state = record {
-        pool = pool_of pool.new;
-        bytes = log.new;
-        records = records.new;
-        store = store.now;
-        groups = groups.now;
-        links = links.new;
-        rows = rows.new;
-        keys = keys.new;
-        actors = actors.new;
-      };
-      answer = answer_of result (pool_of pool.new) links.new rows.new;
-    }
-        ≡ run_of
-        (record {
-          pool = pool_of pool.old;
-          bytes = log.old;
-          records = records.old;
-          store = store.now;
-          groups = groups.now;
-          links = links.old;
-          rows = rows.old;
-          keys = keys.old;
-          actors = actors.old;
-        }) }
+#[tactic(auto, unfolding(crate::specs::Run::run_of))]
+pub(crate) fn run(t: &mut Rail) -> Called
+    ensures kept { RailKept t.old t.new }
+    ensures ran { did_in t.new result ≡ run_of (state_in t.old) }
 {
-    step::advance(pool, store, groups, log, records, links, rows, keys, actors);
+    step::advance(t);
+    let pool = &mut *t.pool;
+    let links = &mut *t.links;
+    let keys = &mut *t.keys;
     answered(pool, links, keys)
 }

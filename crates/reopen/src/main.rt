@@ -4,6 +4,6 @@
 use std::io;
 
 fn main(rt: HostRuntime) -> io::Result<()> {
-    reopening::reopen_from(&mut rt.stdin(), &mut rt.stdout())?;
+    let _ = reopening::reopen_from(&mut rt.stdin(), &mut rt.stdout())?;
     Ok(())
 }

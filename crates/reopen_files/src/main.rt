@@ -44,7 +44,7 @@ fn reopen_file<R: Files + AllocGlobal, O: Write, E: Write>(
     out.write_all(b"\n")?;
     match open(rt, path) {
         Ok(mut file) => {
-            reopening::reopen_from(&mut file, out)?;
+            let _ = reopening::reopen_from(&mut file, out)?;
             Ok(())
         }
         Err(why) => report(rt.alloc(), path, why, err),

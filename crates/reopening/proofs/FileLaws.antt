@@ -5,8 +5,7 @@ use Rattle.std.specs.Prelude.{Option, ◌⊎◌}
 use Rattle.std.proofs.lemmas.Bool.{cases_lt}
 use Rattle.std.proofs.lemmas.List.{take-append-le, take-take}
 use Rattle.std.specs.Io.KnownBytes.{Appends, Consumes, IsAtEnd}
-use Rattle.reopening.specs.declared.Reopened.{Reopened}
-use Rattle.reopening.specs.Reopened.{reopen_of, printed_of, ReopensFile, PrintsFile}
+use Rattle.reopening.specs.Reopened.{Reopened, reopen_of, printed_of, ReopensFile, PrintsFile}
 
 -- of the file of a reader that gave n bytes, and fewer than there is space only at its end: the first `most` bytes of
 -- the space begin with it, and n is its length, or that of the space

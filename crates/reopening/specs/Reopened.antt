@@ -1,23 +1,25 @@
 -- What the log reader makes of a log.
-use Rattle.std.specs.Prelude.{◌≡◌, List, [], ◌∷◌, ◌++◌, ℕ, min, length, take, replicate, codes, decimal, Option}
+use Rattle.std.specs.Prelude.{◌≡◌, List, [], ◌∷◌, ◌++◌, ℕ, min, length, take, replicate, codes, decimal, Option, Result, Ok, Err}
+use Rattle.message_log.specs.declared.Refusal.{Refusal}
+use Rattle.message_log.specs.declared.Order.{Order}
 use Rattle.std.specs.Io.KnownBytes.{Appends, Consumes}
 use Rattle.message_log.specs.Log.{log_number_of}
 use Rattle.message_log.specs.Opened.{Opened, open_log}
 use Rattle.message_log.specs.declared.Order.TheVariants.{Append, Replace, Flush}
-use Rattle.message_log.specs.declared.Answer.{Answer}
-use Rattle.reopening.specs.declared.Reopened.{Reopened}
-use Rattle.reopening.specs.declared.Reopened.TheVariants.{Log, Refused}
-use Rattle.message_log.specs.declared.Answer.TheVariants as answer
 use Rattle.message_log.specs.Opening.{RECORDS, STORE}
 
--- the length of the new log, or the number of the refusal; opening orders nothing but a replace
-abbrev pub reopened_by : Answer → Reopened
-reopened_by (answer.Ordered (Append a b)) = Log 0
-reopened_by (answer.Ordered (Replace n)) = Log n
-reopened_by (answer.Ordered Flush) = Log 0
-reopened_by (answer.Refused r) = Refused (log_number_of r)
+-- the length of the new log, or the refusal
+abbrev pub Reopened : Type 0
+Reopened = Result ℕ Refusal
 
--- the lent log after it was opened, and the length of the new log or the number of the refusal
+-- the length of the new log, or the refusal; opening orders nothing but a replace
+abbrev pub reopened_by : Result Order Refusal → Reopened
+reopened_by (Ok (Append a b)) = Ok 0
+reopened_by (Ok (Replace n)) = Ok n
+reopened_by (Ok Flush) = Ok 0
+reopened_by (Err r) = Err r
+
+-- the lent log after it was opened, and the length of the new log or the refusal
 pub record Reopening : Type 0 where
   pub log : List ℕ
   pub answer : Reopened
@@ -40,8 +42,8 @@ pub record OfSomeFile (r : Reopened) : Type 0 where
 
 -- what is printed of an outcome: the new log, which is the first bytes of the lent one; or `refused=N` and an LF
 abbrev pub printed_of : List ℕ → Reopened → List ℕ
-printed_of log (Log n) = take n log
-printed_of log (Refused r) = codes "refused=" ++ decimal r ++ (10 ∷ [])
+printed_of log (Ok n) = take n log
+printed_of log (Err r) = codes "refused=" ++ decimal (log_number_of r) ++ (10 ∷ [])
 
 -- what opening a file of these bytes answers and prints, with whatever behind them in the lent log; of a longer file
 -- than the log, as many are read as show that it is longer

@@ -1,5 +1,4 @@
-// The log reader: opens a log of 65,536 bytes, with a store and tables of its own, and gives the new log or the number
-// of the refusal.
+// The log reader: opens a log of 65,536 bytes, with a store and tables of its own, and gives the new log or the refusal.
 // `reopen` is that on a slice (specs/Reopened); `reopen_from` reads the file from a reader and prints the outcome.
 #![tactic(auto)]
 
@@ -8,32 +7,24 @@ ghost use Rattle.std.specs.Io.{ReadsAtMost};
 ghost use Rattle.std.specs.Io.KnownBytes.{Appends, Consumes, IsAtEnd};
 ghost use Rattle.reopening.specs.Reopened.{reopen_of, reopened_by, printed_of, OfSomeFile, PrintsFile, HasTheRest};
 
-use message_log::{Answer, Order, RECORDS, STORE};
+use message_log::{Order, RECORDS, Refusal, STORE};
 use std::io;
 use std::io::{ErrorKind, Read, Write};
 
-#[derive(Drop)]
-pub enum Reopened {
-    // The new log is the first bytes, so many of them.
-    Log(usize),
-    // The number of the refusal.
-    Refused(u64),
-}
+// The new log is the first bytes, so many of them; or the file was refused.
+pub type Reopened = Result<usize, Refusal>;
 
-fn answered(a: Answer) -> Reopened
+fn answered(a: Result<Order, Refusal>) -> Reopened
     ensures { result ≡ reopened_by a }
 {
-    match a {
-        Answer::Ordered(o) => match o {
-            Order::Append(_, _) => Reopened::Log(0),
-            Order::Replace(n) => Reopened::Log(n),
-            Order::Flush => Reopened::Log(0),
-        },
-        Answer::Refused(r) => Reopened::Refused(message_log::number(r)),
+    match a? {
+        Order::Replace(n) => Ok(n),
+        Order::Append(_, _) | Order::Flush => Ok(0),
     }
 }
 
 // Opens the log whose file is the first n bytes.
+// Kept: the length of the file beside the log, since the new log may be longer and is written into the same bytes.
 pub fn reopen(log: &mut [u8], n: usize) -> Reopened
     ensures { record { log = log.new; answer = result } ≡ reopen_of log.old n }
 {
@@ -41,8 +32,7 @@ pub fn reopen(log: &mut [u8], n: usize) -> Reopened
     let mut records = [[0u64; 4]; RECORDS];
     let mut left = [[0u64; 4]; RECORDS];
     let opened = message_log::opening::open_log(log, n, &mut store, &mut records, &mut left);
-    let answer = opened.answer;
-    answered(answer)
+    answered(opened.answer)
 }
 
 // Prints the new log, or `refused=N`.
@@ -50,11 +40,14 @@ fn print<W: Write>(out: &mut W, log: &[u8], r: &Reopened) -> io::Result<()>
     ensures { OnOk result (Appends (W.contents out.old) (W.contents out.new) (printed_of log.now r.now)) }
 {
     match r {
-        Reopened::Log(size) => {
+        Ok(size) => {
             let size = (*size).min(log.len());
             out.write_all(&log[..size])
         }
-        Reopened::Refused(number) => writeln!(out, "refused={number}"),
+        Err(refusal) => {
+            let number = message_log::number(*refusal);
+            writeln!(out, "refused={number}")
+        }
     }
 }
 
@@ -117,7 +110,7 @@ pub fn reopen_from<R: Read, W: Write>(file: &mut R, out: &mut W) -> io::Result<R
 
 #[cfg(test)]
 mod tests {
-    use super::{Reopened, reopen_from};
+    use super::reopen_from;
     use std::io;
     use std::io::{ErrorKind, Read};
 
@@ -145,7 +138,7 @@ mod tests {
 
     fn opened(rt: &HostRuntime, fails: bool) -> io::Result<Vec<u8>> {
         let mut out = Vec::new(rt.alloc());
-        reopen_from(&mut Stub { reads: 0, fails }, &mut out)?;
+        let _ = reopen_from(&mut Stub { reads: 0, fails }, &mut out)?;
         Ok(out)
     }
 
@@ -154,7 +147,7 @@ mod tests {
         let mut out = Vec::new(rt.alloc());
         let mut file: &[u8] = b"3\trow\tx\n1\trow\ty\n3\n";
         let answer = reopen_from(&mut file, &mut out)?;
-        assert!(rt; matches!(answer, Reopened::Log(8)));
+        assert!(rt; matches!(answer, Ok(8)));
         assert!(rt; out.as_slice() == b"1\trow\ty\n".as_slice());
         Ok(())
     }

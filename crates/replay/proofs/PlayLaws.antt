@@ -1,5 +1,6 @@
 -- Calls run one after the other: what is still to come, from here on, gives the whole. And what is written never falls
 -- back. Assumes nothing.
+use Rattle.std.specs.Prelude.{Option, Some, None, Result, Ok, Err, is_ok}
 use mathlib.Core.Path.{◌≡◌, refl, ap, sym, ◌∙◌}
 use mathlib.Core.Bool.{Bool, true, false}
 use mathlib.Core.List.{List, [], ◌∷◌}
@@ -9,18 +10,16 @@ use borrow.Author.Tests.{le-ltb, lt-ltb, eq-eqb, ne_eqb}
 use lib.Dec.{eqb, leb, ltb}
 use lib.ListN.{length, take, replicate, length-replicate}
 use Rattle.lists.specs.Links.{pick, Table}
-use Rattle.lists.specs.declared.Found.{Found}
-use Rattle.lists.specs.declared.Found.TheVariants.{Entry, Nothing}
 use Rattle.wire.specs.Number.{numbers}
 use Rattle.wire.specs.Output.{Output, output_with, output, output_rows, output_keys}
 use Rattle.wire.specs.Script.{header_of, groups_into, call_at}
 use Rattle.wire.specs.declared.script.Header.{Header}
-use Rattle.wire.specs.declared.script.HeaderRead.{HeaderRead}
-use Rattle.wire.specs.declared.script.HeaderRead.TheVariants as header
 use Rattle.wire.specs.declared.script.CallAt.{CallAt}
-use Rattle.wire.specs.declared.script.CallRead.TheVariants as call
-use Rattle.turn.specs.State.{State}
-use Rattle.answers.specs.Answers.{Did}
+use Rattle.turn.specs.State.{Pool, State}
+use Rattle.answers.specs.declared.answer.Refusal.{Refusal}
+use Rattle.answers.specs.declared.answer.Accepted.{Accepted}
+use Rattle.answers.specs.declared.answer.Accepted.TheVariants as accepted
+use Rattle.answers.specs.Answers.{Did, answer_of}
 use Rattle.pool.specs.Open.{open_of}
 use Rattle.theorem.specs.Rail.{call_of, accepted}
 use Rattle.replay.specs.Entry.{ShownTables, output_message, output_log, output_tables, output_store, output_entry}
@@ -35,12 +34,12 @@ unfolding calls_at
 calls_none zero s p h = refl
 calls_none (suc k) s p h = cc (le-ltb p (length s) h)
 
-pub calls_torn : (k : ℕ) (s : List ℕ) (p : ℕ) → p < length s → call.Malformed ≡ call_at s p → calls_at (suc k) s p
+pub calls_torn : (k : ℕ) (s : List ℕ) (p : ℕ) → p < length s → None ≡ call_at s p → calls_at (suc k) s p
     ≡ malformed
 unfolding calls_at
 calls_torn k s p h e = cc (lt-ltb p (length s) h)
 
-pub calls_next : (k : ℕ) (s : List ℕ) (p : ℕ) (c : CallAt) → p < length s → call.Next c ≡ call_at s p
+pub calls_next : (k : ℕ) (s : List ℕ) (p : ℕ) (c : CallAt) → p < length s → Some c ≡ call_at s p
     → calls_at (suc k) s p ≡ next (decoded s c) (calls_at k s c.end)
 unfolding calls_at
 calls_next k s p c h e = simp (lt-ltb p (length s) h, sym e)
@@ -91,14 +90,14 @@ module _ {whole : Played} {show : ℕ} {s : List ℕ} {st : State} {d : Output} 
       more : r.most ≡ suc (r.most - 1)
       more = omega (arith, r.enough)
 
-      pub running_torn : call.Malformed ≡ call_at s p → stopped st (output_with d.out d.at 1) ≡ whole
+      pub running_torn : None ≡ call_at s p → stopped st (output_with d.out d.at 1) ≡ whole
       running_torn e =
           let torn : calls_at r.most s p ≡ malformed =
           ap (λ k. calls_at k s p) more ∙ calls_torn (r.most - 1) s p h e in
           sym (ap (play show st d) torn ∙ play_torn show st d code) ∙ r.same
 
       -- the next call is run, and its entry written
-      pub running_on : (c : CallAt) → call.Next c ≡ call_at s p → p < c.end → {did : Did}
+      pub running_on : (c : CallAt) → Some c ≡ call_at s p → p < c.end → {did : Did}
           → did ≡ call_of st (decoded s c)
           → {d' : Output} → d' ≡ output_entry show d did → Running whole show s did.state d' c.end
       running_on c read l {did} made {d'} wrote = record {
@@ -140,11 +139,11 @@ module _ (a : ℕ) where
   keys_from d [] h = h
   keys_from d (row ∷ rows) h = keys_from (output d row) rows (output_from d row h)
 
-  pub message_from : (d : Output) (m : Found) (rows : Table) (store : List ℕ) → From d
+  pub message_from : (d : Output) (m : Option ℕ) (rows : Table) (store : List ℕ) → From d
       → From (output_message d m rows store)
   unfolding output_message
-  message_from d Nothing rows store h = output_from d _ h
-  message_from d (Entry e) rows store h = output_from _ _ (output_from _ _ (output_from d _ h))
+  message_from d None rows store h = output_from d _ h
+  message_from d (Some e) rows store h = output_from _ _ (output_from _ _ (output_from d _ h))
 
   pub log_from : (show : ℕ) (d : Output) (bytes : List ℕ) (size : ℕ) → From d → From (output_log show d bytes size)
   unfolding output_log
@@ -190,10 +189,10 @@ module _ (a : ℕ) where
       pick_rule PlayedFrom (accepted did.answer) (play_from_lem show did.state (output_entry show d did)
       (calls_at (length s) s start) (entry_from show d did h)) (entry_from show d did h)
 
-  headed_from : (s : List ℕ) (h : HeaderRead) (bytes store : List ℕ) (d : Output) → From d
+  headed_from : (s : List ℕ) (h : Option Header) (bytes store : List ℕ) (d : Output) → From d
       → PlayedFrom (play_headed s h bytes store d)
-  headed_from s header.Malformed bytes store d l = coded_from d 1 l
-  headed_from s (header.Fields h) bytes store d l =
+  headed_from s None bytes store d l = coded_from d 1 l
+  headed_from s (Some h) bytes store d l =
       pick_rule PlayedFrom (eqb (length bytes) h.long)
       (pick_rule PlayedFrom (eqb (length store) h.stored) (opened_from h.show s (h.file + h.n) _ d l)
       (coded_from d 3 l))
@@ -204,6 +203,13 @@ module _ (a : ℕ) where
   script_from s bytes store d l = headed_from s (header_of s) bytes store d l
 
 -- ---- the opening
+
+-- an answer is no refusal where the call went well
+pub accepted_ok : (c : Result Accepted Refusal) (p : Pool) (links rows : Table)
+    → accepted (answer_of c p links rows) ≡ is_ok c
+accepted_ok (Err r) p links rows = refl
+accepted_ok (Ok accepted.Open) p links rows = refl
+accepted_ok (Ok (accepted.Ended busy waiters)) p links rows = refl
 
 module _ (show : ℕ) (s : List ℕ) (start : ℕ) (d : Output) {did x : Did} (opens : did ≡ x) {e : Output}
     (wrote : e ≡ output_entry show d did) where
@@ -228,12 +234,12 @@ module _ (s bytes store out : List ℕ) where
   abbrev whole : Played
   whole = play_script s bytes store (output_with out 8 0)
 
-  pub script_torn : header.Malformed ≡ header_of s → played bytes store (output_with out 8 1) ≡ whole
+  pub script_torn : None ≡ header_of s → played bytes store (output_with out 8 1) ≡ whole
   unfolding play_script coded
   script_torn e = ap (λ r. play_headed s r bytes store (output_with out 8 0)) e
 
-  module _ (h : Header) (read : header.Fields h ≡ header_of s) where
-    headed : play_headed s (header.Fields h) bytes store (output_with out 8 0) ≡ whole
+  module _ (h : Header) (read : Some h ≡ header_of s) where
+    headed : play_headed s (Some h) bytes store (output_with out 8 0) ≡ whole
     unfolding play_script
     headed = ap (λ r. play_headed s r bytes store (output_with out 8 0)) read
 

@@ -1,9 +1,7 @@
 -- An entry of the output: the answer and the counters; the message that the answer shows; and, as far as they are
 -- asked for, the log, the tables and the store.
-use Rattle.std.specs.Prelude.{List, [], ◌∷◌, ℕ, ltb, length, take}
+use Rattle.std.specs.Prelude.{List, [], ◌∷◌, ℕ, ltb, length, take, Option, Some, None}
 use Rattle.lists.specs.Links.{pick, Table}
-use Rattle.lists.specs.declared.Found.{Found}
-use Rattle.lists.specs.declared.Found.TheVariants.{Entry, Nothing}
 use Rattle.actor.specs.declared.part.Part.{Part}
 use Rattle.actor.specs.Part.{bytes_in, part_of}
 use Rattle.turn.specs.State.{Pool, State}
@@ -31,9 +29,9 @@ abbrev pub output_part : Output → Part → List ℕ → Output
 output_part d p store = output_texts d (bytes_in store p.name) (bytes_in store p.body)
 
 -- 0: no message is shown; 1: its lengths, its name and its body
-unfoldable pub output_message : Output → Found → Table → List ℕ → Output
-output_message d Nothing rows store = output d (numbers (0 ∷ []))
-output_message d (Entry e) rows store = output_part d (part_of rows (Entry e)) store
+unfoldable pub output_message : Output → Option ℕ → Table → List ℕ → Output
+output_message d None rows store = output d (numbers (0 ∷ []))
+output_message d (Some e) rows store = output_part d (part_of rows (Some e)) store
 
 -- from show 1 on: the file
 unfoldable pub output_log : ℕ → Output → List ℕ → ℕ → Output

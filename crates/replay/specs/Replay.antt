@@ -1,7 +1,7 @@
 -- What `replay` makes of a script, the lent log and store, and the output: the script's calls decoded, the pool's own
 -- definitions run over them one after the other, each with what the one before left (`call_of`,
 -- crates/theorem/specs/Rail), and an entry written for each.
-use Rattle.std.specs.Prelude.{List, [], ◌∷◌, ℕ, zero, suc, ◌+◌, ◌-◌, eqb, ltb, length, take, replicate}
+use Rattle.std.specs.Prelude.{List, [], ◌∷◌, ℕ, zero, suc, ◌+◌, ◌-◌, eqb, ltb, length, take, replicate, Option, Some, None}
 use Rattle.message_log.specs.Opening.{RECORDS}
 use Rattle.group.specs.Roster.{ROWS}
 use Rattle.text.specs.Bytes.{part}
@@ -10,18 +10,16 @@ use Rattle.wire.specs.Number.{numbers}
 use Rattle.wire.specs.Output.{Output, output_with, output}
 use Rattle.wire.specs.Script.{header_of, groups_into, call_at}
 use Rattle.wire.specs.declared.script.Header.{Header}
-use Rattle.wire.specs.declared.script.HeaderRead.{HeaderRead}
-use Rattle.wire.specs.declared.script.HeaderRead.TheVariants as header
 use Rattle.wire.specs.declared.script.Kind.{Kind}
 use Rattle.wire.specs.declared.script.Kind.TheVariants as kind
 use Rattle.wire.specs.declared.script.CallAt.{CallAt}
-use Rattle.wire.specs.declared.script.CallRead.{CallRead}
-use Rattle.wire.specs.declared.script.CallRead.TheVariants as call
 use Rattle.turn.specs.State.{State}
 use Rattle.answers.specs.Answers.{Did}
 use Rattle.answers.specs.Refusals.{Lent}
 use Rattle.pool.specs.Open.{open_of}
 use Rattle.theorem.specs.Rail.{Call, admit, turn, reply, sync, close, call_of, accepted}
+use Rattle.turn.specs.Words.{pool_of}
+use Rattle.replay.specs.declared.play.Tables.{Tables}
 use Rattle.replay.specs.Entry.{output_entry}
 
 -- ---- calls
@@ -45,19 +43,35 @@ pub data Calls : Type 0 where
   next : Call → Calls → Calls
 
 -- where a call ends, and the next one may begin; 0 of a malformed one
-abbrev pub call_end : CallRead → ℕ
-call_end call.Malformed = 0
-call_end (call.Next c) = c.end
+abbrev pub call_end : Option CallAt → ℕ
+call_end None = 0
+call_end (Some c) = c.end
 
 -- a call that could be read, and then the rest; a malformed one ends the calls, and the rest is not looked at
-abbrev pub follows : List ℕ → CallRead → Calls → Calls
-follows s call.Malformed rest = malformed
-follows s (call.Next c) rest = next (decoded s c) rest
+abbrev pub follows : List ℕ → Option CallAt → Calls → Calls
+follows s None rest = malformed
+follows s (Some c) rest = next (decoded s c) rest
 
 -- the calls from p on: at most so many, which is enough where it is at least the number of bytes from p on
 unfoldable pub calls_at : ℕ → List ℕ → ℕ → Calls
 calls_at zero s p = ended
 calls_at (suc most) s p = pick (ltb p (length s)) (follows s (call_at s p) (calls_at most s (call_end (call_at s p)))) ended
+
+-- ---- the state
+
+-- the pool's cells and the tables, with this log and this body store, are a state of the pool
+abbrev pub lent_state : Tables → List ℕ → List ℕ → State
+lent_state t log store = record {
+  pool = pool_of t.pool;
+  bytes = log;
+  records = t.records;
+  store = store;
+  groups = t.groups;
+  links = t.links;
+  rows = t.rows;
+  keys = t.keys;
+  actors = t.actors;
+}
 
 -- ---- a list of calls
 
@@ -129,9 +143,9 @@ play_from s h bytes store d =
     play_opened h.show s (h.file + h.n) (open_of (lent_by s h bytes store)) d
 
 -- 1: the header is malformed; 3: the lent log or store has another length than the script says
-abbrev pub play_headed : List ℕ → HeaderRead → List ℕ → List ℕ → Output → Played
-play_headed s header.Malformed bytes store d = played bytes store (coded d 1)
-play_headed s (header.Fields h) bytes store d =
+abbrev pub play_headed : List ℕ → Option Header → List ℕ → List ℕ → Output → Played
+play_headed s None bytes store d = played bytes store (coded d 1)
+play_headed s (Some h) bytes store d =
     pick (eqb (length bytes) h.long)
     (pick (eqb (length store) h.stored) (play_from s h bytes store d) (played bytes store (coded d 3)))
     (played bytes store (coded d 3))

@@ -12,9 +12,11 @@ ghost use Rattle.replay.specs.Entry.{
   output_store,
   output_entry,
 };
+ghost use Rattle.replay.specs.Replay.{lent_state};
 ghost use Rattle.wire.specs.Output.{output};
 ghost use Rattle.wire.specs.Number.{numbers};
 
+use crate::play::Tables;
 use actor::message::MessageRow;
 use actor::part;
 use actor::part::Span;
@@ -23,8 +25,8 @@ use answers::answer::Called;
 use answers::numbers::AnswerNumbers;
 use answers::{answer, numbers};
 use group::settings::GroupRow;
+use lists::LinkRow;
 use lists::keys::KeyRow;
-use lists::{Found, LinkRow};
 use message_log::RecordRow;
 use turn::state;
 use turn::state::PoolCells;
@@ -44,25 +46,26 @@ fn output_texts(out: &mut [u8], d: Done, name: &[u8], body: &[u8]) -> Done
 }
 
 // The message that an answer shows, from its part of the body store.
-fn output_message(out: &mut [u8], d: Done, m: Found, rows: &[MessageRow], store: &[u8]) -> Done
+fn output_message(
+    out: &mut [u8],
+    d: Done,
+    m: Option<usize>,
+    rows: &[MessageRow],
+    store: &[u8],
+) -> Done
     ensures { record { out = out.new; at = result.at; code = result.code }
         ≡ output_message (record { out = out.old; at = d.at; code = d.code }) m
         rows.now store.now }
 {
     match m {
-        Found::Nothing => {
-            let none = [0];
-            output::output_numbers(out, d, &none)
-        }
-        Found::Entry(_) => {
+        None => output::output_numbers(out, d, &[0]),
+        Some(_) => {
             let shown = part::message_part(rows, m);
-            let name = shown.name;
-            let body = shown.body;
             output_texts(
                 out,
                 d,
-                part::bytes_in(store, name),
-                part::bytes_in(store, body),
+                part::bytes_in(store, shown.name),
+                part::bytes_in(store, shown.body),
             )
         }
     }
@@ -76,11 +79,11 @@ fn output_log(out: &mut [u8], d: Done, show: u64, log: &[u8], size: usize) -> Do
     if show < 1 {
         return d;
     }
-    let file = part::bytes_in(log, Span { from: 0, to: size });
-    output::output_bytes(out, d, file)
+    output::output_bytes(out, d, part::bytes_in(log, Span { from: 0, to: size }))
 }
 
 // The tables.
+// Kept: each table is a parameter, since the definition `output_tables` says of each by itself how it goes out.
 fn output_tables(
     out: &mut [u8],
     d: Done,
@@ -106,12 +109,12 @@ fn output_tables(
     if show < 2 {
         return d;
     }
-    let a = output::output_records(out, d, records);
-    let b = output::output_groups(out, a, groups);
-    let c = output::output_links(out, b, links);
-    let e = output::output_messages(out, c, rows);
+    let a = output::output_rows(out, d, records);
+    let b = output::output_rows(out, a, groups);
+    let c = output::output_rows(out, b, links);
+    let e = output::output_rows(out, c, rows);
     let f = output::output_keys(out, e, keys);
-    output::output_actors(out, f, actors)
+    output::output_rows(out, f, actors)
 }
 
 // The body store.
@@ -132,7 +135,6 @@ fn output_head(out: &mut [u8], d: Done, s: &AnswerNumbers, pool: &PoolCells) -> 
         (numbers (entry_numbers s.now (pool_of pool.now))) }
 {
     let counters = state::counters(pool);
-    let queued = state::queued(pool);
     let losses = state::losses(pool);
     let head = [
         s.kind,
@@ -144,7 +146,7 @@ fn output_head(out: &mut [u8], d: Done, s: &AnswerNumbers, pool: &PoolCells) -> 
         counters.size as u64,
         numbers::flag(counters.dirty),
         counters.count as u64,
-        queued,
+        state::queued(pool),
         losses.dead,
         losses.crashes,
     ];
@@ -157,40 +159,24 @@ pub(crate) fn output_entry(
     d: Done,
     show: u64,
     called: Called,
-    pool: &PoolCells,
+    t: &Tables,
     log: &[u8],
-    records: &[RecordRow],
     store: &[u8],
-    groups: &[GroupRow],
-    links: &[LinkRow],
-    rows: &[MessageRow],
-    keys: &[KeyRow],
-    actors: &[ActorRow],
 ) -> Done
     ensures { record { out = out.new; at = result.at; code = result.code }
         ≡ output_entry show (record { out = out.old; at = d.at; code = d.code })
         (record {
-          state = record {
-            pool = pool_of pool.now;
-            bytes = log.now;
-            records = records.now;
-            store = store.now;
-            groups = groups.now;
-            links = links.now;
-            rows = rows.now;
-            keys = keys.now;
-            actors = actors.now;
-          };
-          answer = answer_of called (pool_of pool.now) links.now rows.now;
+          state = lent_state t.now log.now store.now;
+          answer = answer_of called (pool_of t.now.pool) t.now.links t.now.rows;
         }) }
 {
-    let answer = answer::answer_of(called, pool, links, rows);
-    let s = numbers::numbers_of(answer);
-    let counters = state::counters(pool);
-    let size = counters.size;
-    let a = output_head(out, d, &s, pool);
-    let b = output_message(out, a, s.message, rows, store);
+    let s = numbers::numbers_of(answer::answer_of(called, &t.pool, &t.links, &t.rows));
+    let size = state::counters(&t.pool).size;
+    let a = output_head(out, d, &s, &t.pool);
+    let b = output_message(out, a, s.message, &t.rows, store);
     let c = output_log(out, b, show, log, size);
-    let e = output_tables(out, c, show, records, groups, links, rows, keys, actors);
+    let e = output_tables(
+        out, c, show, &t.records, &t.groups, &t.links, &t.rows, &t.keys, &t.actors,
+    );
     output_store(out, e, show, store)
 }

@@ -8,6 +8,7 @@
 ghost use Rattle.std.specs.Prelude.{◌≡◌};
 ghost use Rattle.replay.specs.Replay.{replay_of};
 
+use crate::play::Tables;
 use group::roster;
 use message_log::RECORDS;
 use wire::output;
@@ -27,29 +28,16 @@ pub fn replay(script: &[u8], log: &mut [u8], store: &mut [u8], out: &mut [u8]) -
         return 2;
     }
     let mut given = [[0u64; 37]; 16];
-    let mut pool = [0u64; 28];
-    let mut records = [[0u64; 4]; RECORDS];
-    let mut groups = [[0u64; 37]; lists::GROUPS];
-    let mut links = [[0u64; 4]; lists::LISTS];
-    let mut rows = [[0u64; 7]; lists::ENTRIES];
-    let mut keys = [[0u8; 65]; roster::ROWS];
-    let mut actors = [[0u64; 12]; lists::SLOTS];
-    let done = play::play(
-        script,
-        log,
-        store,
-        out,
-        &mut given,
-        &mut pool,
-        &mut records,
-        &mut groups,
-        &mut links,
-        &mut rows,
-        &mut keys,
-        &mut actors,
-    );
-    let at = done.at;
-    let count = [(at - 8) as u64];
-    output::output_numbers(out, Done { at: 0, code: 0 }, &count);
+    let mut t = Tables {
+        pool: [0u64; 28],
+        records: [[0u64; 4]; RECORDS],
+        groups: [[0u64; 37]; lists::GROUPS],
+        links: [[0u64; 4]; lists::LISTS],
+        rows: [[0u64; 7]; lists::ENTRIES],
+        keys: [[0u8; 65]; roster::ROWS],
+        actors: [[0u64; 12]; lists::SLOTS],
+    };
+    let done = play::play(script, log, store, out, &mut given, &mut t);
+    output::output_numbers(out, Done { at: 0, code: 0 }, &[(done.at - 8) as u64]);
     done.code
 }

@@ -1,122 +1,104 @@
 // A script: its header, the opening, and its calls one after the other.
 ghost use Rattle.std.specs.Prelude.{◌≡◌, ◌+◌, ◌≤◌, length};
-ghost use Rattle.theorem.specs.Rail.{call_of, accepted};
+ghost use Rattle.theorem.specs.Rail.{call_of};
 ghost use Rattle.pool.specs.Open.{open_of};
-ghost use Rattle.lists.specs.Links.{Table};
-ghost use Rattle.turn.specs.State.{Pool};
 ghost use Rattle.turn.specs.Words.{pool_of};
 ghost use Rattle.answers.specs.Answers.{answer_of};
-ghost use Rattle.replay.specs.Replay.{decoded, calls_at, play, blank, placed, play_opened, play_script};
+ghost use Rattle.replay.specs.Replay.{decoded, calls_at, play, blank, placed, lent_state, play_opened, play_script};
 
 use crate::entry;
 use actor::message::MessageRow;
 use actor::state::ActorRow;
-use answers::answer::{AnswerKind, Called};
+use answers::answer::Called;
+use group::roster;
 use group::settings::GroupRow;
 use lists::LinkRow;
 use lists::keys::KeyRow;
-use message_log::RecordRow;
+use message_log::{RECORDS, RecordRow};
 use pool::{admit, calls, open};
 use settings::ranges::Settings;
 use turn::state::PoolCells;
 use wire::output::Done;
-use wire::script::{CallAt, CallRead, HeaderRead, Kind};
+use wire::script::{CallAt, Kind};
 use wire::{output, script};
 
+// The pool's cells and its tables, which a script runs on beside the lent log and store.
+#[derive(Drop)]
+pub struct Tables {
+    pub pool: PoolCells,
+    pub records: [RecordRow; RECORDS],
+    pub groups: [GroupRow; lists::GROUPS],
+    pub links: [LinkRow; lists::LISTS],
+    pub rows: [MessageRow; lists::ENTRIES],
+    pub keys: [KeyRow; roster::ROWS],
+    pub actors: [ActorRow; lists::SLOTS],
+}
+
 // One call.
-fn step(
-    script: &[u8],
-    call: CallAt,
-    pool: &mut PoolCells,
-    log: &mut [u8],
-    records: &mut [RecordRow],
-    store: &mut [u8],
-    groups: &[GroupRow],
-    links: &mut [LinkRow],
-    rows: &mut [MessageRow],
-    keys: &mut [KeyRow],
-    actors: &mut [ActorRow],
-) -> Called
+fn step(script: &[u8], call: CallAt, t: &mut Tables, log: &mut [u8], store: &mut [u8]) -> Called
     requires { (call.name ≤ call.body) × (call.body ≤ call.end) × (call.end ≤ length script.now) }
     ensures { record {
-      state = record {
-        pool = pool_of pool.new;
-        bytes = log.new;
-        records = records.new;
-        store = store.new;
-        groups = groups.now;
-        links = links.new;
-        rows = rows.new;
-        keys = keys.new;
-        actors = actors.new;
-      };
-      answer = answer_of result (pool_of pool.new) links.new rows.new;
+      state = lent_state t.new log.new store.new;
+      answer = answer_of result (pool_of t.new.pool) t.new.links t.new.rows;
     }
         ≡ call_of
-        (record {
-          pool = pool_of pool.old;
-          bytes = log.old;
-          records = records.old;
-          store = store.old;
-          groups = groups.now;
-          links = links.old;
-          rows = rows.old;
-          keys = keys.old;
-          actors = actors.old;
-        })
+        (lent_state t.old log.old store.old)
         (decoded script.now call) }
 {
-    let kind = call.kind;
-    let from = call.name;
-    let mid = call.body;
-    let end = call.end;
-    match kind {
+    let name = &script[call.name..call.body];
+    let body = &script[call.body..call.end];
+    match call.kind {
         Kind::Admit(caller) => admit::admit(
-            pool,
+            &mut t.pool,
             log,
-            records,
+            &mut t.records,
             store,
-            groups,
-            links,
-            rows,
-            &script[from..mid],
-            &script[mid..end],
+            &t.groups,
+            &mut t.links,
+            &mut t.rows,
+            name,
+            body,
             caller,
         ),
-        Kind::Turn => calls::turn(pool, log, records, store, groups, links, rows, keys, actors),
-        Kind::Reply(reply) => calls::reply(
-            pool,
+        Kind::Turn => calls::turn(
+            &mut t.pool,
             log,
-            records,
+            &mut t.records,
             store,
-            groups,
-            links,
-            rows,
-            keys,
-            actors,
-            reply,
-            &script[from..mid],
-            &script[mid..end],
+            &t.groups,
+            &mut t.links,
+            &mut t.rows,
+            &mut t.keys,
+            &mut t.actors,
         ),
-        Kind::Sync => calls::sync(pool),
-        Kind::Close => calls::close(pool),
+        Kind::Reply(reply) => calls::reply(
+            &mut t.pool,
+            log,
+            &mut t.records,
+            store,
+            &t.groups,
+            &mut t.links,
+            &mut t.rows,
+            &mut t.keys,
+            &mut t.actors,
+            reply,
+            name,
+            body,
+        ),
+        Kind::Sync => calls::sync(&mut t.pool),
+        Kind::Close => calls::close(&mut t.pool),
     }
 }
 
 // The calls from `start` on.
+// Kept: a `while`, since it counts nothing: each call says where the next one begins, and the output whether to go on.
 fn run_calls(
     script: &[u8],
     start: usize,
     show: u64,
-    pool: &mut PoolCells,
+    t: &mut Tables,
     log: &mut [u8],
-    records: &mut [RecordRow],
     store: &mut [u8],
-    groups: &[GroupRow],
-    links: &mut [LinkRow],
-    rows: &mut [MessageRow],
-    keys: &mut [KeyRow],
-    actors: &mut [ActorRow],
     out: &mut [u8],
     d: Done,
 ) -> Done
@@ -126,17 +108,7 @@ fn run_calls(
       output = record { out = out.new; at = result.at; code = result.code };
     }
         ≡ play show
-        (record {
-          pool = pool_of pool.old;
-          bytes = log.old;
-          records = records.old;
-          store = store.old;
-          groups = groups.now;
-          links = links.old;
-          rows = rows.old;
-          keys = keys.old;
-          actors = actors.old;
-        })
+        (lent_state t.old log.old store.old)
         (record { out = out.old; at = d.at; code = d.code })
         (calls_at (length script.now) script.now start) }
 {
@@ -146,40 +118,18 @@ fn run_calls(
         if script.len() <= p {
             return e;
         }
-        let read = script::read_call(script, p);
-        match read {
-            CallRead::Malformed => {
-                return Done { at: e.at, code: 1 };
-            }
-            CallRead::Next(call) => {
-                let end = call.end;
-                let called = step(
-                    script, call, pool, log, records, store, groups, links, rows, keys, actors,
-                );
-                let next = entry::output_entry(
-                    out, e, show, called, pool, log, records, store, groups, links, rows, keys,
-                    actors,
-                );
-                e = next;
-                p = end;
-            }
-        }
+        let Some(call) = script::read_call(script, p) else {
+            return Done { at: e.at, code: 1 };
+        };
+        p = call.end;
+        let called = step(script, call, t, log, store);
+        e = entry::output_entry(out, e, show, called, t, log, store);
     }
     e
 }
 
-// Whether an opening was accepted.
-fn is_accepted(called: &Called) -> bool
-    ensures { (p : Pool) (links rows : Table) → result ≡ accepted (answer_of called.now p links rows) }
-{
-    match called.kind {
-        AnswerKind::Refused => false,
-        AnswerKind::Open => true,
-        AnswerKind::Ended => true,
-    }
-}
-
 // The opening, and what follows it.
+// Kept: `n` is the file's length within the log, which is lent whole, as `open` takes it.
 fn run_opened(
     script: &[u8],
     start: usize,
@@ -187,15 +137,9 @@ fn run_opened(
     settings: Settings,
     given: &[GroupRow],
     n: usize,
-    pool: &mut PoolCells,
+    t: &mut Tables,
     log: &mut [u8],
-    records: &mut [RecordRow],
     store: &mut [u8],
-    groups: &mut [GroupRow],
-    links: &mut [LinkRow],
-    rows: &mut [MessageRow],
-    keys: &mut [KeyRow],
-    actors: &mut [ActorRow],
     out: &mut [u8],
     d: Done,
 ) -> Done
@@ -211,38 +155,44 @@ fn run_opened(
           bytes = log.old;
           size = n;
           store = store.old;
-          records = records.old;
-          groups = groups.old;
-          links = links.old;
-          rows = rows.old;
-          keys = keys.old;
-          actors = actors.old;
+          records = t.old.records;
+          groups = t.old.groups;
+          links = t.old.links;
+          rows = t.old.rows;
+          keys = t.old.keys;
+          actors = t.old.actors;
         }))
         (record { out = out.old; at = d.at; code = d.code }) }
 {
     let called = open::open(
-        pool, settings, given, log, n, store, records, groups, links, rows, keys, actors,
+        &mut t.pool,
+        settings,
+        given,
+        log,
+        n,
+        store,
+        &mut t.records,
+        &mut t.groups,
+        &mut t.links,
+        &mut t.rows,
+        &mut t.keys,
+        &t.actors,
     );
-    let goes_on = is_accepted(&called);
-    let e = entry::output_entry(
-        out, d, show, called, pool, log, records, store, groups, links, rows, keys, actors,
-    );
+    let goes_on = called.is_ok();
+    let e = entry::output_entry(out, d, show, called, t, log, store);
     if goes_on {
-        return run_calls(
-            script, start, show, pool, log, records, store, groups, links, rows, keys, actors, out,
-            e,
-        );
+        return run_calls(script, start, show, t, log, store, out, e);
     }
     e
 }
 
 // The file into the log's first bytes, if it fits.
+// Kept: a place and a length beside the script, as the definition `placed` takes them.
 fn place_file(log: &mut [u8], script: &[u8], from: usize, n: usize)
     requires { from + n ≤ length script.now }
     ensures { log.new ≡ placed script.now from n log.old }
 {
-    let end = from + n;
-    output::output_bytes(log, Done { at: 0, code: 0 }, &script[from..end]);
+    output::output_bytes(log, Done { at: 0, code: 0 }, &script[from..from + n]);
 }
 
 // A whole script. What is lent beside log and store is blank.
@@ -252,17 +202,11 @@ pub(crate) fn play(
     store: &mut [u8],
     out: &mut [u8],
     given: &mut [GroupRow],
-    pool: &mut PoolCells,
-    records: &mut [RecordRow],
-    groups: &mut [GroupRow],
-    links: &mut [LinkRow],
-    rows: &mut [MessageRow],
-    keys: &mut [KeyRow],
-    actors: &mut [ActorRow],
+    t: &mut Tables,
 ) -> Done
-    requires { (given.old ≡ blank 16 37) × (records.old ≡ blank 256 4) × (groups.old ≡ blank 8 37)
-        × (links.old ≡ blank 262 4)
-        × (rows.old ≡ blank 256 7) × (keys.old ≡ blank 34 65) × (actors.old ≡ blank 128 12) }
+    requires { (given.old ≡ blank 16 37) × (t.old.records ≡ blank 256 4) × (t.old.groups ≡ blank 8 37)
+        × (t.old.links ≡ blank 262 4)
+        × (t.old.rows ≡ blank 256 7) × (t.old.keys ≡ blank 34 65) × (t.old.actors ≡ blank 128 12) }
     ensures { record {
       bytes = log.new;
       store = store.new;
@@ -271,41 +215,25 @@ pub(crate) fn play(
         ≡ play_script script.now log.old store.old
         (record { out = out.old; at = 8; code = 0 }) }
 {
-    let read = script::read_header(script);
-    match read {
-        HeaderRead::Malformed => Done { at: 8, code: 1 },
-        HeaderRead::Fields(h) => {
-            let n = h.n;
-            let file = h.file;
-            let count = h.groups;
-            let show = h.show;
-            let settings = h.settings;
-            if log.len() == h.long {
-                if store.len() == h.stored {
-                    script::read_groups(script, count, given);
-                    place_file(log, script, file, n);
-                    return run_opened(
-                        script,
-                        file + n,
-                        show,
-                        settings,
-                        &given[..count],
-                        n,
-                        pool,
-                        log,
-                        records,
-                        store,
-                        groups,
-                        links,
-                        rows,
-                        keys,
-                        actors,
-                        out,
-                        Done { at: 8, code: 0 },
-                    );
-                }
-            }
-            Done { at: 8, code: 3 }
-        }
+    let Some(h) = script::read_header(script) else {
+        return Done { at: 8, code: 1 };
+    };
+    if log.len() != h.long || store.len() != h.stored {
+        return Done { at: 8, code: 3 };
     }
+    script::read_groups(script, h.groups, given);
+    place_file(log, script, h.file, h.n);
+    run_opened(
+        script,
+        h.file + h.n,
+        h.show,
+        h.settings,
+        &given[..h.groups],
+        h.n,
+        t,
+        log,
+        store,
+        out,
+        Done { at: 8, code: 0 },
+    )
 }

@@ -1,14 +1,8 @@
 -- The batch's messages go to actors of their groups. Pick: an idle one, else a spawn under the ceiling, else the
 -- least loaded, first of the equals. A message whose group does not exist, or for which there is no actor, is over.
-use Rattle.std.specs.Prelude.{Bool, true, false, List, ℕ, ◌-◌, eqb, ltb}
-use Rattle.lists.specs.declared.Found.{Found}
-use Rattle.lists.specs.declared.Found.TheVariants as found
-use Rattle.lists.specs.declared.keys.Key.{Key}
-use Rattle.lists.specs.declared.keys.Key.TheVariants as key
+use Rattle.std.specs.Prelude.{◌≡◌, Bool, true, false, List, ℕ, ◌-◌, eqb, ltb, Option, Some, None}
 use Rattle.lists.specs.Links.{pick, Table, first_of, move_first, mailbox_of, BATCH}
 use Rattle.actor.specs.declared.question.Reply.{Reply}
-use Rattle.actor.specs.declared.question.YesIn.{YesIn}
-use Rattle.actor.specs.declared.question.YesIn.TheVariants as yes
 use Rattle.actor.specs.Questions.{yes_in}
 use Rattle.actor.specs.Messages.{message_at}
 use Rattle.actor.specs.Actors.{actor_at, put_actor, delivered_to}
@@ -17,12 +11,12 @@ use Rattle.points.specs.declared.at.At.{At}
 use Rattle.points.specs.declared.at.At.TheVariants as at
 use Rattle.points.specs.declared.at.Ask.TheVariants as asks
 use Rattle.points.specs.declared.at.Point.TheVariants as point
-use Rattle.group.specs.declared.settings.Named.{Named}
-use Rattle.group.specs.declared.settings.Named.TheVariants as named
 use Rattle.group.specs.Settings.{group_at, by_name}
 use Rattle.group.specs.Roster.{Keyed, Mailed, Spawned, TurnTables, mailed, turn_tables, queued_after}
 use Rattle.group.specs.Roster.{slot_at, live_len, schedule_of, spawn_of, pop_idle_of, least_of}
+use Rattle.points.specs.declared.words.Where.{Where}
 use Rattle.route.specs.declared.batch.Routed as words
+use Rattle.route.specs.declared.batch.Tables.{Tables}
 use Rattle.route.specs.Intake.{Linked}
 use Rattle.points.specs.Words.{at_of}
 
@@ -41,6 +35,26 @@ pub record RoutedTables : Type 0 where
   pub keys : Table
   pub actors : Table
   pub routed : Routed
+
+-- the tables that routing has in its hands
+abbrev pub held_tables : Tables → TurnTables
+held_tables t = turn_tables t.links.now t.keys.now t.actors.now t.queued
+
+-- what routing left in its hands, and where the turn stands then
+abbrev pub routed_in : Tables → Where → RoutedTables
+routed_in t w =
+    record {
+      links = t.links.now;
+      keys = t.keys.now;
+      actors = t.actors.now;
+      routed = record { at = at_of w; queued = t.queued };
+    }
+
+-- these are the same tables, with the values that they have now
+abbrev pub RouteKept : Tables → Tables → Type 0
+RouteKept t u =
+    (u.links.ghost_name ≡ t.links.ghost_name) × (u.keys.ghost_name ≡ t.keys.ghost_name)
+    × (u.actors.ghost_name ≡ t.actors.ghost_name)
 
 -- the table of groups, how many of its rows are groups, and the body store, which has the names in messages
 pub record Programs : Type 0 where
@@ -96,9 +110,9 @@ deliver x g k left =
     delivered_by (deliver_to x.links (slot_at g k) x.queued) (wake_at x.keys x.actors g k) left
 
 -- to an actor, where there is one; else it is over
-unfoldable pub deliver_key : Table → TurnTables → ℕ → Key → ℕ → RoutedTables
-deliver_key rows x g (key.At k) left = deliver x g k left
-deliver_key rows x g key.Nothing left = lost_to (undeliverable x.links rows left) x
+unfoldable pub deliver_key : Table → TurnTables → ℕ → Option ℕ → ℕ → RoutedTables
+deliver_key rows x g (Some k) left = deliver x g k left
+deliver_key rows x g None left = lost_to (undeliverable x.links rows left) x
 
 -- ---- pick
 
@@ -107,9 +121,9 @@ unfoldable pub route_least : Table → TurnTables → ℕ → ℕ → RoutedTabl
 route_least rows x g left = deliver_key rows x g (least_of x.keys x.links g) left
 
 -- to the actor that was spawned; where none was, to the least loaded
-abbrev pub spawned_sent : Table → TurnTables → ℕ → ℕ → Key → RoutedTables
-spawned_sent rows x g left (key.At k) = deliver x g k left
-spawned_sent rows x g left key.Nothing = route_least rows x g left
+abbrev pub spawned_sent : Table → TurnTables → ℕ → ℕ → Option ℕ → RoutedTables
+spawned_sent rows x g left (Some k) = deliver x g k left
+spawned_sent rows x g left None = route_least rows x g left
 
 -- with keys and actors as the spawn left them: to the new actor; where none was spawned, to the least loaded
 abbrev pub spawn_sent : Table → Mailed → ℕ → ℕ → Spawned → RoutedTables
@@ -128,9 +142,9 @@ route_new groups rows x g left =
     (route_least rows x g left)
 
 -- an idle one, where there is one, else that
-abbrev pub idle_else : TurnTables → ℕ → ℕ → Key → RoutedTables → RoutedTables
-idle_else x g left (key.At k) other = deliver x g k left
-idle_else x g left key.Nothing other = other
+abbrev pub idle_else : TurnTables → ℕ → ℕ → Option ℕ → RoutedTables → RoutedTables
+idle_else x g left (Some k) other = deliver x g k left
+idle_else x g left None other = other
 
 -- without the idle keys that were looked at
 abbrev pub idle_popped : TurnTables → ℕ → TurnTables
@@ -143,9 +157,9 @@ pick_of groups rows x g left =
     (route_new groups rows (idle_popped x g) g left)
 
 -- to its group; with no group of its name it is over
-abbrev pub route_named : Table → Table → TurnTables → ℕ → Named → RoutedTables
-route_named groups rows x left (named.Group g) = pick_of groups rows x g left
-route_named groups rows x left named.Nothing = lost_to (undeliverable x.links rows left) x
+abbrev pub route_named : Table → Table → TurnTables → ℕ → Option ℕ → RoutedTables
+route_named groups rows x left (Some g) = pick_of groups rows x g left
+route_named groups rows x left None = lost_to (undeliverable x.links rows left) x
 
 -- the group is the one of the name that the message has in the store
 unfoldable pub route_one : Programs → Table → TurnTables → ℕ → ℕ → RoutedTables
@@ -160,9 +174,9 @@ abbrev pub clock_next : TurnTables → RoutedTables
 clock_next x = same_to x (at.Asks asks.TickClock)
 
 -- the batch's first message is routed; where the batch has none, Clock is asked for the tick
-abbrev pub route_first : Programs → Table → TurnTables → ℕ → Found → RoutedTables
-route_first p rows x left (found.Entry e) = route_one p rows x e left
-route_first p rows x left found.Nothing = clock_next x
+abbrev pub route_first : Programs → Table → TurnTables → ℕ → Option ℕ → RoutedTables
+route_first p rows x left (Some e) = route_one p rows x e left
+route_first p rows x left None = clock_next x
 
 -- one message of the batch is routed, its first; with none left to route, or none in it, Clock is asked for the tick
 unfoldable pub route_of : Programs → Table → TurnTables → ℕ → RoutedTables
@@ -174,10 +188,9 @@ route_booted rows x g left true = route_spawned rows x g false left
 route_booted rows x g left false = route_least rows x g left
 
 -- Boot yes: an actor is spawned for it; no: to the least loaded; any other reply: nothing changes, and Boot stays open
-abbrev pub route_by : Table → TurnTables → ℕ → ℕ → YesIn → RoutedTables
-route_by rows x g left yes.Yes = route_booted rows x g left true
-route_by rows x g left yes.No = route_booted rows x g left false
-route_by rows x g left yes.Other = same_to x (at.Asks (asks.RouteBoot g left))
+abbrev pub route_by : Table → TurnTables → ℕ → ℕ → Option Bool → RoutedTables
+route_by rows x g left (Some booted) = route_booted rows x g left booted
+route_by rows x g left None = same_to x (at.Asks (asks.RouteBoot g left))
 
 -- the reply to the Boot that routing asked of group g; one that is neither yes nor no leaves it open
 unfoldable pub route_reply : Table → TurnTables → ℕ → ℕ → Reply → RoutedTables

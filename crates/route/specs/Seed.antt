@@ -1,10 +1,8 @@
 -- The first turn spawns one actor for each group whose ceiling is above 0. Spawn of a fixed actor asks Boot; eval
 -- does not.
-use Rattle.std.specs.Prelude.{Bool, true, false, ℕ, eqb, leb}
+use Rattle.std.specs.Prelude.{Bool, true, false, ℕ, eqb, leb, Option, Some, None}
 use Rattle.lists.specs.Links.{pick, Table, ENTRIES, GROUPS}
 use Rattle.actor.specs.declared.question.Reply.{Reply}
-use Rattle.actor.specs.declared.question.YesIn.{YesIn}
-use Rattle.actor.specs.declared.question.YesIn.TheVariants as yes
 use Rattle.actor.specs.Questions.{yes_in}
 use Rattle.points.specs.declared.at.At.{At}
 use Rattle.points.specs.declared.at.At.TheVariants as at
@@ -43,10 +41,9 @@ seed_booted keys actors g true = spawned_to (spawn_of keys actors g false) (at.R
 seed_booted keys actors g false = seeded_to keys actors (at.Runs (point.Seed (next_group g)))
 
 -- Boot yes: a spawn, and the next group; no: the next group; any other reply: nothing changes, and Boot stays open
-abbrev pub seed_by : Table → Table → ℕ → YesIn → Seeded
-seed_by keys actors g yes.Yes = seed_booted keys actors g true
-seed_by keys actors g yes.No = seed_booted keys actors g false
-seed_by keys actors g yes.Other = seeded_to keys actors (at.Asks (asks.SeedBoot g))
+abbrev pub seed_by : Table → Table → ℕ → Option Bool → Seeded
+seed_by keys actors g (Some booted) = seed_booted keys actors g booted
+seed_by keys actors g None = seeded_to keys actors (at.Asks (asks.SeedBoot g))
 
 -- the reply to the Boot of group g's seed; one that is neither yes nor no leaves it open
 unfoldable pub seed_reply : Table → Table → ℕ → Reply → Seeded

@@ -12,6 +12,7 @@ use std::io::{Read, Write};
 use wire::number::number_at;
 
 // The most bytes of a list; what stands behind them is not read.
+// Kept: it is a size, and no kind.
 const LIST: u64 = 262144;
 
 #[derive(Drop)]
@@ -20,110 +21,66 @@ struct Tally {
     cases: u64,
 }
 
-// The end of the line that begins at p: the place of its LF, or the text's end.
-fn line_end(text: &[u8], p: usize) -> usize
-    requires { p ≤ length text.now }
-    ensures { (p ≤ result) × (result ≤ length text.now) }
-{
-    let mut i = p;
-    while i < text.len() {
-        if text[i] == b'\n' {
-            return i;
-        }
-        i += 1;
-    }
-    i
-}
-
 fn digit(b: u8) -> u8
     ensures { result ≤ 15 }
 {
-    if b < b'0' {
-        return 0;
+    match b {
+        b'0'..=b'9' => b - b'0',
+        b'a'..=b'f' => b - b'a' + 10,
+        _ => 0,
     }
-    if b <= b'9' {
-        return b - b'0';
-    }
-    if b < b'a' {
-        return 0;
-    }
-    if b <= b'f' {
-        return b - b'a' + 10;
-    }
-    0
 }
 
 // How many zero bytes a sign stands for.
+// Kept: no `From`, as the number is not what the sign means in general, but only in a list.
 fn zeros(b: u8) -> usize
     ensures { result ≤ 7 }
 {
-    if b == b'.' {
-        return 7;
+    match b {
+        b'.' => 7,
+        b':' => 6,
+        _ => 0,
     }
-    if b == b':' {
-        return 6;
-    }
-    0
 }
 
 // So many zero bytes, or as many as there is room for.
+// Kept: `n` is how many to write, of which only some may have room; `at` is checked against the slice.
 fn put_zeros(out: &mut [u8], at: usize, n: usize) -> usize
     requires { at ≤ length out.old }
     ensures { result ≤ length out.old }
 {
-    let mut p = at;
-    let mut k = n;
-    while 0 < k {
-        if out.len() <= p {
-            return p;
-        }
-        out[p] = 0;
-        p += 1;
-        k -= 1;
-    }
-    p
+    let end = out.len().min(at.saturating_add(n));
+    out[at..end].fill(0);
+    end
 }
 
-// The bytes of a line, behind its first sign; those that have no room are left out.
+// The bytes of a line, behind its first sign; those that have no room are left out. A byte is one sign or two.
 fn decode(line: &[u8], out: &mut [u8]) -> usize
     ensures { result ≤ length out.old }
 {
+    let [_, signs @ ..] = line else {
+        return 0;
+    };
     let mut p: usize = 0;
-    let mut i: usize = 1;
-    while i < line.len() {
-        let b = line[i];
-        let z = zeros(b);
-        i += 1;
-        if 0 < z {
-            p = put_zeros(out, p, z);
-        } else {
-            if line.len() <= i {
-                return p;
-            }
+    let mut first: Option<u8> = None;
+    for &b in signs {
+        if let Some(high) = first {
             if out.len() <= p {
                 return p;
             }
-            out[p] = digit(b) * 16 + digit(line[i]);
+            out[p] = digit(high) * 16 + digit(b);
             p += 1;
-            i += 1;
+            first = None;
+        } else {
+            let z = zeros(b);
+            if 0 < z {
+                p = put_zeros(out, p, z);
+            } else {
+                first = Some(b);
+            }
         }
     }
     p
-}
-
-// Whether a text begins with another.
-fn same(a: &[u8], b: &[u8]) -> bool {
-    let mut i: usize = 0;
-    while i < b.len() {
-        if a.len() <= i {
-            return false;
-        }
-        if a[i] != b[i] {
-            return false;
-        }
-        i += 1;
-    }
-    true
 }
 
 // Whether the port writes just what is expected. The script says how long the lent log and store are.
@@ -137,19 +94,10 @@ fn replayed(
     let n = expected.len();
     let l = number_at(script, 16) as usize;
     let m = number_at(script, 24) as usize;
-    if out.len() < n {
+    if out.len() < n || log.len() < l || store.len() < m {
         return false;
     }
-    if log.len() < l {
-        return false;
-    }
-    if store.len() < m {
-        return false;
-    }
-    if replay(script, &mut log[..l], &mut store[..m], &mut out[..n]) != 0 {
-        return false;
-    }
-    same(out, expected)
+    replay(script, &mut log[..l], &mut store[..m], &mut out[..n]) == 0 && out.starts_with(expected)
 }
 
 // A title, if there is one, with whether its script was replayed.
@@ -160,23 +108,15 @@ fn print_title<W: Write>(
     passed: bool,
     console: &mut W,
 ) -> io::Result<()> {
-    if end <= text.len() {
-        if from < end {
-            console.write_all(&text[from..end])?;
-            if passed {
-                console.write_all(b": the same\n")?;
-            } else {
-                console.write_all(b": DIFFERENT\n")?;
-            }
+    if from < end && end <= text.len() {
+        console.write_all(&text[from..end])?;
+        if passed {
+            console.write_all(b": the same\n")?;
+        } else {
+            console.write_all(b": DIFFERENT\n")?;
         }
     }
     Ok(())
-}
-
-fn one_if(b: bool) -> u64
-    ensures { result ≤ 1 }
-{
-    if b { 1 } else { 0 }
 }
 
 // The whole list, by its whole lines; a script, the output expected and the port's are held in what is lent.
@@ -190,35 +130,31 @@ fn replay_list<W: Write>(
     console: &mut W,
 ) -> io::Result<Tally> {
     let mut n: usize = 0;
-    let mut p: usize = 0;
+    let mut from: usize = 0;
     let mut title: usize = 0;
     let mut title_end: usize = 0;
     let mut passed: u64 = 0;
     let mut cases: u64 = 0;
-    while p < text.len() {
-        let from = p;
-        let end = line_end(text, from);
-        if text.len() <= end {
-            return Ok(Tally { passed, cases });
-        }
-        let sign = text[from];
-        p = end + 1;
-        if sign == b'<' {
-            n = decode(&text[from..end], script);
-        } else {
-            if sign == b'>' {
-                let m = decode(&text[from..end], expected);
-                let good = replayed(&script[..n], &expected[..m], log, store, out);
-                print_title(text, title, title_end, good, console)?;
-                title_end = 0;
-                cases += 1;
-                passed += one_if(good);
-            } else {
-                if sign == b'=' {
+    for (end, sign) in text.iter().enumerate() {
+        if *sign == b'\n' {
+            let line = &text[from..end];
+            match text[from] {
+                b'<' => n = decode(line, script),
+                b'>' => {
+                    let m = decode(line, expected);
+                    let good = replayed(&script[..n], &expected[..m], log, store, out);
+                    print_title(text, title, title_end, good, console)?;
+                    title_end = 0;
+                    cases += 1;
+                    passed += u64::from(good);
+                }
+                b'=' => {
                     title = from + 1;
                     title_end = end;
                 }
+                _ => {}
             }
+            from = end + 1;
         }
     }
     Ok(Tally { passed, cases })

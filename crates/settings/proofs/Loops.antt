@@ -6,7 +6,7 @@ use Prim.Native.Nat.{ℕ, suc, ◌+◌, ◌-◌, ◌≤◌, ◌<◌}
 use native.Mathlib.Numerals.{add-one}
 use native.Mathlib.Omega.{arith}
 use lib.Dec.{ltb}
-use lib.ListN.{length, get_or, take, drop, set, replicate, take-append-drop, drop_of_length-le}
+use lib.ListN.{length, length-drop, get_or, take, drop, set, replicate, take-append-drop, drop_of_length-le}
 use lib.ListN.{replicate-append-replicate}
 use lib.Seq.{drop-cons, take-suc-set, drop-set-lt, take_all}
 use Rattle.lists.specs.Links.{pick, Table, FREE, move_first, PENDING}
@@ -18,21 +18,27 @@ use Rattle.settings.specs.Tables.{left_at, left_message, put_left}
 more : {A : Type 0} (l : List A) (i : ℕ) (d : A) → i < length l → drop i l ≡ get_or l i d ∷ drop (i + 1) l
 more l i d inside = rw add-one (drop-cons l i d inside)
 
--- ---- the bytes of a name, cell by cell
+-- ---- the bytes of a name
 
-pub cells_more : (row : List ℕ) (i : ℕ) → i < length row → all_bytes (drop i row) ≡ pick (ltb 255 (get_or row i 0)) false
-    (all_bytes (drop (i + 1) row))
+pub cells_more : (bs : List ℕ) (i : ℕ) → i < length bs
+    → all_bytes (drop i bs) ≡ pick (ltb 255 (get_or bs i 0)) false (all_bytes (drop (i + 1) bs))
 unfolding all_bytes
-cells_more row i inside = ap all_bytes (more row i 0 inside)
+cells_more bs i inside = ap all_bytes (more bs i 0 inside)
 
-pub cells_end : (row : List ℕ) (i : ℕ) → length row ≤ i → all_bytes (drop i row) ≡ true
+pub cells_end : (bs : List ℕ) (i : ℕ) → length bs ≤ i → all_bytes (drop i bs) ≡ true
 unfolding all_bytes
-cells_end row i out = rw (drop_of_length-le row out)
+cells_end bs i out = rw (drop_of_length-le bs out)
+
+-- the cells from 5 on are 32
+pub cells_all : (row : List ℕ) → length row ≡ 37 → take 32 (drop 5 row) ≡ drop 5 row
+cells_all row long = take_all 32 (drop 5 row) (omega (arith, length-drop 5 row))
+
+pub ruleset cells = (cells_more, cells_end, cells_all)
 
 -- ---- the groups' settings, row by row
 
-pub rows_more : (given : Table) (g : ℕ) → g < length given → rows_fit (drop g given) ≡ (row_fits (get_or given g [])
-    && rows_fit (drop (g + 1) given))
+pub rows_more : (given : Table) (g : ℕ) → g < length given
+    → rows_fit (drop g given) ≡ (row_fits (get_or given g []) && rows_fit (drop (g + 1) given))
 unfolding rows_fit
 rows_more given g inside = ap rows_fit (more given g [] inside)
 
@@ -71,6 +77,8 @@ module _ (most : ℕ) (groups given : Table) (g : ℕ) where
   pub groups_end : length given ≤ g → written most groups given g ≡ groups
   groups_end out = rw (drop_of_length-le given out, none_given most (drop g groups)) (take-append-drop g groups)
 
+pub ruleset groups = (groups_more, groups_full, groups_end)
+
 -- ---- lists of keys made empty: those below i are
 
 pub blank_more : (t : Table) (row : List ℕ) (i : ℕ) → i < length t → take i t ≡ replicate i row
@@ -78,8 +86,8 @@ pub blank_more : (t : Table) (row : List ℕ) (i : ℕ) → i < length t → tak
 blank_more t row i inside below = rw (add-one, take-suc-set t i row inside, below) (replicate-append-replicate i 1 row
     ∙ ap (λ n. replicate n row) (add-one i))
 
-pub blank_end : (t : Table) (row : List ℕ) (n i : ℕ) → length t ≡ n → n ≤ i → i ≤ n → take i t ≡ replicate i row → t
-    ≡ replicate n row
+pub blank_end : (t : Table) (row : List ℕ) (n i : ℕ) → length t ≡ n → n ≤ i → i ≤ n → take i t ≡ replicate i row
+    → t ≡ replicate n row
 blank_end t row n i long out within below =
     let all : i ≡ n = omega arith in
     sym (take_all i t (omega arith)) ∙ (below ∙ ap (λ k. replicate k row) all)

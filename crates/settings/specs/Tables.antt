@@ -1,8 +1,6 @@
 -- The messages that a log left, each in its entry and in pending, in rising id order.
-use Rattle.std.specs.Prelude.{List, [], ◌∷◌, ℕ, zero, suc, get_or}
+use Rattle.std.specs.Prelude.{List, [], ◌∷◌, ℕ, zero, suc, get_or, Some, None}
 use Rattle.lists.specs.Links.{Table, FREE, move_first, PENDING}
-use Rattle.actor.specs.declared.message.Caller.TheVariants as caller
-use Rattle.actor.specs.declared.message.Logged.TheVariants as logged
 use Rattle.actor.specs.declared.message.Message.{Message}
 use Rattle.actor.specs.Messages.{put_message}
 
@@ -21,9 +19,9 @@ left_message row = record {
   attempts = get_or row 3 0;
   name_len = get_or row 1 0;
   body_len = get_or row 2 0;
-  caller = caller.Nobody;
+  caller = None;
   id =
-      logged.As (record { 0 = get_or row 0 0 });
+      Some (record { 0 = get_or row 0 0 });
 }
 
 -- n of them, from the i-th on

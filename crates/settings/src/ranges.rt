@@ -1,6 +1,6 @@
 // Settings: whether each is in its range, and the groups' rows that a pool works with.
 ghost use Rattle.std.specs.Prelude.{◌≡◌, drop};
-ghost use Rattle.settings.specs.Ranges.{within, all_bytes, row_fits, rows_fit, numbers_fit, settings_fit, pool_row};
+ghost use Rattle.settings.specs.Ranges.{all_bytes, row_fits, rows_fit, numbers_fit, settings_fit, pool_row};
 ghost use Rattle.settings.specs.Ranges.{groups_from};
 
 use actor::message;
@@ -21,126 +21,83 @@ pub struct Settings {
     pub tick: u64,
 }
 
-fn within_range(least: u64, n: u64, most: u64) -> bool
-    ensures { result ≡ within least n most }
-{
-    if n < least {
-        return false;
-    }
-    n <= most
-}
-
 // Whether the cells from 5 on, the bytes of a name, are bytes.
-fn all_bytes(row: GroupRow) -> bool
-    ensures { result ≡ all_bytes (drop 5 row) }
+#[tactic(auto, using(crate::proofs::Loops::cells))]
+fn all_bytes(row: &GroupRow) -> bool
+    ensures { result ≡ all_bytes (drop 5 row.now) }
 {
-    let mut i: usize = 5;
-    while i < 37 {
-        let b = row[i];
-        if 255 < b {
+    for b in &row[5..] {
+        if 255 < *b {
             return false;
         }
-        i += 1;
     }
     true
 }
 
 // Whether a group's settings are in their ranges: replicas, fixed or eval, timeout, retry, the name's length, its
 // bytes.
-fn row_fits(row: GroupRow) -> bool
-    ensures { result ≡ row_fits row }
+#[tactic(auto, unfolding(crate::specs::Ranges::row_fits))]
+fn row_fits(row: &GroupRow) -> bool
+    ensures { result ≡ row_fits row.now }
 {
-    if KEYS < row[0] {
-        return false;
-    }
-    if 1 < row[1] {
-        return false;
-    }
-    if 86400 < row[2] {
-        return false;
-    }
-    if 255 < row[3] {
-        return false;
-    }
-    if message::NAME < row[4] {
-        return false;
-    }
-    all_bytes(row)
+    row[0] <= KEYS
+        && row[1] <= 1
+        && row[2] <= 86400
+        && row[3] <= 255
+        && row[4] <= message::NAME
+        && all_bytes(row)
 }
 
+// Whether every group's settings are in their ranges.
+#[tactic(auto, using(crate::proofs::Loops::rows_more, crate::proofs::Loops::rows_end))]
 fn rows_fit(given: &[GroupRow]) -> bool
     ensures { result ≡ rows_fit given.now }
 {
-    let mut g: usize = 0;
-    while g < given.len() {
-        let row = given[g];
-        let fits = row_fits(row);
-        if fits {
-            g += 1;
-        } else {
+    for row in given {
+        if !row_fits(row) {
             return false;
         }
     }
     true
 }
 
+// Whether the other numbers are in their ranges.
+#[tactic(auto, unfolding(crate::specs::Ranges::numbers_fit, crate::specs::Ranges::within))]
 fn numbers_fit(s: Settings) -> bool
     ensures { result ≡ numbers_fit s }
 {
-    let a = within_range(0, s.max_actors, KEYS);
-    let b = within_range(1, s.inbox, 64);
-    let c = within_range(1, s.backlog, lists::MESSAGES);
-    let d = within_range(1, s.compact_at, 65536);
-    let e = within_range(1, s.tick, 1000000000);
-    if a {
-        if b {
-            if c {
-                if d {
-                    return e;
-                }
-            }
-        }
-    }
-    false
+    s.max_actors <= KEYS
+        && (1..=64).contains(&s.inbox)
+        && (1..=lists::MESSAGES).contains(&s.backlog)
+        && (1..=65536).contains(&s.compact_at)
+        && (1..=1000000000).contains(&s.tick)
 }
 
 // Whether every setting is in its range.
+#[tactic(auto, unfolding(crate::specs::Ranges::settings_fit))]
 pub fn settings_fit(s: Settings, given: &[GroupRow]) -> bool
     ensures { result ≡ settings_fit s given.now }
 {
     let n = given.len();
-    if n == 0 {
-        return false;
-    }
-    if lists::GROUPS < n {
-        return false;
-    }
-    let fits = numbers_fit(s);
-    if fits { rows_fit(given) } else { false }
+    n != 0 && n <= lists::GROUPS && numbers_fit(s) && rows_fit(given)
 }
 
 // A group's row with its ceiling: the lesser of its replicas and max_actors.
+#[tactic(auto, unfolding(crate::specs::Ranges::pool_row))]
 fn pool_row(row: GroupRow, most: u64) -> GroupRow
     ensures { result ≡ pool_row most row }
 {
     let mut b = row;
-    if most < b[0] {
-        b[0] = most;
-    }
+    b[0] = b[0].min(most);
     b
 }
 
 // The groups' rows; past the end of either table nothing.
+#[tactic(auto, using(crate::proofs::Loops::groups))]
 pub fn put_groups(groups: &mut [GroupRow], given: &[GroupRow], most: u64)
     ensures { groups.new ≡ groups_from most groups.old given.now }
 {
-    let mut g: usize = 0;
-    while g < given.len() {
-        if groups.len() <= g {
-            return;
-        }
-        let row = pool_row(given[g], most);
-        groups[g] = row;
-        g += 1;
+    for g in 0..groups.len().min(given.len()) {
+        groups[g] = pool_row(given[g], most);
     }
 }

@@ -1,5 +1,8 @@
 -- A step keeps every message in exactly one place: the family of lists stays well formed, lists of other actors do not
 -- change, and `queued` changes as the mailbox's length does. Assumes nothing.
+use Rattle.std.specs.Prelude.{Option, Some, None, Bool, true, false}
+use Rattle.message_log.specs.declared.LogId.{LogId}
+use Rattle.actor.specs.declared.message.CallerId.{CallerId}
 use mathlib.Core.Path.{◌≡◌, refl, sym, ap, ◌∙◌}
 use mathlib.Core.Bool.{Bool, true, false}
 use mathlib.Core.Logic.{◌≢◌}
@@ -10,30 +13,16 @@ use borrow.Author.Tests.{eq-eqb, ne_eqb, lt-ltb}
 use lib.Dec.{eqb, ltb, leb}
 use lib.ListN.{length, take, length-append, length-drop}
 use lib.Seq.{length-take-le}
-use Rattle.lists.specs.declared.Found.{Found}
-use Rattle.lists.specs.declared.Found.TheVariants.{Entry, Nothing}
 use Rattle.lists.specs.Links.{pick, LISTS, Table, len_of, capped, first_of, move_first, move_first_to_front, mailbox_of}
 use Rattle.lists.specs.Links.{hand_of, FREE, OVER, HAND}
 use Rattle.lists.specs.Family.{view, Good, Pair, Moved, MovedToFront}
 use Rattle.lists.proofs.Family.{length_view}
 use Rattle.lists.proofs.Moves.{move_first_lem, move_first_to_front_lem}
-use Rattle.actor.specs.declared.message.Caller.{Caller}
-use Rattle.actor.specs.declared.message.Caller.TheVariants as caller
-use Rattle.actor.specs.declared.message.Logged.{Logged}
-use Rattle.actor.specs.declared.message.Logged.TheVariants as logged
 use Rattle.actor.specs.declared.question.Status.{Status}
 use Rattle.actor.specs.declared.question.Status.TheVariants as status
 use Rattle.actor.specs.declared.question.Outcome.{Outcome}
 use Rattle.actor.specs.declared.question.Outcome.TheVariants as outcome
 use Rattle.actor.specs.declared.question.Reply.{Reply}
-use Rattle.actor.specs.declared.question.YesIn.{YesIn}
-use Rattle.actor.specs.declared.question.YesIn.TheVariants as yes
-use Rattle.actor.specs.declared.question.ClockIn.{ClockIn}
-use Rattle.actor.specs.declared.question.ClockIn.TheVariants as clock
-use Rattle.actor.specs.declared.question.CountIn.{CountIn}
-use Rattle.actor.specs.declared.question.CountIn.TheVariants as count
-use Rattle.actor.specs.declared.question.RanIn.{RanIn}
-use Rattle.actor.specs.declared.question.RanIn.TheVariants as ran
 use Rattle.steps.specs.declared.fixed.FixedAsk.{FixedAsk}
 use Rattle.steps.specs.declared.fixed.FixedAsk.TheVariants as fixed
 use Rattle.steps.specs.declared.fixed.FixedNext.{FixedNext}
@@ -142,14 +131,14 @@ module _ (slot : ℕ) (slot_is : slot < 128) where
       }
 
   -- a message is over
-  place_rule : (P : ℕ → Type 0) → P OVER → P FREE → (rows : Table) (f : Found) → P (place_over rows f)
+  place_rule : (P : ℕ → Type 0) → P OVER → P FREE → (rows : Table) (f : Option ℕ) → P (place_over rows f)
   unfolding place_over
-  place_rule P o f rows (Entry e) = go (message_at rows e).id
+  place_rule P o f rows (Some e) = go (message_at rows e).id
     where
-      go : (l : Logged) → P (place_logged l)
-      go (logged.As id) = o
-      go logged.Never = f
-  place_rule P o f rows Nothing = f
+      go : (l : Option LogId) → P (place_logged l)
+      go (Some id) = o
+      go None = f
+  place_rule P o f rows None = f
 
   over_kept : (t rows : Table) (q from : ℕ) → Good t → Own from → from ≢ OVER → from ≢ FREE
       → Kept t (over_first t rows from) q q
@@ -322,22 +311,22 @@ module _ (slot : ℕ) (slot_is : slot < 128) where
   -- every transition of a fixed actor: no message is lost or doubled, other actors' lists are as they were, and queued
   -- changes as the mailbox does
   module _ (t rows l : Table) (q : ℕ) (good : Good t) (enough : len_of t (mailbox_of slot) ≤ q) (few : q ≤ 256) where
-    by_run : (start : Bool) (r : RanIn) → FixedKept t q (one.kept_fixed l q (one.run_by t rows slot start r))
-    by_run start (ran.Of s) = ran_kept t rows l q good s
-    by_run start ran.Other = record { kept = same_kept t q good; holds = omega arith }
+    by_run : (start : Bool) (r : Option Status) → FixedKept t q (one.kept_fixed l q (one.run_by t rows slot start r))
+    by_run start (Some s) = ran_kept t rows l q good s
+    by_run start None = record { kept = same_kept t q good; holds = omega arith }
 
-    by_drain : (r : CountIn) → FixedKept t q (one.drain_by t l slot q r)
-    by_drain (count.Of n) = drained_kept t l q n good enough
-    by_drain count.Other = record { kept = same_kept t q good; holds = omega arith }
+    by_drain : (r : Option ℕ) → FixedKept t q (one.drain_by t l slot q r)
+    by_drain (Some n) = drained_kept t l q n good enough
+    by_drain None = record { kept = same_kept t q good; holds = omega arith }
 
-    by_push : 0 < len_of t HAND → (r : YesIn) → FixedKept t q (one.push_by t l slot q r)
-    by_push some yes.Yes = pushed_kept t l q good some few true
-    by_push some yes.No = pushed_kept t l q good some few false
-    by_push some yes.Other = record { kept = same_kept t q good; holds = some }
+    by_push : 0 < len_of t HAND → (r : Option Bool) → FixedKept t q (one.push_by t l slot q r)
+    by_push some (Some true) = pushed_kept t l q good some few true
+    by_push some (Some false) = pushed_kept t l q good some few false
+    by_push some None = record { kept = same_kept t q good; holds = some }
 
-    by_dispatch : (r : CountIn) → FixedKept t q (one.kept_fixed l q (one.dispatch_by t slot r))
-    by_dispatch (count.Of n) = dispatched_kept t l q n good
-    by_dispatch count.Other = record { kept = same_kept t q good; holds = omega arith }
+    by_dispatch : (r : Option ℕ) → FixedKept t q (one.kept_fixed l q (one.dispatch_by t slot r))
+    by_dispatch (Some n) = dispatched_kept t l q n good
+    by_dispatch None = record { kept = same_kept t q good; holds = omega arith }
 
     pub step_fixed_kept : (a : FixedAsk) → Holds a t → (r : Reply)
         → FixedKept t q (one.step_fixed (step_tables t rows l) slot q a r)
@@ -373,9 +362,9 @@ module _ (slot : ℕ) (slot_is : slot < 128) where
   unfolding two.eval_tell
   tell_kept t rows l q good o = go (caller_first rows (first_of t HAND))
     where
-      go : (c : Caller) → EvalKept t q (two.eval_told (step_tables t rows l) slot o c)
-      go (caller.From id) = same_kept t q good
-      go caller.Nobody = over_eval_kept t rows l q good
+      go : (c : Option CallerId) → EvalKept t q (two.eval_told (step_tables t rows l) slot o c)
+      go (Some id) = same_kept t q good
+      go None = over_eval_kept t rows l q good
 
   finish_kept : (t rows l : Table) (q : ℕ) → Good t → (o : Outcome)
       → EvalKept t q (two.eval_finish (step_tables t rows l) slot o)
@@ -421,26 +410,26 @@ module _ (slot : ℕ) (slot_is : slot < 128) where
       outcome.StuckHostCall)
 
   module _ (t rows l : Table) (q : ℕ) (good : Good t) (limit : Limit) where
-    by_clock : (r : ClockIn) → EvalKept t q (two.eval_clock_by (step_tables t rows l) slot r)
-    by_clock (clock.Of ns) = clocked_kept t rows l q ns good
-    by_clock clock.Other = same_kept t q good
+    by_clock : (r : Option ℕ) → EvalKept t q (two.eval_clock_by (step_tables t rows l) slot r)
+    by_clock (Some ns) = clocked_kept t rows l q ns good
+    by_clock None = same_kept t q good
 
-    by_boot : (r : YesIn) → EvalKept t q (two.boot_by (step_tables t rows l) slot r)
-    by_boot yes.Yes = booted_kept t rows l q good true
-    by_boot yes.No = booted_kept t rows l q good false
-    by_boot yes.Other = same_kept t q good
+    by_boot : (r : Option Bool) → EvalKept t q (two.boot_by (step_tables t rows l) slot r)
+    by_boot (Some true) = booted_kept t rows l q good true
+    by_boot (Some false) = booted_kept t rows l q good false
+    by_boot None = same_kept t q good
 
-    by_start : (r : ClockIn) → EvalKept t q (two.start_by t l slot limit r)
-    by_start (clock.Of ns) = started_kept t l q good limit ns
-    by_start clock.Other = same_kept t q good
+    by_start : (r : Option ℕ) → EvalKept t q (two.start_by t l slot limit r)
+    by_start (Some ns) = started_kept t l q good limit ns
+    by_start None = same_kept t q good
 
-    by_run_eval : (start : Bool) (r : RanIn) → EvalKept t q (two.eval_run_by (step_tables t rows l) slot start r)
-    by_run_eval start (ran.Of s) = ran_eval_kept t rows l q good s
-    by_run_eval start ran.Other = same_kept t q good
+    by_run_eval : (start : Bool) (r : Option Status) → EvalKept t q (two.eval_run_by (step_tables t rows l) slot start r)
+    by_run_eval start (Some s) = ran_eval_kept t rows l q good s
+    by_run_eval start None = same_kept t q good
 
-    by_dispatch_eval : (r : CountIn) → EvalKept t q (two.eval_dispatch_by (step_tables t rows l) slot r)
-    by_dispatch_eval (count.Of n) = dispatched_eval_kept t rows l q n good
-    by_dispatch_eval count.Other = same_kept t q good
+    by_dispatch_eval : (r : Option ℕ) → EvalKept t q (two.eval_dispatch_by (step_tables t rows l) slot r)
+    by_dispatch_eval (Some n) = dispatched_eval_kept t rows l q n good
+    by_dispatch_eval None = same_kept t q good
 
     -- every transition of an eval actor
     pub step_eval_kept : (a : EvalAsk) (r : Reply) → EvalKept t q (two.step_eval (step_tables t rows l) slot limit a r)

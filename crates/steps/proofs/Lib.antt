@@ -1,4 +1,3 @@
 -- Laws of an actor's steps.
-pub mod WordLaws
 pub mod Times
 pub mod Kept

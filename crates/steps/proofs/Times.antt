@@ -1,16 +1,16 @@
 -- Deadlines: nothing wraps, and row end 8 (docs/RULES.md, Row ends). Assumes nothing.
+use Rattle.std.specs.Prelude.{Some}
 use mathlib.Core.Path.{◌≡◌, refl}
 use mathlib.Core.List.{List, [], ◌∷◌, ◌++◌}
 use mathlib.Core.Bool.{Bool, true, false}
 use Prim.Native.Nat.{ℕ, ◌+◌, ◌*◌, ◌/◌, ◌≤◌, ◌<◌}
 use native.Mathlib.Nat.{div-mul-le_self, mul-zero}
 use native.Mathlib.Omega.{arith}
-use borrow.Author.Tests.{le-leb, le-ltb}
+use borrow.Author.Tests.{le-ltb}
 use lib.Dec.{ltb}
 use Rattle.lists.specs.Links.{pick, Table, capped, move_first, start_from, leave_of, join_end, set_ends, set_next, link_at}
 use Rattle.lists.specs.Links.{hand_of, mailbox_of}
 use Rattle.actor.specs.declared.question.Outcome.TheVariants as outcome
-use Rattle.actor.specs.declared.state.EvalRun.TheVariants as run
 use Rattle.steps.specs.declared.eval.EvalAsk.TheVariants as ask
 use Rattle.steps.specs.declared.eval.EvalNext.TheVariants as next
 use Rattle.steps.specs.declared.eval.Limit.{Limit}
@@ -26,8 +26,7 @@ use Rattle.steps.specs.RowEnds.{begun, asked, deadlines, starred}
 use Rattle.steps.specs.Steps.{step_tables}
 
 pub capped_fits : (x : ℕ) → x ≤ 18446744073709551615 → capped x ≡ x
-unfolding capped
-capped_fits x fits = rw (le-leb x 18446744073709551615 fits)
+capped_fits x fits = omega arith
 
 -- no tick, no time
 pub no_tick : (c n tick : ℕ) → c ≤ 18446744073709551615 → tick ≡ 0 → capped (c + n / tick * tick) ≡ c
@@ -56,7 +55,7 @@ deadline_exact c limit low day = (exact, omega (arith, exact, whole_fits limit.t
 
 deadlines_hold : all_true deadlines ≡ true
 unfolding all_true deadlines begun asked step_eval start_reply eval_started eval_clock_reply eval_clocked eval_finish eval_tell
-    deadline_from capped move_first start_from leave_of join_end set_ends set_next link_at hand_of mailbox_of caller_first
+    deadline_from move_first start_from leave_of join_end set_ends set_next link_at hand_of mailbox_of caller_first
     message_at put_actor actor_at actor_of actor_onto
 deadlines_hold = refl
 
@@ -73,9 +72,9 @@ row_ends_hold = both_hold Log.row_ends deadlines row_ends_lem deadlines_hold
 
 -- a run of that deadline ends at it, whatever else stands in the tables, and one earlier is resumed
 module _ (t rows l : Table) (slot : ℕ) (waits : (actor_at l slot).run
-    ≡ run.Until (deadline_from 100 (record { timeout = 1; tick = 300000000 }))) where
+    ≡ Some (deadline_from 100 (record { timeout = 1; tick = 300000000 }))) where
   until : deadline_of (actor_at l slot).run ≡ 900000100
-  unfolding deadline_from capped
+  unfolding deadline_from
   until = rw waits
 
   pub row_end_8_ends : eval_clocked (step_tables t rows l) slot 900000100

@@ -1,11 +1,9 @@
 -- The starred row ends (docs/RULES.md, Row ends), as one list. Row end 8: tick_ns 300,000,000, timeout 1, clock 100:
 -- the deadline is 900,000,100; at it the run ends, one earlier it is resumed. Each test is a truth value that the
 -- definitions compute; proofs/Times.antt proves all of them as one conjunction.
-use Rattle.std.specs.Prelude.{Bool, true, false, List, [], ◌∷◌, ◌++◌, ℕ, eqb}
+use Rattle.std.specs.Prelude.{Bool, true, false, List, [], ◌∷◌, ◌++◌, ℕ, eqb, Some, None}
 use Rattle.message_log.specs.RowEnds as Log
 use Rattle.lists.specs.Links.{pick, LISTS, Table, move_first, start_from, FREE, HAND}
-use Rattle.actor.specs.declared.message.Caller.TheVariants as caller
-use Rattle.actor.specs.declared.message.Logged.TheVariants as logged
 use Rattle.actor.specs.declared.question.Outcome.{Outcome}
 use Rattle.actor.specs.declared.question.Outcome.TheVariants as outcome
 use Rattle.actor.specs.declared.question.Reply.TheVariants as reply
@@ -72,9 +70,9 @@ rows =
       attempts = 0;
       name_len = 0;
       body_len = 0;
-      caller = caller.From (record { 0 = 7 });
+      caller = Some (record { 0 = 7 });
       id =
-          logged.Never;
+          None;
     })
     ∷ []
 

@@ -1,36 +1,24 @@
 -- One step of an eval actor, cut at its questions: what each reply leads to.
-use Rattle.std.specs.Prelude.{Bool, true, false, ℕ, ◌+◌, ◌*◌, ◌/◌, eqb, ltb, leb}
-use Rattle.lists.specs.declared.Found.{Found}
-use Rattle.lists.specs.declared.Found.TheVariants as found
+use Rattle.std.specs.Prelude.{◌≡◌, Bool, true, false, ℕ, ◌+◌, ◌*◌, ◌/◌, eqb, ltb, leb, Option, Some, None}
+use Rattle.actor.specs.declared.question.Question.{Question}
+use Rattle.actor.specs.declared.message.CallerId.{CallerId}
 use Rattle.lists.specs.Links.{pick, Table, capped, len_of, first_of, move_first, mailbox_of, hand_of, HAND}
-use Rattle.actor.specs.declared.message.Caller.{Caller}
-use Rattle.actor.specs.declared.message.Caller.TheVariants.{From, Nobody}
 use Rattle.actor.specs.declared.question.Status.{Status}
 use Rattle.actor.specs.declared.question.Status.TheVariants as status
 use Rattle.actor.specs.declared.question.Outcome.{Outcome}
 use Rattle.actor.specs.declared.question.Outcome.TheVariants as outcome
 use Rattle.actor.specs.declared.question.Who.{Who}
 use Rattle.actor.specs.declared.question.Question.TheVariants as question
-use Rattle.actor.specs.declared.question.Asked.{Asked}
-use Rattle.actor.specs.declared.question.Asked.TheVariants as asked
 use Rattle.actor.specs.declared.question.Reply.{Reply}
-use Rattle.actor.specs.declared.question.YesIn.{YesIn}
-use Rattle.actor.specs.declared.question.YesIn.TheVariants as yes
-use Rattle.actor.specs.declared.question.ClockIn.{ClockIn}
-use Rattle.actor.specs.declared.question.ClockIn.TheVariants as clock
-use Rattle.actor.specs.declared.question.CountIn.{CountIn}
-use Rattle.actor.specs.declared.question.CountIn.TheVariants as count
-use Rattle.actor.specs.declared.question.RanIn.{RanIn}
-use Rattle.actor.specs.declared.question.RanIn.TheVariants as ran
-use Rattle.actor.specs.declared.state.Wake.TheVariants as wake
-use Rattle.actor.specs.declared.state.EvalRun.TheVariants as run
 use Rattle.steps.specs.declared.step.Parked.TheVariants as parked
 use Rattle.steps.specs.declared.eval.EvalAsk.{EvalAsk}
 use Rattle.steps.specs.declared.eval.EvalAsk.TheVariants as ask
 use Rattle.steps.specs.declared.eval.EvalNext.{EvalNext}
 use Rattle.steps.specs.declared.eval.EvalNext.TheVariants as next
-use Rattle.steps.specs.declared.eval.EvalStep as words
+use Rattle.steps.specs.declared.eval.EvalWords.{EvalWords}
+use Rattle.steps.specs.declared.step.Stepped.{Stepped}
 use Rattle.steps.specs.declared.eval.Limit.{Limit}
+use Rattle.steps.specs.declared.eval.Tables.{Tables}
 use Rattle.actor.specs.Questions.{yes_in, clock_in, count_in, ran_in, is_told, slot_of}
 use Rattle.actor.specs.Actors.{actor_at, put_actor, running_to, has_run, deadline_of}
 use Rattle.steps.specs.Words.{eval_next_of}
@@ -90,9 +78,9 @@ unfoldable pub eval_over : StepTables → ℕ → EvalBoth
 eval_over x slot = next_run (over_first x.links x.rows HAND) x.actors slot
 
 -- the caller, where there is one, is told
-abbrev pub eval_told : StepTables → ℕ → Outcome → Caller → EvalBoth
-eval_told x slot o (From id) = record { links = x.links; actors = x.actors; next = next.Asks (ask.Tell o) }
-eval_told x slot o Nobody = eval_over x slot
+abbrev pub eval_told : StepTables → ℕ → Outcome → Option CallerId → EvalBoth
+eval_told x slot o (Some id) = record { links = x.links; actors = x.actors; next = next.Asks (ask.Tell o) }
+eval_told x slot o None = eval_over x slot
 
 -- with an outcome, its message in the step's hand: Tell is asked, or with nobody waiting the message is over at once
 unfoldable pub eval_tell : StepTables → ℕ → Outcome → EvalBoth
@@ -103,7 +91,7 @@ unfoldable pub eval_finish : StepTables → ℕ → Outcome → EvalBoth
 eval_finish x slot o =
     eval_tell
     (step_tables (move_first x.links (hand_of slot) HAND) x.rows
-    (put_actor x.actors slot (running_to (actor_at x.actors slot) run.Nothing)))
+    (put_actor x.actors slot (running_to (actor_at x.actors slot) None)))
     slot o
 
 -- Clock of a run that waited: at its deadline it ends, whatever it waited on; before, it is resumed
@@ -123,7 +111,7 @@ unfoldable pub eval_started : Table → Table → ℕ → Limit → ℕ → Eval
 eval_started t l slot limit c =
     record {
       links = move_first t HAND (hand_of slot);
-      actors = put_actor l slot (running_to (actor_at l slot) (run.Until (deadline_from c limit)));
+      actors = put_actor l slot (running_to (actor_at l slot) (Some (deadline_from c limit)));
       next = next.Asks (ask.Run true);
     }
 
@@ -145,7 +133,7 @@ eval_dispatched x slot n =
       links = x.links;
       actors = x.actors;
       next =
-          next.Ended (parked.Blocked (wake.At (deadline_of (actor_at x.actors slot).run)));
+          next.Ended (parked.Blocked (Some (deadline_of (actor_at x.actors slot).run)));
     })
     (eval_finish x slot outcome.StuckHostCall)
 
@@ -156,31 +144,30 @@ abbrev pub still : Table → Table → EvalAsk → EvalBoth
 still t l a = record { links = t; actors = l; next = next.Asks a }
 
 -- a clock ends the run, late, or lets it resume; any other reply leaves Clock open
-abbrev pub eval_clock_by : StepTables → ℕ → ClockIn → EvalBoth
-eval_clock_by x slot (clock.Of ns) = eval_clocked x slot ns
-eval_clock_by x slot clock.Other = still x.links x.actors ask.Clock
+abbrev pub eval_clock_by : StepTables → ℕ → Option ℕ → EvalBoth
+eval_clock_by x slot (Some ns) = eval_clocked x slot ns
+eval_clock_by x slot None = still x.links x.actors ask.Clock
 
 -- after yes Clock of the start is asked, after no the outcome is unbooted; any other reply leaves Boot open
-abbrev pub boot_by : StepTables → ℕ → YesIn → EvalBoth
-boot_by x slot yes.Yes = eval_booted x slot true
-boot_by x slot yes.No = eval_booted x slot false
-boot_by x slot yes.Other = still x.links x.actors ask.Boot
+abbrev pub boot_by : StepTables → ℕ → Option Bool → EvalBoth
+boot_by x slot (Some booted) = eval_booted x slot booted
+boot_by x slot None = still x.links x.actors ask.Boot
 
 -- with a clock the run begins; any other reply leaves Clock of the start open
-abbrev pub start_by : Table → Table → ℕ → Limit → ClockIn → EvalBoth
-start_by t l slot limit (clock.Of ns) = eval_started t l slot limit ns
-start_by t l slot limit clock.Other = still t l ask.StartClock
+abbrev pub start_by : Table → Table → ℕ → Limit → Option ℕ → EvalBoth
+start_by t l slot limit (Some ns) = eval_started t l slot limit ns
+start_by t l slot limit None = still t l ask.StartClock
 
 -- a status ends the run, ends the step with yield, or leads to Dispatch; any other reply leaves the same Run open
-abbrev pub eval_run_by : StepTables → ℕ → Bool → RanIn → EvalBoth
-eval_run_by x slot start (ran.Of s) = eval_ran x slot s
-eval_run_by x slot start ran.Other = still x.links x.actors (ask.Run start)
+abbrev pub eval_run_by : StepTables → ℕ → Bool → Option Status → EvalBoth
+eval_run_by x slot start (Some s) = eval_ran x slot s
+eval_run_by x slot start None = still x.links x.actors (ask.Run start)
 
 -- a count above 0 ends the step, blocked until the run's deadline, and 0 ends the run, stuck in a host call; any other
 -- reply leaves Dispatch open
-abbrev pub eval_dispatch_by : StepTables → ℕ → CountIn → EvalBoth
-eval_dispatch_by x slot (count.Of n) = eval_dispatched x slot n
-eval_dispatch_by x slot count.Other = still x.links x.actors ask.Dispatch
+abbrev pub eval_dispatch_by : StepTables → ℕ → Option ℕ → EvalBoth
+eval_dispatch_by x slot (Some n) = eval_dispatched x slot n
+eval_dispatch_by x slot None = still x.links x.actors ask.Dispatch
 
 -- what a reply to Clock of a run under way leads to; only a clock changes anything
 unfoldable pub eval_clock_reply : StepTables → ℕ → Reply → EvalBoth
@@ -218,27 +205,39 @@ step_eval x slot limit (ask.Tell o) r = tell_reply x slot o r
 -- ---- the question that is open, as it is shown; Run shows the message of a start, which is the program
 
 -- the message that Run shows: at a start the first one in the actor's hand, at a resume none
-unfoldable pub eval_shown : Table → Who → Bool → Found
+unfoldable pub eval_shown : Table → Who → Bool → Option ℕ
 eval_shown t who true = first_of t (hand_of (slot_of who))
-eval_shown t who false = found.Nothing
+eval_shown t who false = None
 
 -- Tell, of the caller and with the outcome; with nobody waiting nothing is open
-abbrev pub ask_tell : Caller → Outcome → Asked
-ask_tell (From id) o = asked.Open (question.Tell id o)
-ask_tell Nobody o = asked.Nothing
+abbrev pub ask_tell : Option CallerId → Outcome → Option Question
+ask_tell (Some id) o = Some (question.Tell id o)
+ask_tell None o = None
 
 -- the open question of an eval step as the host sees it: Clock looks the same for a start and a run under way, and Tell
 -- is asked of the caller of the message in the step's hand
-unfoldable pub eval_asks : Table → Table → Who → EvalAsk → Asked
-eval_asks t rows who ask.Clock = asked.Open question.Clock
-eval_asks t rows who ask.Boot = asked.Open (question.Boot who.group)
-eval_asks t rows who ask.StartClock = asked.Open question.Clock
-eval_asks t rows who (ask.Run start) = asked.Open (question.Run who start (eval_shown t who start))
-eval_asks t rows who ask.Dispatch = asked.Open (question.Dispatch who)
+unfoldable pub eval_asks : Table → Table → Who → EvalAsk → Option Question
+eval_asks t rows who ask.Clock = Some question.Clock
+eval_asks t rows who ask.Boot = Some (question.Boot who.group)
+eval_asks t rows who ask.StartClock = Some question.Clock
+eval_asks t rows who (ask.Run start) = Some (question.Run who start (eval_shown t who start))
+eval_asks t rows who ask.Dispatch = Some (question.Dispatch who)
 eval_asks t rows who (ask.Tell o) = ask_tell (caller_first rows (first_of t HAND)) o
 
 -- ---- a step as code hands it on
 
 -- what comes next, by its words, and the new queued
-abbrev pub eval_step_of : words.EvalStep → EvalStep
+abbrev pub eval_step_of : Stepped EvalWords → EvalStep
 eval_step_of w = record { next = eval_next_of w.next; queued = w.queued }
+
+-- the tables that a reply is carried out on
+abbrev pub eval_tables : Tables → StepTables
+eval_tables t = step_tables t.links.now t.rows.now t.actors.now
+
+-- what it left in them, and what comes next, by its words
+abbrev pub stepped_in : Tables → EvalWords → EvalBoth
+stepped_in t w = record { links = t.links.now; actors = t.actors.now; next = eval_next_of w }
+
+-- these are the same lists and actors, with the values that they have now
+abbrev pub EvalKept : Tables → Tables → Type 0
+EvalKept t u = (u.links.ghost_name ≡ t.links.ghost_name) × (u.actors.ghost_name ≡ t.actors.ghost_name)

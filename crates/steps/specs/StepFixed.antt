@@ -1,28 +1,20 @@
 -- One step of a fixed actor, cut at its questions: what each reply leads to.
-use Rattle.std.specs.Prelude.{Bool, true, false, ℕ, ◌+◌, ltb}
-use Rattle.lists.specs.declared.Found.TheVariants as found
+use Rattle.std.specs.Prelude.{Bool, true, false, ℕ, ◌+◌, ltb, Option, Some, None}
+use Rattle.actor.specs.declared.question.Question.{Question}
 use Rattle.lists.specs.Links.{pick, Table, capped, first_of, move_first, move_first_to_front, mailbox_of, hand_of, HAND}
 use Rattle.actor.specs.declared.question.Status.{Status}
 use Rattle.actor.specs.declared.question.Status.TheVariants as status
 use Rattle.actor.specs.declared.question.Who.{Who}
 use Rattle.actor.specs.declared.question.Question.TheVariants as question
-use Rattle.actor.specs.declared.question.Asked.{Asked}
-use Rattle.actor.specs.declared.question.Asked.TheVariants as asked
 use Rattle.actor.specs.declared.question.Reply.{Reply}
-use Rattle.actor.specs.declared.question.YesIn.{YesIn}
-use Rattle.actor.specs.declared.question.YesIn.TheVariants as yes
-use Rattle.actor.specs.declared.question.CountIn.{CountIn}
-use Rattle.actor.specs.declared.question.CountIn.TheVariants as count
-use Rattle.actor.specs.declared.question.RanIn.{RanIn}
-use Rattle.actor.specs.declared.question.RanIn.TheVariants as ran
-use Rattle.actor.specs.declared.state.Wake.TheVariants as wake
 use Rattle.steps.specs.declared.step.Parked.TheVariants as parked
 use Rattle.steps.specs.declared.step.Step.TheVariants as end
 use Rattle.steps.specs.declared.fixed.FixedAsk.{FixedAsk}
 use Rattle.steps.specs.declared.fixed.FixedAsk.TheVariants as ask
 use Rattle.steps.specs.declared.fixed.FixedNext.{FixedNext}
 use Rattle.steps.specs.declared.fixed.FixedNext.TheVariants as next
-use Rattle.steps.specs.declared.fixed.FixedStep as words
+use Rattle.steps.specs.declared.fixed.FixedWords.{FixedWords}
+use Rattle.steps.specs.declared.step.Stepped.{Stepped}
 use Rattle.actor.specs.Questions.{yes_in, count_in, ran_in}
 use Rattle.actor.specs.Actors.{actor_at, put_actor, started_as, consumed_as}
 use Rattle.steps.specs.Words.{fixed_next_of}
@@ -115,34 +107,33 @@ fixed_pushed t l slot queued false =
 unfoldable pub fixed_dispatched : Table → ℕ → ℕ → FixedLinks
 fixed_dispatched t slot n =
     pick (ltb 0 n)
-    (record { links = t; next = next.Ended (end.Parked (parked.Blocked wake.Never)) })
+    (record { links = t; next = next.Ended (end.Parked (parked.Blocked None)) })
     (fixed_failed t slot)
 
 -- ---- from a question and its reply to the next; a reply that does not fit changes nothing
 
 -- a status ends the step, or leads to Drain or Dispatch; any other reply leaves the same Run open
-abbrev pub run_by : Table → Table → ℕ → Bool → RanIn → FixedLinks
-run_by t rows slot start (ran.Of s) = fixed_ran t rows slot s
-run_by t rows slot start ran.Other = record { links = t; next = next.Asks (ask.Run start) }
+abbrev pub run_by : Table → Table → ℕ → Bool → Option Status → FixedLinks
+run_by t rows slot start (Some s) = fixed_ran t rows slot s
+run_by t rows slot start None = record { links = t; next = next.Asks (ask.Run start) }
 
 -- a count above 0 leads to Run, and 0 to Push or, without mail, to waiting; any other reply leaves Drain open
-abbrev pub drain_by : Table → Table → ℕ → ℕ → CountIn → FixedBoth
-drain_by t l slot queued (count.Of n) = fixed_drained t l slot queued n
-drain_by t l slot queued count.Other =
+abbrev pub drain_by : Table → Table → ℕ → ℕ → Option ℕ → FixedBoth
+drain_by t l slot queued (Some n) = fixed_drained t l slot queued n
+drain_by t l slot queued None =
     record { links = t; actors = l; step = record { next = next.Asks ask.Drain; queued = queued } }
 
 -- after yes the actor has the message and is resumed, after no the mailbox has it again and the step ends waiting; any
 -- other reply leaves Push open
-abbrev pub push_by : Table → Table → ℕ → ℕ → YesIn → FixedBoth
-push_by t l slot queued yes.Yes = fixed_pushed t l slot queued true
-push_by t l slot queued yes.No = fixed_pushed t l slot queued false
-push_by t l slot queued yes.Other =
+abbrev pub push_by : Table → Table → ℕ → ℕ → Option Bool → FixedBoth
+push_by t l slot queued (Some taken) = fixed_pushed t l slot queued taken
+push_by t l slot queued None =
     record { links = t; actors = l; step = record { next = next.Asks ask.Push; queued = queued } }
 
 -- a count above 0 ends the step blocked, with no deadline, and 0 failed; any other reply leaves Dispatch open
-abbrev pub dispatch_by : Table → ℕ → CountIn → FixedLinks
-dispatch_by t slot (count.Of n) = fixed_dispatched t slot n
-dispatch_by t slot count.Other = record { links = t; next = next.Asks ask.Dispatch }
+abbrev pub dispatch_by : Table → ℕ → Option ℕ → FixedLinks
+dispatch_by t slot (Some n) = fixed_dispatched t slot n
+dispatch_by t slot None = record { links = t; next = next.Asks ask.Dispatch }
 
 -- what a reply to Run of a fixed actor leads to, be it to start or resume; only a status changes anything
 unfoldable pub run_reply : Table → Table → ℕ → Bool → Reply → FixedLinks
@@ -175,14 +166,14 @@ step_fixed x slot queued ask.Dispatch r = kept_fixed x.actors queued (dispatch_r
 -- ---- the question that is open, as it is shown; Run of a fixed actor shows no message
 
 -- the open question of a fixed step as the host sees it; Push shows the first message in the step's hand
-unfoldable pub fixed_asks : Table → Who → FixedAsk → Asked
-fixed_asks t who (ask.Run start) = asked.Open (question.Run who start found.Nothing)
-fixed_asks t who ask.Drain = asked.Open (question.Drain who)
-fixed_asks t who ask.Push = asked.Open (question.Push who (first_of t HAND))
-fixed_asks t who ask.Dispatch = asked.Open (question.Dispatch who)
+unfoldable pub fixed_asks : Table → Who → FixedAsk → Option Question
+fixed_asks t who (ask.Run start) = Some (question.Run who start None)
+fixed_asks t who ask.Drain = Some (question.Drain who)
+fixed_asks t who ask.Push = Some (question.Push who (first_of t HAND))
+fixed_asks t who ask.Dispatch = Some (question.Dispatch who)
 
 -- ---- a step as code hands it on
 
 -- what comes next, by its words, and the new queued
-abbrev pub fixed_step_of : words.FixedStep → FixedStep
+abbrev pub fixed_step_of : Stepped FixedWords → FixedStep
 fixed_step_of w = record { next = fixed_next_of w.next; queued = w.queued }

@@ -1,12 +1,8 @@
 -- What both steps do: mail is taken, a message is over, an actor is idle.
-use Rattle.std.specs.Prelude.{true, false, ℕ, ◌-◌, eqb}
-use Rattle.lists.specs.declared.Found.{Found}
-use Rattle.lists.specs.declared.Found.TheVariants.{Entry, Nothing}
+use Rattle.std.specs.Prelude.{true, false, ℕ, ◌-◌, eqb, Option, Some, None}
+use Rattle.message_log.specs.declared.LogId.{LogId}
+use Rattle.actor.specs.declared.message.CallerId.{CallerId}
 use Rattle.lists.specs.Links.{pick, Table, len_of, first_of, move_first, mailbox_of, FREE, OVER, HAND}
-use Rattle.actor.specs.declared.message.Caller.{Caller}
-use Rattle.actor.specs.declared.message.Caller.TheVariants.{Nobody}
-use Rattle.actor.specs.declared.message.Logged.{Logged}
-use Rattle.actor.specs.declared.message.Logged.TheVariants.{As, Never}
 use Rattle.steps.specs.declared.step.Mail.{Mail}
 use Rattle.actor.specs.Messages.{message_at}
 use Rattle.actor.specs.Actors.{actor_at, put_actor, idled_as}
@@ -22,19 +18,19 @@ abbrev pub step_tables : Table → Table → Table → StepTables
 step_tables t rows l = record { links = t; rows = rows; actors = l }
 
 -- a logged message that is over waits for its mark; any other is done, and its entry free
-abbrev pub place_logged : Logged → ℕ
-place_logged (As id) = OVER
-place_logged Never = FREE
+abbrev pub place_logged : Option LogId → ℕ
+place_logged (Some id) = OVER
+place_logged None = FREE
 
 -- the list for a message that is over, by the row of its entry; the free one where there is no message
-unfoldable pub place_over : Table → Found → ℕ
-place_over rows (Entry e) = place_logged (message_at rows e).id
-place_over rows Nothing = FREE
+unfoldable pub place_over : Table → Option ℕ → ℕ
+place_over rows (Some e) = place_logged (message_at rows e).id
+place_over rows None = FREE
 
 -- who waits for the outcome of a message, by the row of its entry; nobody where there is no message
-unfoldable pub caller_first : Table → Found → Caller
-caller_first rows (Entry e) = (message_at rows e).caller
-caller_first rows Nothing = Nobody
+unfoldable pub caller_first : Table → Option ℕ → Option CallerId
+caller_first rows (Some e) = (message_at rows e).caller
+caller_first rows None = None
 
 -- the first message of a list is over
 unfoldable pub over_first : Table → Table → ℕ → Table

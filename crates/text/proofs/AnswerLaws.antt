@@ -1,4 +1,5 @@
 -- Laws of the answers: a measured length, and a slice that was to be filled.
+use Rattle.std.specs.Prelude.{Option, Some, None}
 use mathlib.Core.Path.{◌≡◌, refl, ap, ◌∙◌}
 use mathlib.Core.Bool.{Bool, true, false}
 use mathlib.Core.List.{List, [], ◌∷◌}
@@ -11,24 +12,14 @@ use lib.ListN.{length, take, drop, length-take, length-drop}
 use Rattle.text.specs.Format.{BACKSLASH, unescape, unescape_next}
 use Rattle.text.specs.Bytes.{Wrote, write}
 use Rattle.text.specs.Answers.{length_within, Filled, filled}
-use Rattle.text.specs.declared.escape.Measure.{Measure}
-use Rattle.text.specs.declared.escape.Measure.TheVariants.{Len, Over}
 use Rattle.text.proofs.WriteLaws.{part_back}
-
-pub within_len : (n most : ℕ) → n ≤ most → length_within n most ≡ Len n
-unfolding length_within
-within_len n most h = cc (le-leb n most h)
-
-pub within_over : (n most : ℕ) → most < n → length_within n most ≡ Over
-unfolding length_within
-within_over n most h = cc (lt-leb n most h)
 
 -- a length that was told
 pub record Told (n most k : ℕ) : Type 0 where
   pub is : k ≡ n
   pub small : n ≤ most
 
-pub told : (n most k : ℕ) → Len k ≡ length_within n most → Told n most k
+pub told : (n most k : ℕ) → Some k ≡ length_within n most → Told n most k
 unfolding length_within
 told n most k e = at (leb n most) refl
   where
@@ -36,7 +27,7 @@ told n most k e = at (leb n most) refl
     at true p = record { is = cc; small = leb-true n most p }
     at false p = let z : ◌≡◌ {A = ℕ} 0 1 = cc in absurd (omega arith)
 
-pub told_over : (n most : ℕ) → Over ≡ length_within n most → most < n
+pub told_over : (n most : ℕ) → None ≡ length_within n most → most < n
 unfolding length_within
 told_over n most e = at (leb n most) refl
   where
@@ -45,7 +36,7 @@ told_over n most e = at (leb n most) refl
     at false p = leb-false n most p
 
 pub filled_len : (old text new : List ℕ) (n : ℕ) → length text ≤ length old → Wrote old 0 text new n
-    → ◌≡◌ {A = Filled} (record { bytes = new; answer = Len n }) (filled old text)
+    → ◌≡◌ {A = Filled} (record { bytes = new; answer = Some n }) (filled old text)
 unfolding filled
 filled_len old text new n h w =
     let a : n ≡ length text = omega (arith, w.past) in
@@ -53,7 +44,7 @@ filled_len old text new n h w =
     cc (le-leb (length text) (length old) h)
 
 pub filled_over : (old text : List ℕ) → length old < length text
-    → ◌≡◌ {A = Filled} (record { bytes = old; answer = Over }) (filled old text)
+    → ◌≡◌ {A = Filled} (record { bytes = old; answer = None }) (filled old text)
 unfolding filled
 filled_over old text h = cc (lt-leb (length text) (length old) h)
 
@@ -77,21 +68,21 @@ mutual
 -- a text that fits was put at the front
 filled_fits : (old text : List ℕ) → length text ≤ length old → filled old text ≡ record {
   bytes = write old 0 text;
-  answer = Len (length text);
+  answer = Some (length text);
 }
 unfolding filled
 filled_fits old text h = cc (le-leb (length text) (length old) h)
 
-pub filled_bytes : (old text new : List ℕ) (a : Measure) → length text ≤ length old
+pub filled_bytes : (old text new : List ℕ) (a : Option ℕ) → length text ≤ length old
     → ◌≡◌ {A = Filled} (record { bytes = new; answer = a }) (filled old text) → new ≡ write old 0 text
 filled_bytes old text new a h e = ap (λ f. f.bytes) (e ∙ filled_fits old text h)
 
-pub filled_answer : (old text new : List ℕ) (a : Measure) → length text ≤ length old
-    → ◌≡◌ {A = Filled} (record { bytes = new; answer = a }) (filled old text) → a ≡ Len (length text)
+pub filled_answer : (old text new : List ℕ) (a : Option ℕ) → length text ≤ length old
+    → ◌≡◌ {A = Filled} (record { bytes = new; answer = a }) (filled old text) → a ≡ Some (length text)
 filled_answer old text new a h e = ap (λ f. f.answer) (e ∙ filled_fits old text h)
 
 -- the same, put into a part of a slice that begins at a, said of the whole
-pub filled_part : (d : List ℕ) (a : ℕ) (text last : List ℕ) (r : Measure) → a + length text ≤ length d
+pub filled_part : (d : List ℕ) (a : ℕ) (text last : List ℕ) (r : Option ℕ) → a + length text ≤ length d
     → ◌≡◌ {A = Filled} (record { bytes = last; answer = r }) (filled (take (length d - a) (drop a d)) text)
     → put_mid a (length d - a) d last ≡ write d a text
 filled_part d a text last r h e =

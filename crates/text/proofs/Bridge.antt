@@ -1,7 +1,7 @@
 -- The definitions read by places in a slice, as a loop over an index meets them.
+use Rattle.std.specs.Prelude.{Some}
 use mathlib.Core.Path.{◌≡◌, refl}
 use mathlib.Core.Bool.{Bool, true, false}
-use mathlib.Core.Option.{some}
 use mathlib.Core.List.{List, [], ◌∷◌}
 use Prim.Native.Nat.{ℕ, ◌+◌, ◌-◌, ◌*◌, ◌≤◌, ◌<◌}
 use native.Mathlib.Numerals.{add-one}
@@ -39,19 +39,19 @@ decimal_next s i high h a b = rw (add-one, drop-cons s i 0) (cc (
 ))
 
 -- what is read is digits, one by one
-pub decimal_head : (high b : ℕ) (bs : List ℕ) (n : ℕ) → decimal high (b ∷ bs) ≡ some n
-    → (DIGIT0 ≤ b) × (b < DIGIT0 + 10) × (decimal (high * 10 + (b - DIGIT0)) bs ≡ some n)
+pub decimal_head : (high b : ℕ) (bs : List ℕ) (n : ℕ) → decimal high (b ∷ bs) ≡ Some n
+    → (DIGIT0 ≤ b) × (b < DIGIT0 + 10) × (decimal (high * 10 + (b - DIGIT0)) bs ≡ Some n)
 unfolding decimal
 decimal_head high b bs n e = at (leb DIGIT0 b) refl (ltb b (DIGIT0 + 10)) refl
   where
     at : (t : Bool) → leb DIGIT0 b ≡ t → (u : Bool) → ltb b (DIGIT0 + 10) ≡ u
-        → (DIGIT0 ≤ b) × (b < DIGIT0 + 10) × (decimal (high * 10 + (b - DIGIT0)) bs ≡ some n)
+        → (DIGIT0 ≤ b) × (b < DIGIT0 + 10) × (decimal (high * 10 + (b - DIGIT0)) bs ≡ Some n)
     at true p true q = (leb-true DIGIT0 b p, ltb-true b (DIGIT0 + 10) q, cc)
     at true p false q = let z : ◌≡◌ {A = ℕ} 0 1 = cc in absurd (omega arith)
     at false p u q = let z : ◌≡◌ {A = ℕ} 0 1 = cc in absurd (omega arith)
 
 -- a value that is too large stays so: the reader may stop there
-pub decimal_grows : (bs : List ℕ) (high n : ℕ) → decimal high bs ≡ some n → high ≤ n
+pub decimal_grows : (bs : List ℕ) (high n : ℕ) → decimal high bs ≡ Some n → high ≤ n
 unfolding decimal
 decimal_grows [] high n e = let q : high ≡ n = cc in omega arith
 decimal_grows (b ∷ bs) high n e = omega (

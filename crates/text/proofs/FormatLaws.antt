@@ -1,7 +1,7 @@
 -- Laws of the log's text.
+use Rattle.std.specs.Prelude.{Some}
 use mathlib.Core.Path.{◌≡◌, refl, ap, ◌∙◌}
 use mathlib.Core.Bool.{Bool, true, false}
-use mathlib.Core.Option.{some}
 use mathlib.Core.List.{List, [], ◌∷◌, ◌++◌, append_assoc}
 use Prim.Native.Nat.{ℕ, zero, suc, ◌+◌, ◌-◌, ◌*◌, ◌/◌, ◌%◌, ◌^◌, ◌≤◌, ◌<◌}
 use native.Mathlib.Omega.{arith}
@@ -81,8 +81,8 @@ decimal_digit high d rest h =
     let r : (DIGIT0 + d) - DIGIT0 ≡ d = omega arith in
     cc
 
-decimal_snoc : (bs : List ℕ) (high v d : ℕ) → d < 10 → decimal high bs ≡ some v
-    → decimal high (bs ++ ((DIGIT0 + d) ∷ [])) ≡ some (v * 10 + d)
+decimal_snoc : (bs : List ℕ) (high v d : ℕ) → d < 10 → decimal high bs ≡ Some v
+    → decimal high (bs ++ ((DIGIT0 + d) ∷ [])) ≡ Some (v * 10 + d)
 unfolding decimal
 decimal_snoc [] high v d h e = let q : high ≡ v = cc in cc (decimal_digit high d [] h)
 decimal_snoc (b ∷ bs) high v d h e =
@@ -97,13 +97,13 @@ decimal_snoc (b ∷ bs) high v d h e =
 abbrev pub Digit : ℕ → Type 0
 Digit b = DIGIT0 ≤ b
 
-pub digits_say : (places n : ℕ) → n < 10 ^ places → decimal 0 (digits places n) ≡ some n
+pub digits_say : (places n : ℕ) → n < 10 ^ places → decimal 0 (digits places n) ≡ Some n
 unfolding digits decimal
 digits_say zero n h = let z : n ≡ 0 = omega arith in cc
 digits_say (suc places) n h = at (ltb n 10) refl (digits_say places (n / 10))
   where
-    at : (t : Bool) → ltb n 10 ≡ t → (n / 10 < 10 ^ places → decimal 0 (digits places (n / 10)) ≡ some (n / 10))
-        → decimal 0 (digits (suc places) n) ≡ some n
+    at : (t : Bool) → ltb n 10 ≡ t → (n / 10 < 10 ^ places → decimal 0 (digits places (n / 10)) ≡ Some (n / 10))
+        → decimal 0 (digits (suc places) n) ≡ Some n
     at true e ih = let z : 0 * 10 + n ≡ n = omega arith in cc (decimal_digit 0 n [] (ltb-true n 10 e))
     at false e ih = let s : n / 10 * 10 + n % 10 ≡ n = omega arith in
         cc (decimal_snoc (digits places (n / 10)) 0 (n / 10) (n % 10) (omega arith) (ih (omega arith)))

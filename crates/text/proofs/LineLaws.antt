@@ -1,32 +1,25 @@
 -- Laws of pieces: a text up to the first separator.
+use Rattle.std.specs.Prelude.{Option, Some, None}
 use mathlib.Core.Path.{◌≡◌, refl, ap, sym, ◌∙◌, subst}
 use mathlib.Core.List.{List, [], ◌∷◌, ◌++◌, append_assoc}
 use mathlib.Core.Bool.{Bool, true, false}
-use mathlib.Core.Option.{none, some, Option}
 use Prim.Native.Nat.{ℕ, suc, ◌+◌, ◌-◌, ◌≤◌, ◌<◌}
 use native.Mathlib.Numerals.{add-one}
 use native.Mathlib.Omega.{arith}
-use borrow.Author.Tests.{ne_eqb, eqb-true, le-leb, lt-leb}
+use borrow.Author.Tests.{eqb-true, le-leb, lt-leb}
 use lib.Dec.{eqb, leb}
 use lib.ListN.{length, take, drop, get_or, length-append, length-drop, drop_of_length-le}
-use lib.Seq.{take-suc, take_all, take_at, drop_at, length-take-le, get_or-drop, split_at, drop-drop}
+use lib.Seq.{take_all, take_at, drop_at, length-take-le, get_or-drop, split_at, drop-drop}
 use Rattle.text.specs.Format.{TAB, LF, ATTEMPTS, untried, unescape, join_head, split, lines, line, fields, read_id}
 use Rattle.text.specs.Bytes.{Free, part}
 use Rattle.text.specs.Line.{Line, put, done, retry, other, read_fields, read_line}
 use Rattle.text.specs.Line.{done_of, attempts_of, put_of, name_of}
 use Rattle.text.specs.Line.{body_of}
 use Rattle.text.specs.Line.{of_record, name_in, body_in, name_field, body_field}
-use Rattle.text.specs.Answers.{First, FirstFrom, id_of, done_kind, retry_kind, put_kind, line_kind_in, line_kind}
+use Rattle.text.specs.Answers.{First, FirstFrom, done_kind, retry_kind, put_kind, line_kind_in, line_kind}
 use Rattle.text.specs.declared.line.LineKind.{LineKind}
 use Rattle.text.specs.declared.line.LineKind.TheVariants.{Put, Done, Retry, Other}
-use Rattle.text.specs.declared.ids.IdRead.{IdRead}
-use Rattle.text.specs.declared.ids.IdRead.TheVariants.{Is, Not}
-use Rattle.text.proofs.FormatLaws.{All-append, split_piece, split_last, lines_line, lines_torn, split_some}
-
-pub free_more : (s : List ℕ) (sep i : ℕ) → i < length s → Free sep (take i s) → (get_or s i 0 ≡ sep → ⊥)
-    → Free sep (take (i + 1) s)
-free_more s sep i h f n = rw (add-one, take-suc s i 0) (All-append (λ b. eqb b sep ≡ false) (take i s)
-    (get_or s i 0 ∷ []) f (ne_eqb (get_or s i 0) sep n, tt))
+use Rattle.text.proofs.FormatLaws.{split_piece, split_last, lines_line, lines_torn, split_some}
 
 -- the part of a slice from a place on
 pub from : (s : List ℕ) (a : ℕ) → take (length s - a) (drop a s) ≡ drop a s
@@ -89,7 +82,7 @@ part_length : (text : List ℕ) (a b : ℕ) → a ≤ b → b ≤ length text �
 part_length text a b p q = length-take-le (b - a) (drop a text) (omega (arith, length-drop a text))
 
 pub kind_one : (text : List ℕ) (a : ℕ) → First text TAB a → length text ≤ a → line_kind text
-    ≡ done_kind (id_of (read_id text))
+    ≡ done_kind (read_id text)
 unfolding line_kind line_kind_in fields
 kind_one text a f l = ap line_kind_in (piece_last text TAB a f l)
 
@@ -100,7 +93,7 @@ module _ (text : List ℕ) (a b : ℕ) (f : First text TAB a) (h : a < length te
     fields_one = piece text TAB a f h
 
     pub kind_two : length text ≤ b
-        → line_kind text ≡ retry_kind (id_of (read_id (take a text))) (id_of (read_id (drop (a + 1) text)))
+        → line_kind text ≡ retry_kind (read_id (take a text)) (read_id (drop (a + 1) text))
     unfolding line_kind line_kind_in
     kind_two l = ap line_kind_in (fields_one ∙ ap (λ r. take a text ∷ r) (last_from text (a + 1) TAB b g l))
 
@@ -121,7 +114,7 @@ module _ (text : List ℕ) (a b : ℕ) (f : First text TAB a) (h : a < length te
           four [] n = absurd (omega arith)
           four (p ∷ ps) n = refl
 
-      pub kind_three : length text ≤ c → line_kind text ≡ put_kind (id_of (read_id (take a text))) (a + 1) b (b + 1)
+      pub kind_three : length text ≤ c → line_kind text ≡ put_kind (read_id (take a text)) (a + 1) b (b + 1)
           (length text)
       unfolding line_kind line_kind_in
       kind_three l =
@@ -134,10 +127,10 @@ module _ (text : List ℕ) (a b : ℕ) (f : First text TAB a) (h : a < length te
           let body-ends : b + 1 + length (drop (b + 1) text) ≡ length text = omega arith in
           ap line_kind_in (fields_two ∙ ap (λ r. take a text ∷ part text (a + 1) b ∷ r) (last_from text (b + 1) TAB c k
           l))
-          ∙ (ap (λ e. put_kind (id_of (read_id (take a text))) (length (take a text) + 1) e (e + 1)
+          ∙ (ap (λ e. put_kind (read_id (take a text)) (length (take a text) + 1) e (e + 1)
           (e + 1 + length (drop (b + 1) text))) name-ends
-          ∙ (ap (λ n. put_kind (id_of (read_id (take a text))) n b (b + 1) (b + 1 + length (drop (b + 1) text))) at_name
-          ∙ ap (put_kind (id_of (read_id (take a text))) (a + 1) b (b + 1)) body-ends))
+          ∙ (ap (λ n. put_kind (read_id (take a text)) n b (b + 1) (b + 1 + length (drop (b + 1) text))) at_name
+          ∙ ap (put_kind (read_id (take a text)) (a + 1) b (b + 1)) body-ends))
 
 -- ---- what a kind says of its line
 
@@ -227,34 +220,34 @@ module _ (text a b c : List ℕ) (e : fields text ≡ a ∷ b ∷ c ∷ []) wher
       ap (λ n. take n (drop (length a + 1 + length b + 1) text)) k ∙ (ap (take (length c)) from_body
       ∙ take_all (length c) c (omega arith))
 
-done_says : (line : List ℕ) (o : Option ℕ) → kind_of line (done_kind (id_of o)) ≡ done_of o
+done_says : (line : List ℕ) (o : Option ℕ) → kind_of line (done_kind o) ≡ done_of o
 unfolding done_of
-done_says line none = refl
-done_says line (some id) = refl
+done_says line None = refl
+done_says line (Some id) = refl
 
 -- what holds of a retry line and of one that says nothing, holds of any line of two fields
-retry_rule : (P : LineKind → Type 0) → ((id n : ℕ) → P (Retry id n)) → P Other → (i k : IdRead) → P (retry_kind i k)
-retry_rule P told nothing (Is id) (Is n) = at (leb n ATTEMPTS)
+retry_rule : (P : LineKind → Type 0) → ((id n : ℕ) → P (Retry id n)) → P Other → (i k : Option ℕ) → P (retry_kind i k)
+retry_rule P told nothing (Some id) (Some n) = at (leb n ATTEMPTS)
   where
     at : (t : Bool) → P (elim t [ true ↦ Retry id n | false ↦ Other ])
     at true = told id n
     at false = nothing
-retry_rule P told nothing (Is id) Not = nothing
-retry_rule P told nothing Not k = nothing
+retry_rule P told nothing (Some id) None = nothing
+retry_rule P told nothing None k = nothing
 
 -- a number up to 255 is the attempts of the id, and with one above the line says nothing
-pub kind_tried : (i k : IdRead) (id n : ℕ) → i ≡ Is id → k ≡ Is n → n ≤ ATTEMPTS → Retry id n ≡ retry_kind i k
+pub kind_tried : (i k : Option ℕ) (id n : ℕ) → i ≡ Some id → k ≡ Some n → n ≤ ATTEMPTS → Retry id n ≡ retry_kind i k
 kind_tried i k id n e f l = cc (le-leb n ATTEMPTS l)
 
-pub kind_over : (i k : IdRead) (id n : ℕ) → i ≡ Is id → k ≡ Is n → ATTEMPTS < n → Other ≡ retry_kind i k
+pub kind_over : (i k : Option ℕ) (id n : ℕ) → i ≡ Some id → k ≡ Some n → ATTEMPTS < n → Other ≡ retry_kind i k
 kind_over i k id n e f l = cc (lt-leb n ATTEMPTS l)
 
-retry_says : (line : List ℕ) (o p : Option ℕ) → kind_of line (retry_kind (id_of o) (id_of p)) ≡ attempts_of o p
+retry_says : (line : List ℕ) (o p : Option ℕ) → kind_of line (retry_kind o p) ≡ attempts_of o p
 unfolding attempts_of
-retry_says line none none = refl
-retry_says line none (some n) = refl
-retry_says line (some id) none = refl
-retry_says line (some id) (some n) = at (leb n ATTEMPTS)
+retry_says line None None = refl
+retry_says line None (Some n) = refl
+retry_says line (Some id) None = refl
+retry_says line (Some id) (Some n) = at (leb n ATTEMPTS)
   where
     at : (t : Bool) → kind_of line (elim t [ true ↦ Retry id n | false ↦ Other ])
         ≡ elim t [ true ↦ retry id n | false ↦ other ]
@@ -264,9 +257,9 @@ retry_says line (some id) (some n) = at (leb n ATTEMPTS)
 -- what holds of every retry line, and of a line that says nothing, holds of any line of two fields
 attempts_rule : (P : Line → Type 0) → ((id n : ℕ) → P (retry id n)) → P other → (o p : Option ℕ) → P (attempts_of o p)
 unfolding attempts_of
-attempts_rule P says rest none p = rest
-attempts_rule P says rest (some id) none = rest
-attempts_rule P says rest (some id) (some n) = at (leb n ATTEMPTS)
+attempts_rule P says rest None p = rest
+attempts_rule P says rest (Some id) None = rest
+attempts_rule P says rest (Some id) (Some n) = at (leb n ATTEMPTS)
   where
     at : (t : Bool) → P (elim t [ true ↦ retry id n | false ↦ other ])
     at true = says id n
@@ -280,33 +273,33 @@ retry_no_body : (o p : Option ℕ) → [] ≡ body_of (attempts_of o p)
 retry_no_body o p = attempts_rule (λ l. [] ≡ body_of l) (λ id n. refl) refl o p
 
 put_says : (line name body : List ℕ) (o : Option ℕ) (a b c d : ℕ) → part line a b ≡ name → part line c d ≡ body
-    → kind_of line (put_kind (id_of o) a b c d) ≡ put_of o name body
+    → kind_of line (put_kind o a b c d) ≡ put_of o name body
 unfolding put_of
-put_says line name body none a b c d e f = refl
-put_says line name body (some id) a b c d e f = rw (e, f) refl
+put_says line name body None a b c d e f = refl
+put_says line name body (Some id) a b c d e f = rw (e, f) refl
 
 put_name : (line name : List ℕ) (o : Option ℕ) (a b c d : ℕ) → part line a b ≡ name
-    → name_part line (put_kind (id_of o) a b c d) ≡ of_record o name
-put_name line name none a b c d e = refl
-put_name line name (some id) a b c d e = e
+    → name_part line (put_kind o a b c d) ≡ of_record o name
+put_name line name None a b c d e = refl
+put_name line name (Some id) a b c d e = e
 
 put_body : (line body : List ℕ) (o : Option ℕ) (a b c d : ℕ) → part line c d ≡ body
-    → body_part line (put_kind (id_of o) a b c d) ≡ of_record o body
-put_body line body none a b c d e = refl
-put_body line body (some id) a b c d e = e
+    → body_part line (put_kind o a b c d) ≡ of_record o body
+put_body line body None a b c d e = refl
+put_body line body (Some id) a b c d e = e
 
-done_inside : (line : List ℕ) (o : IdRead) → Inside line (done_kind o)
-done_inside line (Is id) = tt
-done_inside line Not = tt
+done_inside : (line : List ℕ) (o : Option ℕ) → Inside line (done_kind o)
+done_inside line (Some id) = tt
+done_inside line None = tt
 
-put_inside : (line : List ℕ) (o : IdRead) (a b c d : ℕ) → a ≤ b → b ≤ c → c ≤ d → d ≤ length line
+put_inside : (line : List ℕ) (o : Option ℕ) (a b c d : ℕ) → a ≤ b → b ≤ c → c ≤ d → d ≤ length line
     → Inside line (put_kind o a b c d)
-put_inside line (Is id) a b c d p q r s = (p, q, r, s)
-put_inside line Not a b c d p q r s = tt
+put_inside line (Some id) a b c d p q r s = (p, q, r, s)
+put_inside line None a b c d p q r s = tt
 
-done_part : (line : List ℕ) (o : IdRead) → (name_part line (done_kind o) ≡ []) × (body_part line (done_kind o) ≡ [])
-done_part line (Is id) = (refl, refl)
-done_part line Not = (refl, refl)
+done_part : (line : List ℕ) (o : Option ℕ) → (name_part line (done_kind o) ≡ []) × (body_part line (done_kind o) ≡ [])
+done_part line (Some id) = (refl, refl)
+done_part line None = (refl, refl)
 
 module _ (text : List ℕ) where
   pub kind_says : kind_of text (line_kind text) ≡ read_line text
@@ -326,10 +319,10 @@ module _ (text : List ℕ) where
     where
       at : (fs : List (List ℕ)) → fields text ≡ fs → Inside text (line_kind_in fs)
       at [] e = tt
-      at (a ∷ []) e = done_inside text (id_of (read_id a))
+      at (a ∷ []) e = done_inside text (read_id a)
       at (a ∷ b ∷ []) e =
-          retry_rule (Inside text) (λ id n. tt) tt (id_of (read_id a)) (id_of (read_id b))
-      at (a ∷ b ∷ c ∷ []) e = put_inside text (id_of (read_id a)) _ _ _ _ (omega arith) (omega arith) (omega arith)
+          retry_rule (Inside text) (λ id n. tt) tt (read_id a) (read_id b)
+      at (a ∷ b ∷ c ∷ []) e = put_inside text (read_id a) _ _ _ _ (omega arith) (omega arith) (omega arith)
           (omega (arith, three_long text a b c e))
       at (a ∷ b ∷ c ∷ d ∷ rest) e = tt
 
@@ -340,9 +333,9 @@ module _ (text : List ℕ) where
     where
       at : (fs : List (List ℕ)) → fields text ≡ fs → name_part text (line_kind_in fs) ≡ name_in fs
       at [] e = refl
-      at (a ∷ []) e = (done_part text (id_of (read_id a))).0
+      at (a ∷ []) e = (done_part text (read_id a)).0
       at (a ∷ b ∷ []) e =
-          retry_rule (λ k. name_part text k ≡ []) (λ id n. refl) refl (id_of (read_id a)) (id_of (read_id b))
+          retry_rule (λ k. name_part text k ≡ []) (λ id n. refl) refl (read_id a) (read_id b)
       at (a ∷ b ∷ c ∷ []) e = put_name text b (read_id a) _ _ _ _ (name_there text a b c e)
       at (a ∷ b ∷ c ∷ d ∷ rest) e = refl
 
@@ -352,11 +345,35 @@ module _ (text : List ℕ) where
     where
       at : (fs : List (List ℕ)) → fields text ≡ fs → body_part text (line_kind_in fs) ≡ body_in fs
       at [] e = refl
-      at (a ∷ []) e = (done_part text (id_of (read_id a))).1
+      at (a ∷ []) e = (done_part text (read_id a)).1
       at (a ∷ b ∷ []) e =
-          retry_rule (λ k. body_part text k ≡ []) (λ id n. refl) refl (id_of (read_id a)) (id_of (read_id b))
+          retry_rule (λ k. body_part text k ≡ []) (λ id n. refl) refl (read_id a) (read_id b)
       at (a ∷ b ∷ c ∷ []) e = put_body text c (read_id a) _ _ _ _ (body_there text a b c e)
       at (a ∷ b ∷ c ∷ d ∷ rest) e = refl
+
+  -- the same of a line that is a record, and of one that is none
+  module _ (id a b c d : ℕ) (is : line_kind text ≡ Put id a b c d) where
+    pub places : (a ≤ b) × (b ≤ c) × (c ≤ d) × (d ≤ length text)
+    places = subst (Inside text) is kind_inside
+
+    pub put_has_name : part text a b ≡ name_field text
+    put_has_name = ap (name_part text) (sym is) ∙ kind_name
+
+    pub put_has_body : part text c d ≡ body_field text
+    put_has_body = ap (body_part text) (sym is) ∙ kind_body
+
+  module _ (none : (id a b c d : ℕ) → line_kind text ≡ Put id a b c d → ⊥) where
+    no_parts : (k : LineKind) → line_kind text ≡ k → (name_part text k ≡ []) × (body_part text k ≡ [])
+    no_parts (Put id a b c d) e = absurd (none id a b c d e)
+    no_parts (Done id) e = (refl, refl)
+    no_parts (Retry id n) e = (refl, refl)
+    no_parts Other e = (refl, refl)
+
+    pub other_no_name : [] ≡ name_field text
+    other_no_name = sym (no_parts (line_kind text) refl).0 ∙ kind_name
+
+    pub other_no_body : [] ≡ body_field text
+    other_no_body = sym (no_parts (line_kind text) refl).1 ∙ kind_body
 
   -- a field unescaped is the message's
   pub name_read : unescape (name_field text) ≡ name_of (read_line text)
@@ -364,12 +381,12 @@ module _ (text : List ℕ) where
   name_read = at (fields text)
     where
       of : (o : Option ℕ) (b c : List ℕ) → unescape (of_record o b) ≡ name_of (put_of o b c)
-      of none b c = refl
-      of (some id) b c = refl
+      of None b c = refl
+      of (Some id) b c = refl
 
       none_done : (o : Option ℕ) → [] ≡ name_of (done_of o)
-      none_done none = refl
-      none_done (some id) = refl
+      none_done None = refl
+      none_done (Some id) = refl
 
       at : (fs : List (List ℕ)) → unescape (name_in fs) ≡ name_of (read_fields fs)
       at [] = refl
@@ -383,12 +400,12 @@ module _ (text : List ℕ) where
   body_read = at (fields text)
     where
       of : (o : Option ℕ) (b c : List ℕ) → unescape (of_record o c) ≡ body_of (put_of o b c)
-      of none b c = refl
-      of (some id) b c = refl
+      of None b c = refl
+      of (Some id) b c = refl
 
       none_done : (o : Option ℕ) → [] ≡ body_of (done_of o)
-      none_done none = refl
-      none_done (some id) = refl
+      none_done None = refl
+      none_done (Some id) = refl
 
       at : (fs : List (List ℕ)) → unescape (body_in fs) ≡ body_of (read_fields fs)
       at [] = refl

@@ -1,4 +1,5 @@
 -- Laws of a turn: what a line that was handed back is in the log, and among its lines.
+use Rattle.std.specs.Prelude.{Option, Some, None}
 use mathlib.Core.Path.{◌≡◌, refl, ap, sym, ◌∙◌}
 use mathlib.Core.Bool.{Bool, true, false, false≢true}
 use mathlib.Core.List.{List, [], ◌∷◌}
@@ -11,8 +12,6 @@ use Rattle.text.specs.Format.{LF, lines}
 use Rattle.text.specs.Bytes.{part}
 use Rattle.text.specs.Answers.{First, LineEnd}
 use Rattle.text.proofs.LineLaws.{first_from, feed_from, whole_from, torn_from, none_past}
-use Rattle.text.specs.declared.lines.Line.{Line}
-use Rattle.text.specs.declared.lines.Line.TheVariants.{At, End}
 use Rattle.text.specs.declared.lines.NextLine.{NextLine}
 use Rattle.text.specs.Lines.{first_line, next_at}
 
@@ -21,13 +20,13 @@ part_length : (s : List ℕ) (a e : ℕ) → e ≤ length s → length (part s a
 part_length s a e h = simp (length-take, length-drop) (omega arith)
 
 pub next_at_line : (s : List ℕ) (at e : ℕ) → LineEnd s at e → e < length s
-    → ◌≡◌ {A = NextLine} (record { line = At at e; at = e + 1 }) (next_at s at)
+    → ◌≡◌ {A = NextLine} (record { line = Some (at, e); at = e + 1 }) (next_at s at)
 unfolding next_at
 next_at_line s at e n h =
     let k : at + length (part s at e) ≡ e = omega (arith, part_length s at e n.within, n.low h) in
-    sym (ap (λ ls. first_line ls at) (n.whole h) ∙ ap (λ j. record { line = At at j; at = j + 1 }) k)
+    sym (ap (λ ls. first_line ls at) (n.whole h) ∙ ap (λ j. record { line = Some (at, j); at = j + 1 }) k)
 
-pub next_at_none : (s : List ℕ) (at : ℕ) → lines (drop at s) ≡ [] → ◌≡◌ {A = NextLine} (record { line = End; at = at })
+pub next_at_none : (s : List ℕ) (at : ℕ) → lines (drop at s) ≡ [] → ◌≡◌ {A = NextLine} (record { line = None; at = at })
     (next_at s at)
 unfolding next_at
 next_at_none s at h = sym (ap (λ ls. first_line ls at) h)
@@ -115,20 +114,20 @@ pub record Found (s : List ℕ) (at a e to : ℕ) : Type 0 where
   pub inside : e < length s
   pub whole : lines (drop at s) ≡ part s a e ∷ lines (drop to s)
 
-abbrev is_at : Line → Bool
-is_at (At a e) = true
-is_at End = false
+abbrev is_at : Option (ℕ × ℕ) → Bool
+is_at (Some (a, e)) = true
+is_at None = false
 
-abbrev start_of : Line → ℕ
-start_of (At a e) = a
-start_of End = 0
+abbrev start_of : Option (ℕ × ℕ) → ℕ
+start_of (Some (a, e)) = a
+start_of None = 0
 
-abbrev end_of : Line → ℕ
-end_of (At a e) = e
-end_of End = 0
+abbrev end_of : Option (ℕ × ℕ) → ℕ
+end_of (Some (a, e)) = e
+end_of None = 0
 
 module _ (s : List ℕ) (at : ℕ) (t : NextLine) (is : t ≡ next_at s at) where
-  pub found : (a e : ℕ) → t.line ≡ At a e → Found s at a e t.at
+  pub found : (a e : ℕ) → t.line ≡ Some (a, e) → Found s at a e t.at
   found a e l = by (ends s at) (ltb (ends s at).end (length s)) refl
     where
       by : (x : Ends s at) (b : Bool) → ltb x.end (length s) ≡ b → Found s at a e t.at
@@ -152,7 +151,7 @@ module _ (s : List ℕ) (at : ℕ) (t : NextLine) (is : t ≡ next_at s at) wher
           absurd (false≢true (sym
           (ap is_at (sym l ∙ ap (λ u. u.line) (is ∙ sym (next_at_none s at (x.next.torn i)))))))
 
-  pub no_line : t.line ≡ End → lines (drop at s) ≡ []
+  pub no_line : t.line ≡ None → lines (drop at s) ≡ []
   no_line l = by (ends s at) (ltb (ends s at).end (length s)) refl
     where
       by : (x : Ends s at) (b : Bool) → ltb x.end (length s) ≡ b → lines (drop at s) ≡ []

@@ -7,6 +7,7 @@ use lib.ListN.{length, length-append}
 use Rattle.text.specs.Format.{print_id, escape, Message, record_text, record_line, done_line}
 use Rattle.text.specs.Format.{retry_text, retry_line, line}
 use Rattle.text.specs.Bytes.{Wrote}
+use Rattle.text.proofs.IdLaws.{print_short}
 use Rattle.text.proofs.WriteLaws.{Writing, begin, further}
 
 abbrev pub after_body : List ℕ
@@ -39,6 +40,9 @@ retry_length id n = rw (retry_parts id n) (simp length-append (omega arith))
 pub record_length : (m : Message) → length (record_line m) ≡ length (print_id m.id) + length (escape m.name)
     + length (escape m.body) + 3
 record_length m = rw (record_parts m) (simp length-append (omega arith))
+
+-- what measuring a record goes by
+pub ruleset record_sizes = (record_length, print_short)
 
 pub done_length : (id : ℕ) → length (done_line id) ≡ length (print_id id) + 1
 done_length id = rw (done_parts id) (simp length-append)

@@ -1,7 +1,7 @@
 -- One spelling for an id: what is read as a number is exactly what the number is printed as.
+use Rattle.std.specs.Prelude.{Option, Some, None}
 use mathlib.Core.Path.{◌≡◌, refl, ap, sym, ◌∙◌, subst}
 use mathlib.Core.Bool.{Bool, true, false}
-use mathlib.Core.Option.{Option, none, some}
 use mathlib.Core.List.{List, [], ◌∷◌, ◌++◌, append_assoc, append-nil}
 use Prim.Native.Nat.{ℕ, zero, suc, ◌+◌, ◌-◌, ◌*◌, ◌/◌, ◌%◌, ◌^◌, ◌≤◌, ◌<◌}
 use native.Mathlib.Omega.{arith}
@@ -52,7 +52,7 @@ print_zero n l = at (ltb n 10) refl
         ∙ ne_eqb (get_or (print_id n) 0 0) DIGIT0 (omega arith)
 
 -- what is printed is read again
-pub read_id_print_id : (n : ℕ) → n < 2 ^ 64 → read_id (print_id n) ≡ some n
+pub read_id_print_id : (n : ℕ) → n < 2 ^ 64 → read_id (print_id n) ≡ Some n
 unfolding print_id below64
 read_id_print_id n l =
     let there : 0 < length (print_id n) = print_there n l in
@@ -68,7 +68,7 @@ print_digit high b h low top l =
     let last : DIGIT0 + n % 10 ≡ b = omega arith in
     cc (print_more n (omega arith) l, over, last)
 
-print_behind : (bs : List ℕ) (high n : ℕ) → 0 < high → n < 2 ^ 64 → decimal high bs ≡ some n
+print_behind : (bs : List ℕ) (high n : ℕ) → 0 < high → n < 2 ^ 64 → decimal high bs ≡ Some n
     → print_id n ≡ print_id high ++ bs
 unfolding decimal
 print_behind [] high n h l e = let same : high ≡ n = cc in cc (append-nil (print_id high))
@@ -83,7 +83,7 @@ print_head : (b : ℕ) → DIGIT0 ≤ b → b < DIGIT0 + 10 → print_id (b - DI
 print_head b low top =
     let back : DIGIT0 + (b - DIGIT0) ≡ b = omega arith in cc (print_one (b - DIGIT0) (omega arith), back)
 
-spelled : (text : List ℕ) (n : ℕ) → 0 < length text → leading_zero text ≡ false → decimal 0 text ≡ some n → n < 2 ^ 64
+spelled : (text : List ℕ) (n : ℕ) → 0 < length text → leading_zero text ≡ false → decimal 0 text ≡ Some n → n < 2 ^ 64
     → text ≡ print_id n
 unfolding decimal
 spelled [] n h z e l = absurd (omega arith)
@@ -95,18 +95,18 @@ spelled (b ∷ []) n h z e l =
 spelled (b ∷ c ∷ bs) n h z e l =
     let d = decimal_head 0 b (c ∷ bs) n e in
     let value : 0 * 10 + (b - DIGIT0) ≡ b - DIGIT0 = omega arith in
-    let rest : decimal (b - DIGIT0) (c ∷ bs) ≡ some n = cc d.2 in
+    let rest : decimal (b - DIGIT0) (c ∷ bs) ≡ Some n = cc d.2 in
     let head : print_id (b - DIGIT0) ≡ b ∷ [] = print_head b d.0 d.1 in
     let above : b ≡ DIGIT0 → ⊥ = eqb-false b DIGIT0 z in
     sym (print_behind (c ∷ bs) (b - DIGIT0) n (omega arith) l rest ∙ ap (λ t. t ++ (c ∷ bs)) head)
 
 -- what was read: digits of a value below 2 ^ 64, without a leading zero
-below_says : (o : Option ℕ) (n : ℕ) → below64 o ≡ some n → (o ≡ some n) × (n < 2 ^ 64)
+below_says : (o : Option ℕ) (n : ℕ) → below64 o ≡ Some n → (o ≡ Some n) × (n < 2 ^ 64)
 unfolding below64
-below_says none n e = let z : ◌≡◌ {A = ℕ} 0 1 = cc in absurd (omega arith)
-below_says (some k) n e = at (ltb k (2 ^ 64)) refl
+below_says None n e = let z : ◌≡◌ {A = ℕ} 0 1 = cc in absurd (omega arith)
+below_says (Some k) n e = at (ltb k (2 ^ 64)) refl
   where
-    at : (t : Bool) → ltb k (2 ^ 64) ≡ t → (some k ≡ some n) × (n < 2 ^ 64)
+    at : (t : Bool) → ltb k (2 ^ 64) ≡ t → (Some k ≡ Some n) × (n < 2 ^ 64)
     at true p = let same : k ≡ n = cc in (cc, omega (arith, ltb-true k (2 ^ 64) p))
     at false p = let z : ◌≡◌ {A = ℕ} 0 1 = cc in absurd (omega arith)
 
@@ -114,10 +114,10 @@ below_says (some k) n e = at (ltb k (2 ^ 64)) refl
 record Found (text : List ℕ) (n : ℕ) : Type 0 where
   printed : text ≡ print_id n
   below : n < 2 ^ 64
-  says : decimal 0 text ≡ some n
+  says : decimal 0 text ≡ Some n
   plain : leading_zero text ≡ false
 
-digits_found : (text : List ℕ) (n : ℕ) → leading_zero text ≡ false → read_digits text ≡ some n → Found text n
+digits_found : (text : List ℕ) (n : ℕ) → leading_zero text ≡ false → read_digits text ≡ Some n → Found text n
 unfolding read_digits
 digits_found [] n h e = let z : ◌≡◌ {A = ℕ} 0 1 = cc in absurd (omega arith)
 digits_found (b ∷ bs) n h e =
@@ -129,7 +129,7 @@ digits_found (b ∷ bs) n h e =
       plain = h;
     }
 
-found : (text : List ℕ) (n : ℕ) → read_id text ≡ some n → Found text n
+found : (text : List ℕ) (n : ℕ) → read_id text ≡ Some n → Found text n
 unfolding read_id
 found text n e = at (leading_zero text) refl
   where
@@ -147,31 +147,31 @@ one_spelling text n = record {
 }
 
 -- so an id is printed as long as the text that it was read from
-pub read_id_length : (text : List ℕ) (n : ℕ) → read_id text ≡ some n → length (print_id n) ≡ length text
+pub read_id_length : (text : List ℕ) (n : ℕ) → read_id text ≡ Some n → length (print_id n) ≡ length text
 read_id_length text n e = ap length (sym ((one_spelling text n).printed e))
 
 -- what one field, and what three fields say
-one_done : (o : Option ℕ) (n : ℕ) → done_of o ≡ done n → o ≡ some n
+one_done : (o : Option ℕ) (n : ℕ) → done_of o ≡ done n → o ≡ Some n
 unfolding done_of
-one_done none n e = let z : ◌≡◌ {A = ℕ} 0 1 = cc in absurd (omega arith)
-one_done (some id) n e = let same : id ≡ n = cc in cc
+one_done None n e = let z : ◌≡◌ {A = ℕ} 0 1 = cc in absurd (omega arith)
+one_done (Some id) n e = let same : id ≡ n = cc in cc
 
 one_put : (o : Option ℕ) (m : Message) → done_of o ≡ put m → ⊥
 unfolding done_of
-one_put none m e = let z : ◌≡◌ {A = ℕ} 0 1 = cc in omega arith
-one_put (some id) m e = let z : ◌≡◌ {A = ℕ} 0 1 = cc in omega arith
+one_put None m e = let z : ◌≡◌ {A = ℕ} 0 1 = cc in omega arith
+one_put (Some id) m e = let z : ◌≡◌ {A = ℕ} 0 1 = cc in omega arith
 
 one_retry : (o : Option ℕ) (id n : ℕ) → done_of o ≡ retry id n → ⊥
 unfolding done_of
-one_retry none id n e = let z : ◌≡◌ {A = ℕ} 0 1 = cc in omega arith
-one_retry (some x) id n e = let z : ◌≡◌ {A = ℕ} 0 1 = cc in omega arith
+one_retry None id n e = let z : ◌≡◌ {A = ℕ} 0 1 = cc in omega arith
+one_retry (Some x) id n e = let z : ◌≡◌ {A = ℕ} 0 1 = cc in omega arith
 
 -- what two fields say: an id's attempts or nothing
 two_rule : (P : Line → Type 0) → ((id n : ℕ) → P (retry id n)) → P other → (o p : Option ℕ) → P (attempts_of o p)
 unfolding attempts_of
-two_rule P told nothing none p = nothing
-two_rule P told nothing (some id) none = nothing
-two_rule P told nothing (some id) (some n) = at (leb n ATTEMPTS)
+two_rule P told nothing None p = nothing
+two_rule P told nothing (Some id) None = nothing
+two_rule P told nothing (Some id) (Some n) = at (leb n ATTEMPTS)
   where
     at : (t : Bool) → P (elim t [ true ↦ retry id n | false ↦ other ])
     at true = told id n
@@ -190,9 +190,9 @@ two_put o p m =
 two_retry : (a b : List ℕ) (id n : ℕ) (o p : Option ℕ) → read_id a ≡ o → read_id b ≡ p → attempts_of o p ≡ retry id n
     → RetryFields id n (a ∷ b ∷ [])
 unfolding attempts_of
-two_retry a b id n none p q r e = let z : ◌≡◌ {A = ℕ} 0 1 = cc in absurd (omega arith)
-two_retry a b id n (some x) none q r e = let z : ◌≡◌ {A = ℕ} 0 1 = cc in absurd (omega arith)
-two_retry a b id n (some x) (some k) q r e = at (leb k ATTEMPTS) refl
+two_retry a b id n None p q r e = let z : ◌≡◌ {A = ℕ} 0 1 = cc in absurd (omega arith)
+two_retry a b id n (Some x) None q r e = let z : ◌≡◌ {A = ℕ} 0 1 = cc in absurd (omega arith)
+two_retry a b id n (Some x) (Some k) q r e = at (leb k ATTEMPTS) refl
   where
     at : (t : Bool) → leb k ATTEMPTS ≡ t → RetryFields id n (a ∷ b ∷ [])
     at true l =
@@ -209,19 +209,19 @@ two_retry a b id n (some x) (some k) q r e = at (leb k ATTEMPTS) refl
 
 three_retry : (o : Option ℕ) (b c : List ℕ) (id n : ℕ) → put_of o b c ≡ retry id n → ⊥
 unfolding put_of
-three_retry none b c id n e = let z : ◌≡◌ {A = ℕ} 0 1 = cc in omega arith
-three_retry (some x) b c id n e = let z : ◌≡◌ {A = ℕ} 0 1 = cc in omega arith
+three_retry None b c id n e = let z : ◌≡◌ {A = ℕ} 0 1 = cc in omega arith
+three_retry (Some x) b c id n e = let z : ◌≡◌ {A = ℕ} 0 1 = cc in omega arith
 
 three_done : (o : Option ℕ) (b c : List ℕ) (n : ℕ) → put_of o b c ≡ done n → ⊥
 unfolding put_of
-three_done none b c n e = let z : ◌≡◌ {A = ℕ} 0 1 = cc in omega arith
-three_done (some id) b c n e = let z : ◌≡◌ {A = ℕ} 0 1 = cc in omega arith
+three_done None b c n e = let z : ◌≡◌ {A = ℕ} 0 1 = cc in omega arith
+three_done (Some id) b c n e = let z : ◌≡◌ {A = ℕ} 0 1 = cc in omega arith
 
 three_put : (a b c : List ℕ) (m : Message) (o : Option ℕ) → read_id a ≡ o → put_of o b c ≡ put m
     → FieldsOf m (a ∷ b ∷ c ∷ [])
 unfolding put_of
-three_put a b c m none p e = let z : ◌≡◌ {A = ℕ} 0 1 = cc in absurd (omega arith)
-three_put a b c m (some id) p e =
+three_put a b c m None p e = let z : ◌≡◌ {A = ℕ} 0 1 = cc in absurd (omega arith)
+three_put a b c m (Some id) p e =
     let same : m.id ≡ id = cc in
     let read : OneSpelling a id = one_spelling a id in
     record {
@@ -240,7 +240,7 @@ module _ (text : List ℕ) where
   done_fields n [] e = let z : ◌≡◌ {A = ℕ} 0 1 = cc in absurd (omega arith)
   done_fields n (a ∷ []) e =
       let read = one_spelling a n in
-      let is : read_id a ≡ some n = one_done (read_id a) n e in
+      let is : read_id a ≡ Some n = one_done (read_id a) n e in
       (ap {B = List (List ℕ)} (λ t. t ∷ []) (read.printed is), read.below is)
   done_fields n (a ∷ b ∷ []) e = absurd (two_done (read_id a) (read_id b) n e)
   done_fields n (a ∷ b ∷ c ∷ []) e = absurd (three_done (read_id a) b c n e)

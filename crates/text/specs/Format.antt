@@ -1,7 +1,6 @@
 -- What a log's text is (docs/RULES.md, 2): escaped fields, decimal ids, records, done lines, lines and fields. A byte
 -- is a number, a text a list of bytes.
-use Rattle.std.specs.Prelude.{◌≡◌, Bool, true, false, List, [], ◌∷◌, ◌++◌, ℕ, zero, suc, ◌+◌, ◌-◌, ◌*◌, ◌/◌, ◌%◌, ◌^◌, ◌<◌, eqb, leb, ltb}
-use Rattle.std.proofs.Math.Option.{Option, none, some}
+use Rattle.std.specs.Prelude.{◌≡◌, Bool, true, false, List, [], ◌∷◌, ◌++◌, ℕ, zero, suc, ◌+◌, ◌-◌, ◌*◌, ◌/◌, ◌%◌, ◌^◌, ◌<◌, eqb, leb, ltb, Option, Some, None}
 
 -- the bytes of the format, once for reader and writer
 abbrev pub TAB : ℕ
@@ -72,21 +71,21 @@ print_id n = digits 20 n
 
 -- the number that decimal digits say after those that said `high`; none if a byte is no digit
 unfoldable pub decimal : ℕ → List ℕ → Option ℕ
-decimal high [] = some high
+decimal high [] = Some high
 decimal high (b ∷ bs) = elim (leb DIGIT0 b) [
-  | false ↦ none
+  | false ↦ None
   | true ↦
-      elim (ltb b (DIGIT0 + 10)) [ false ↦ none | true ↦ decimal (high * 10 + (b - DIGIT0)) bs ]
+      elim (ltb b (DIGIT0 + 10)) [ false ↦ None | true ↦ decimal (high * 10 + (b - DIGIT0)) bs ]
 ]
 
 -- only a number below 2 ^ 64 stays; all else is none
 unfoldable pub below64 : Option ℕ → Option ℕ
-below64 none = none
-below64 (some n) = elim (ltb n (2 ^ 64)) [ true ↦ some n | false ↦ none ]
+below64 None = None
+below64 (Some n) = elim (ltb n (2 ^ 64)) [ true ↦ Some n | false ↦ None ]
 
 -- one digit or more, of a value up to 2 ^ 64 - 1
 unfoldable pub read_digits : List ℕ → Option ℕ
-read_digits [] = none
+read_digits [] = None
 read_digits (b ∷ bs) = below64 (decimal 0 (b ∷ bs))
 
 -- a leading zero: a 0 before another byte
@@ -98,16 +97,16 @@ leading_zero (b ∷ c ∷ bs) = eqb b DIGIT0
 -- Reading an id: one digit or more, of a value up to 2 ^ 64 - 1, without a leading zero. So `0` is an id; `00`, `05`
 -- and `+5` are none
 unfoldable pub read_id : List ℕ → Option ℕ
-read_id text = elim (leading_zero text) [ true ↦ none | false ↦ read_digits text ]
+read_id text = elim (leading_zero text) [ true ↦ None | false ↦ read_digits text ]
 
 -- One spelling for an id (proved of every text and number): what is read as n is exactly what n is printed as, and n
 -- is below 2 ^ 64; this text says n in digits and has no leading zero
 pub record OneSpelling (text : List ℕ) (n : ℕ) : Type 0 where
-  pub printed : read_id text ≡ some n → text ≡ print_id n
-  pub below : read_id text ≡ some n → n < 2 ^ 64
-  pub read : text ≡ print_id n → n < 2 ^ 64 → read_id text ≡ some n
-  pub says : read_id text ≡ some n → decimal 0 text ≡ some n
-  pub plain : read_id text ≡ some n → leading_zero text ≡ false
+  pub printed : read_id text ≡ Some n → text ≡ print_id n
+  pub below : read_id text ≡ Some n → n < 2 ^ 64
+  pub read : text ≡ print_id n → n < 2 ^ 64 → read_id text ≡ Some n
+  pub says : read_id text ≡ Some n → decimal 0 text ≡ Some n
+  pub plain : read_id text ≡ Some n → leading_zero text ≡ false
 
 -- the most attempts that a retry line may say
 abbrev pub ATTEMPTS : ℕ

@@ -1,6 +1,5 @@
 -- What a line of the log says (docs/RULES.md, 2).
-use Rattle.std.specs.Prelude.{◌≡◌, true, false, List, [], ◌∷◌, ℕ, ◌^◌, ◌≤◌, ◌<◌, leb, drop}
-use Rattle.std.proofs.Math.Option.{Option, none, some}
+use Rattle.std.specs.Prelude.{◌≡◌, true, false, List, [], ◌∷◌, ℕ, ◌^◌, ◌≤◌, ◌<◌, leb, drop, Option, Some, None}
 use Rattle.text.specs.Format.{Message, ATTEMPTS, untried, unescape, print_id, read_id, fields, lines}
 
 -- a record, a done id, the attempts of an id, or nothing that opening takes in
@@ -13,20 +12,20 @@ pub data Line : Type 0 where
 -- a line of three fields: with an id a record, its name and body unescaped, which no retry followed yet; else nothing
 -- that opening takes in
 unfoldable pub put_of : Option ℕ → List ℕ → List ℕ → Line
-put_of none name body = other
-put_of (some id) name body = put (untried id (unescape name) (unescape body))
+put_of None name body = other
+put_of (Some id) name body = put (untried id (unescape name) (unescape body))
 
 -- a line of one field: with an id it says that the id is done; else nothing that opening takes in
 unfoldable pub done_of : Option ℕ → Line
-done_of none = other
-done_of (some id) = done id
+done_of None = other
+done_of (Some id) = done id
 
 -- a line of two fields: with an id and a number up to 255 that is spelled as one it says the id's attempts; else
 -- nothing that opening takes in
 unfoldable pub attempts_of : Option ℕ → Option ℕ → Line
-attempts_of none attempts = other
-attempts_of (some id) none = other
-attempts_of (some id) (some n) = elim (leb n ATTEMPTS) [ true ↦ retry id n | false ↦ other ]
+attempts_of None attempts = other
+attempts_of (Some id) None = other
+attempts_of (Some id) (Some n) = elim (leb n ATTEMPTS) [ true ↦ retry id n | false ↦ other ]
 
 -- one field with an id says that the id is done, two with an id and a number the attempts of the id, three with an id
 -- are a record; all else says nothing
@@ -84,8 +83,8 @@ body_of other = []
 
 -- the name and the body as they stand in a record's line, still escaped; nothing in any other line
 abbrev pub of_record : Option ℕ → List ℕ → List ℕ
-of_record none field = []
-of_record (some id) field = field
+of_record None field = []
+of_record (Some id) field = field
 
 -- the name by a line's fields: the second of exactly three, where the first is an id; else empty
 unfoldable pub name_in : List (List ℕ) → List ℕ

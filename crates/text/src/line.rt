@@ -3,7 +3,7 @@ ghost use Rattle.std.specs.Prelude.{◌≡◌, ◌≤◌, length};
 ghost use Rattle.text.specs.Line.{name_field, body_field};
 ghost use Rattle.text.specs.Answers.{First, FirstFrom, done_kind, retry_kind, put_kind, line_kind, LineEnd};
 
-use crate::ids::{IdRead, read_id};
+use crate::ids::read_id;
 
 // The most attempts that a retry line may say.
 pub const ATTEMPTS: u64 = 255;
@@ -31,17 +31,11 @@ pub enum LineKind {
 fn find(s: &[u8], sep: u8) -> usize
     ensures { First s.now sep result }
 {
-    let mut i: usize = 0;
-    while i < s.len() {
-        if s[i] == sep {
-            return i;
-        }
-        i += 1;
-    }
-    i
+    s.iter().position(|&b| b == sep).unwrap_or(s.len())
 }
 
 // The same from a place on.
+#[tactic(auto, using(crate::proofs::LineLaws::first_from, crate::proofs::LineLaws::from))]
 fn find_from(s: &[u8], from: usize, sep: u8) -> usize
     requires { from ≤ length s.now }
     ensures { FirstFrom s.now from sep result }
@@ -49,42 +43,36 @@ fn find_from(s: &[u8], from: usize, sep: u8) -> usize
     from + find(&s[from..], sep)
 }
 
-fn done_kind(i: IdRead) -> LineKind
+fn done_kind(i: Option<u64>) -> LineKind
     ensures { result ≡ done_kind i }
 {
     match i {
-        IdRead::Is(id) => LineKind::Done(id),
-        IdRead::Not => LineKind::Other,
+        Some(id) => LineKind::Done(id),
+        None => LineKind::Other,
     }
 }
 
-fn retry_kind(i: IdRead, n: IdRead) -> LineKind
+fn retry_kind(i: Option<u64>, n: Option<u64>) -> LineKind
     ensures { result ≡ retry_kind i n }
 {
-    let IdRead::Is(id) = i else {
-        return LineKind::Other;
-    };
-    let IdRead::Is(attempts) = n else {
-        return LineKind::Other;
-    };
-    if ATTEMPTS < attempts {
-        return LineKind::Other;
+    match (i, n) {
+        (Some(id), Some(attempts)) if attempts <= ATTEMPTS => LineKind::Retry { id, attempts },
+        _ => LineKind::Other,
     }
-    LineKind::Retry { id, attempts }
 }
 
-fn put_kind(i: IdRead, a: usize, b: usize, c: usize, d: usize) -> LineKind
-    ensures { result ≡ put_kind i a b c d }
+fn put_kind(i: Option<u64>, name: usize, name_end: usize, body: usize, body_end: usize) -> LineKind
+    ensures { result ≡ put_kind i name name_end body body_end }
 {
     match i {
-        IdRead::Is(id) => LineKind::Put {
+        Some(id) => LineKind::Put {
             id,
-            name: a,
-            name_end: b,
-            body: c,
-            body_end: d,
+            name,
+            name_end,
+            body,
+            body_end,
         },
-        IdRead::Not => LineKind::Other,
+        None => LineKind::Other,
     }
 }
 
@@ -99,8 +87,7 @@ pub fn line_kind(line: &[u8]) -> LineKind
     }
     let b = find_from(line, a + 1, b'\t');
     if b == n {
-        let id = read_id(&line[..a]);
-        return retry_kind(id, read_id(&line[a + 1..]));
+        return retry_kind(read_id(&line[..a]), read_id(&line[a + 1..]));
     }
     let c = find_from(line, b + 1, b'\t');
     if c < n {
@@ -121,37 +108,22 @@ pub fn line_end(file: &[u8], at: usize) -> usize
 
 // The name of a record, as it stands in the line, still escaped: the slice from after its TAB on. Nothing in any other
 // line.
+// Kept: this function and the next one differ in the field that they take out of a pattern, which no parameter can be.
 pub fn name_field(line: &[u8]) -> &[u8]
     ensures { result.now ≡ name_field line.now }
 {
-    match line_kind(line) {
-        LineKind::Put {
-            id: _,
-            name,
-            name_end,
-            body: _,
-            body_end: _,
-        } => &line[name..name_end],
-        LineKind::Done(_) => &line[0..0],
-        LineKind::Retry { id: _, attempts: _ } => &line[0..0],
-        LineKind::Other => &line[0..0],
-    }
+    let LineKind::Put { name, name_end, .. } = line_kind(line) else {
+        return &line[0..0];
+    };
+    &line[name..name_end]
 }
 
 // The body of a record, in the same way.
 pub fn body_field(line: &[u8]) -> &[u8]
     ensures { result.now ≡ body_field line.now }
 {
-    match line_kind(line) {
-        LineKind::Put {
-            id: _,
-            name: _,
-            name_end: _,
-            body,
-            body_end,
-        } => &line[body..body_end],
-        LineKind::Done(_) => &line[0..0],
-        LineKind::Retry { id: _, attempts: _ } => &line[0..0],
-        LineKind::Other => &line[0..0],
-    }
+    let LineKind::Put { body, body_end, .. } = line_kind(line) else {
+        return &line[0..0];
+    };
+    &line[body..body_end]
 }

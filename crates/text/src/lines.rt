@@ -1,8 +1,9 @@
-// A line reader that remembers the log and how far it has read, lent by `&mut`: each call hands back the next whole
-// line and moves on past it.
-// The work is in `next_at`, on a slice and a place. A pass over a file makes one reader and lends it to `next`, line by
-// line; `next_from` has plain parameters, for whoever reads a single line.
-ghost use Rattle.std.specs.Prelude.{◌≡◌, drop};
+// A line reader that remembers the log and how far it has read: an iterator, which at each call hands back the next
+// whole line and moves on past it.
+// The work is in `next_from`, on a slice and a place, for whoever reads a single line. A pass over a file makes one
+// reader and goes through it by a `for` loop, line by line.
+ghost use Rattle.std.specs.Prelude.{◌≡◌, ◌-◌, drop, length};
+ghost use Rattle.std.specs.Iterator.{at_most};
 ghost use Rattle.text.specs.Format.{lines};
 ghost use Rattle.text.specs.Line.{first_text};
 ghost use Rattle.text.specs.Lines.{next_at};
@@ -15,71 +16,59 @@ pub struct Lines<'a> {
     pub at: usize,
 }
 
-// A whole line, without its LF: from where to where.
-#[derive(Drop)]
-pub enum Line {
-    At(usize, usize),
-    End,
-}
-
 // The next line, and how far the log is read after it.
 #[derive(Drop)]
 pub struct NextLine {
-    pub line: Line,
+    pub line: Option<(usize, usize)>,
     pub at: usize,
 }
 
-fn next_at(log: &[u8], at: usize) -> NextLine
+// The next line that a reader from a place on hands back, and where the reader then is.
+#[tactic(auto, using(crate::proofs::NextLaws::next_at_line, crate::proofs::NextLaws::next_at_none))]
+pub fn next_from(log: &[u8], at: usize) -> NextLine
     ensures { result ≡ next_at log.now at }
 {
     let end = line_end(log, at);
     if log.len() <= end {
-        return NextLine {
-            line: Line::End,
-            at,
-        };
+        return NextLine { line: None, at };
     }
     NextLine {
-        line: Line::At(at, end),
+        line: Some((at, end)),
         at: end + 1,
     }
 }
 
-// A reader of a log, from a place on.
-pub fn reader<'a>(log: &'a [u8], at: usize) -> Lines<'a>
-    ensures { (result.log ≡ log.entry) × (result.at ≡ at) }
-{
-    Lines { log, at }
+impl<'a> Lines<'a> {
+    // A reader of a log, from a place on.
+    pub fn new(log: &'a [u8], at: usize) -> Self
+        ensures { (result.log ≡ log.entry) × (result.at ≡ at) }
+    {
+        Lines { log, at }
+    }
 }
 
 // The next whole line; the reader is then past it. Where there is none, or only a torn one, it stays.
-pub fn next<'s, 'a>(r: &'s mut Lines<'a>) -> Line
-    ensures { (record { line = result; at = r.new.at }
-        ≡ next_at r.old.log.now r.old.at)
-        × (r.new.log ≡ r.old.log) }
-{
-    let t = next_at(r.log, r.at);
-    r.at = t.at;
-    t.line
-}
+impl<'a> Iterator for Lines<'a> {
+    type Item = (usize, usize);
 
-// The next line that a reader from a place on hands back, and where the reader then is.
-pub fn next_from(log: &[u8], at: usize) -> NextLine
-    ensures { result ≡ next_at log.now at }
-{
-    let mut r = reader(log, at);
-    let line = next(&mut r);
-    NextLine { line, at: r.at }
+    ghost next_gives = { λ old r new. (record { line = r; at = new.at } ≡ next_at old.log.now old.at)
+        × (new.log ≡ old.log) };
+
+    ghost remaining = { λ s. at_most (length s.log.now - s.at) };
+
+    fn next(&mut self) -> Option<(usize, usize)> {
+        let t = next_from(self.log, self.at);
+        self.at = t.at;
+        t.line
+    }
 }
 
 // The whole line that begins at a place; nothing where there is none.
 pub fn line_at(log: &[u8], at: usize) -> &[u8]
     ensures { result.now ≡ first_text (lines (drop at log.now)) }
 {
-    let t = next_from(log, at);
-    let line = t.line;
-    match line {
-        Line::At(from, to) => &log[from..to],
-        Line::End => &log[0..0],
-    }
+    let Some((from, to)) = next_from(log, at).line else {
+        return &log[0..0];
+    };
+    &log[from..to]
 }

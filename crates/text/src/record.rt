@@ -4,26 +4,23 @@ ghost use Rattle.text.specs.Format.{print_id, untried, record_line, done_line, r
 ghost use Rattle.text.specs.Bytes.{Wrote};
 ghost use Rattle.text.specs.Answers.{length_within, filled};
 
-use crate::escape::{Measure, escaped_len, put, put_escaped};
+use crate::escape::{escaped_len, put, put_escaped};
 use crate::ids::{id_len, print_id};
 
 // The length of a message's record, where it is at most `most`.
-pub fn record_len(id: u64, name: &[u8], body: &[u8], most: usize) -> Measure
+#[tactic(auto, using(crate::proofs::RecordLaws::record_sizes), unfolding(crate::specs::Answers::length_within))]
+pub fn record_len(id: u64, name: &[u8], body: &[u8], most: usize) -> Option<usize>
     ensures { result
         ≡ length_within (length (record_line (untried id name.now body.now)))
         most }
 {
     let rest = id_len(id) + 3;
     if most < rest {
-        return Measure::Over;
+        return None;
     }
-    let Measure::Len(name_len) = escaped_len(name, most - rest) else {
-        return Measure::Over;
-    };
-    let Measure::Len(body_len) = escaped_len(body, most - rest - name_len) else {
-        return Measure::Over;
-    };
-    Measure::Len(rest + name_len + body_len)
+    let name_len = escaped_len(name, most - rest)?;
+    let body_len = escaped_len(body, most - rest - name_len)?;
+    Some(rest + name_len + body_len)
 }
 
 // The record of a message, written from the first byte on.
@@ -42,19 +39,20 @@ fn write_record(out: &mut [u8], id: u64, name: &[u8], body: &[u8]) -> usize
 
 // The encoder: the record of a message fills the first bytes of `out`, the others keep theirs; one that does not fit
 // is left out.
-pub fn encode_record(out: &mut [u8], id: u64, name: &[u8], body: &[u8]) -> Measure
+// Kept: each of the three encoders measures its line and then writes it. One function for all would be given both as
+// closures, with a bound that says of them what the contracts of these functions say.
+#[tactic(auto, unfolding(crate::specs::Answers::length_within, crate::specs::Answers::filled))]
+pub fn encode_record(out: &mut [u8], id: u64, name: &[u8], body: &[u8]) -> Option<usize>
     ensures { record { bytes = out.new; answer = result }
         ≡ filled out.old
         (record_line (untried id name.now body.now)) }
 {
-    let Measure::Len(_) = record_len(id, name, body, out.len()) else {
-        return Measure::Over;
-    };
-    let n = write_record(out, id, name, body);
-    Measure::Len(n)
+    record_len(id, name, body, out.len())?;
+    Some(write_record(out, id, name, body))
 }
 
 // The length of an id's done line.
+#[tactic(auto, using(crate::proofs::RecordLaws::done_length, crate::proofs::IdLaws::print_short))]
 pub fn done_len(id: u64) -> usize
     ensures { result ≡ length (done_line id) }
 {
@@ -62,19 +60,19 @@ pub fn done_len(id: u64) -> usize
 }
 
 // The done line of an id fills the first bytes of `out`; one that does not fit is left out.
-pub fn encode_done(out: &mut [u8], id: u64) -> Measure
+#[tactic(auto, using(crate::proofs::RecordLaws::done_length, crate::proofs::AnswerLaws::filled_over))]
+pub fn encode_done(out: &mut [u8], id: u64) -> Option<usize>
     ensures { record { bytes = out.new; answer = result } ≡ filled out.old (done_line id) }
 {
-    let len = done_len(id);
-    if out.len() < len {
-        return Measure::Over;
+    if out.len() < done_len(id) {
+        return None;
     }
     let a = print_id(out, id);
-    let n = put(out, a, b'\n');
-    Measure::Len(n)
+    Some(put(out, a, b'\n'))
 }
 
 // The length of the line of an id's attempts.
+#[tactic(auto, using(crate::proofs::RecordLaws::retry_length, crate::proofs::IdLaws::print_short))]
 pub fn retry_len(id: u64, attempts: u64) -> usize
     ensures { result ≡ length (retry_line id attempts) }
 {
@@ -90,17 +88,16 @@ fn put_id(out: &mut [u8], at: usize, id: u64) -> usize
 }
 
 // The line of an id's attempts fills the first bytes of `out`; one that does not fit is left out.
-pub fn encode_retry(out: &mut [u8], id: u64, attempts: u64) -> Measure
+#[tactic(auto, using(crate::proofs::RecordLaws::retry_length, crate::proofs::AnswerLaws::filled_over))]
+pub fn encode_retry(out: &mut [u8], id: u64, attempts: u64) -> Option<usize>
     ensures { record { bytes = out.new; answer = result }
         ≡ filled out.old (retry_line id attempts) }
 {
-    let len = retry_len(id, attempts);
-    if out.len() < len {
-        return Measure::Over;
+    if out.len() < retry_len(id, attempts) {
+        return None;
     }
     let a = print_id(out, id);
     let b = put(out, a, b'\t');
     let c = put_id(out, b, attempts);
-    let n = put(out, c, b'\n');
-    Measure::Len(n)
+    Some(put(out, c, b'\n'))
 }

@@ -1,5 +1,7 @@
 -- Admit: refused with the state as it was, or a message comes to the inbox, logged or not; and a message that was sent
 -- comes to pending. Assumes nothing.
+use Rattle.std.specs.Prelude.{Option, Some, None, Ok}
+use Rattle.message_log.specs.declared.LogId.{LogId}
 use mathlib.Core.Path.{◌≡◌, refl, sym, ap, ◌∙◌, subst}
 use mathlib.Core.Bool.{Bool, true, false}
 use mathlib.Core.List.{List, [], ◌∷◌, ◌++◌}
@@ -10,23 +12,17 @@ use borrow.Author.Tests.{eqb-true, eqb-false}
 use lib.Dec.{eqb}
 use lib.ListN.{length, drop}
 use Rattle.text.specs.Format.{Message}
-use Rattle.lists.specs.declared.Found.TheVariants as found
 use Rattle.lists.specs.Links.{pick, Table, FREE, head_of, len_of, move_first, INBOX, HAND}
 use Rattle.lists.specs.Family.{count, Moved}
 use Rattle.lists.proofs.Family.{length_view}
 use Rattle.lists.proofs.Moves.{move_first_lem}
 use Rattle.message_log.specs.declared.Order.{Order}
-use Rattle.message_log.specs.declared.Answer.TheVariants as logged
 use Rattle.message_log.specs.Log as log
 use Rattle.message_log.specs.Stands.{Stands}
 use Rattle.message_log.specs.Recovery as disk
 use Rattle.message_log.proofs.RecoveryLaws as sound
 use Rattle.message_log.proofs.Recovery.{call_tail}
-use Rattle.actor.specs.declared.message.Caller.{Caller}
-use Rattle.actor.specs.declared.message.Caller.TheVariants as caller
 use Rattle.actor.specs.declared.message.CallerId.{CallerId}
-use Rattle.actor.specs.declared.message.Logged.{Logged}
-use Rattle.actor.specs.declared.message.Logged.TheVariants as id
 use Rattle.steps.specs.declared.fixed.FixedAsk.TheVariants as fixed
 use Rattle.points.specs.declared.at.At.{At}
 use Rattle.points.specs.declared.at.At.TheVariants as at
@@ -40,7 +36,6 @@ use Rattle.theorem.proofs.Living.{Less, less_lives, at_less, first_less}
 use Rattle.theorem.proofs.Turn.{StateSound}
 use Rattle.turn.specs.declared.state.Limits.{Limits}
 use Rattle.turn.specs.State.{State, wal_of}
-use Rattle.answers.specs.declared.refusals.Check.TheVariants as check
 use Rattle.answers.specs.Answers.{messages_in, with_messages, kept}
 use Rattle.answers.specs.Refusals.{no_entry_free, judged, admit_refusals}
 use Rattle.pool.specs.Admit as one
@@ -74,7 +69,7 @@ at_kept (at.Asks a) t r same ok = ask_kept a t r same ok
 at_kept (at.Runs p) t r same ok = ok
 
 -- what a message that is kept changes: its id stands once more, and the turn may stand where it stood
-pub record Arrives (s : State) (id : Logged) (m : Messages) : Type 0 where
+pub record Arrives (s : State) (id : Option LogId) (m : Messages) : Type 0 where
   pub comes : Comes s.links s.rows m.links m.rows s.pool.turn.counts.queued id
   pub ok : PointOk s.pool.turn.at m.links
   pub less : Less s.links m.links
@@ -104,7 +99,7 @@ module _ (s : State) (sound : StateSound s) (ok : PointOk s.pool.turn.at s.links
   unfolding keep_of keep_at
   kept_arrives room =
       subst (λ f. Arrives s a.id (keep_found (messages_in s) a to
-      (pick f found.Nothing (found.Entry (head_of t FREE))))) (sym room)
+      (pick f None (Some (head_of t FREE))))) (sym room)
       (record {
         comes = comes t s.rows s.pool.turn.counts.queued sound to
             (new_row (length a.name) (length a.body) a.caller a.id) not-mailbox
@@ -114,7 +109,7 @@ module _ (s : State) (sound : StateSound s) (ok : PointOk s.pool.turn.at s.links
       })
 
 -- a message that is not logged: every id stands as often as before
-pub unlogged_works : (long : ℕ) (j : disk.LogWorld) (s : State) (m : Messages) → Working long j s → Arrives s id.Never m
+pub unlogged_works : (long : ℕ) (j : disk.LogWorld) (s : State) (m : Messages) → Working long j s → Arrives s None m
     → Working long j (with_messages s m)
 unlogged_works long j s m works came = record {
   sound = came.comes.sound;
@@ -138,13 +133,13 @@ recorded j v name body o =
 
 recorded_sound : (long : ℕ) (j : disk.LogWorld) (v : log.Wal) (name body : List ℕ) (o : Order) → sound.Sound long j
     → j.disk.status ≡ disk.settled → j.wal ≡ v
-    → (log.append_of v name body).answer ≡ logged.Ordered o → sound.Sound long (recorded j v name body o)
+    → (log.append_of v name body).answer ≡ Ok o → sound.Sound long (recorded j v name body o)
 unfolding disk.called disk.did_call disk.call_effect
 recorded_sound long j v name body o good settled is ordered =
-    subst (λ u. (log.append_of u name body).answer ≡ logged.Ordered o → sound.Sound long (recorded j u name body o)) is
+    subst (λ u. (log.append_of u name body).answer ≡ Ok o → sound.Sound long (recorded j u name body o)) is
     here ordered
   where
-    here : (log.append_of j.wal name body).answer ≡ logged.Ordered o
+    here : (log.append_of j.wal name body).answer ≡ Ok o
         → sound.Sound long (recorded j j.wal name body o)
     here e =
         subst (λ a. sound.Sound long (disk.issued j (disk.append name body) (log.append_of j.wal name body).wal
@@ -201,32 +196,32 @@ module _ (long : ℕ) (limits : Limits) (w : World) (steady : Steady long limits
   abbrev j : disk.LogWorld
   j = w.journal
 
-  abbrev comer : Caller → Logged → Arrival
+  abbrev comer : Option CallerId → Option LogId → Arrival
   comer who l = record { name = name; body = body; caller = who; id = l }
 
   module _ (fine : Fine s name body) where
-    arrives : (who : Caller) (l : Logged) → Arrives s l (keep_of (messages_in s) (comer who l) INBOX)
+    arrives : (who : Option CallerId) (l : Option LogId) → Arrives s l (keep_of (messages_in s) (comer who l) INBOX)
     arrives who l =
         kept_arrives s steady.works.sound steady.works.ok (comer who l) INBOX not_mailbox_inbox (omega arith)
         fine.room
 
     -- a caller waits: no order goes out
     called_ends : (who : CallerId)
-        → Ends long limits w (admit name body (caller.From who)) (one.admit_called s name body who)
+        → Ends long limits w (admit name body (Some who)) (one.admit_called s name body who)
     unfolding one.admit_called
     called_ends who =
-        let c = admit name body (caller.From who) in
-        let a = comer (caller.From who) id.Never in
+        let c = admit name body (Some who) in
+        let a = comer (Some who) None in
         shown_rule (Ends long limits w c) (kept s a INBOX)
         (λ x ok. took ok refl (ap (λ d. orders_in (order_of d)) fine.free)
         (rest_steady long limits c w (kept s a INBOX) j refl fine.free
         (unlogged_works long j s (keep_of (messages_in s) a INBOX) steady.works
-        (arrives (caller.From who) id.Never)) steady.ledger steady.limits_are))
+        (arrives (Some who) None)) steady.ledger steady.limits_are))
 
     -- nobody waits: its order goes out
     module _ (out : Appends (wal_of s) (log.append_of (wal_of s) name body)) where
       abbrev c : Call
-      c = admit name body caller.Nobody
+      c = admit name body None
 
       abbrev v : log.Wal
       v = wal_of s
@@ -235,7 +230,7 @@ module _ (long : ℕ) (limits : Limits) (w : World) (steady : Steady long limits
       d = log.append_of v name body
 
       abbrev new : Arrival
-      new = comer caller.Nobody (id.As (one.next_id s))
+      new = comer None (Some (one.next_id s))
 
       abbrev after : State
       after = kept (one.recorded s d out.order) new INBOX
@@ -255,7 +250,7 @@ module _ (long : ℕ) (limits : Limits) (w : World) (steady : Steady long limits
           (of_record name body))
       unfolding disk.issue
       after_steady =
-          let came = arrives caller.Nobody (id.As (one.next_id s)) in
+          let came = arrives None (Some (one.next_id s)) in
           let old : j.wal ≡ v = steady.works.wal in
           record {
             works = record {
@@ -299,12 +294,12 @@ module _ (long : ℕ) (limits : Limits) (w : World) (steady : Steady long limits
           (subst (λ n. Steady long limits (ordered_for (with_next w n) after j out.order (of_record name body)))
           (sym top) after_steady)))
 
-  effect_ends : (who : Caller) → judged (admit_refusals s name body who) ≡ check.Fine
+  effect_ends : (who : Option CallerId) → judged (admit_refusals s name body who) ≡ Ok tt
       → Ends long limits w (admit name body who) (one.admit_effect s name body who)
-  effect_ends (caller.From who) is = called_ends (fine_check s name body (caller.From who) is) who
-  effect_ends caller.Nobody is = logged_ends (fine_check s name body caller.Nobody is) (fine_appends s name body is)
+  effect_ends (Some who) is = called_ends (fine_check s name body (Some who) is) who
+  effect_ends None is = logged_ends (fine_check s name body None is) (fine_appends s name body is)
 
-  pub admit_ends : (who : Caller) → Ends long limits w (admit name body who) (call_of s (admit name body who))
+  pub admit_ends : (who : Option CallerId) → Ends long limits w (admit name body who) (call_of s (admit name body who))
   unfolding call_of one.admit_of
   admit_ends who =
       table_rule (Ends long limits w (admit name body who)) s (judged (admit_refusals s name body who))

@@ -1,6 +1,7 @@
 -- How a call ends: refused, with the state as it was, or accepted, with the invariant and the log's bytes behind its
 -- size kept and an order that fits the call; what an order for a mark changes; and what a call may lean on where its
 -- table refuses nothing. Assumes nothing.
+use Rattle.std.specs.Prelude.{Result, Err, Ok}
 use mathlib.Core.Path.{◌≡◌, refl, sym, ap, ◌∙◌, subst}
 use mathlib.Core.Bool.{true, false, ◌&&◌}
 use mathlib.Core.List.{List, [], ◌∷◌, ◌++◌, append-nil}
@@ -28,8 +29,6 @@ use Rattle.turn.specs.Asks.{open_in}
 use Rattle.answers.specs.declared.answer.Refusal.{Refusal}
 use Rattle.answers.specs.declared.answer.Answer.{Answer}
 use Rattle.answers.specs.declared.answer.Answer.TheVariants as answer
-use Rattle.answers.specs.declared.refusals.Check.{Check}
-use Rattle.answers.specs.declared.refusals.Check.TheVariants as check
 use Rattle.answers.specs.Answers.{Did, refused, shown}
 use Rattle.answers.specs.Refusals.{judged, by_table, in_turn, is_message, fits_in, no_entry_free}
 use Rattle.answers.specs.Refusals.{turn_refusals, reply_refusals, sync_refusals}
@@ -298,24 +297,24 @@ answered_rule P s all = pick_rule P (in_turn s.pool.turn.at) (λ e. shown_rule P
 -- ---- a call by its table
 
 -- what holds of every refusal, and of the effect where no line holds, holds of the call
-pub table_rule : (P : Did → Type 0) (s : State) (k : Check) (effect : Did) → ((r : Refusal) → P (refused s r))
-    → (k ≡ check.Fine → P effect) → P (by_table s k effect)
-table_rule P s (check.Refuse r) effect off on = off r
-table_rule P s check.Fine effect off on = on refl
+pub table_rule : (P : Did → Type 0) (s : State) (k : Result Unit Refusal) (effect : Did) → ((r : Refusal) → P (refused s r))
+    → (k ≡ Ok tt → P effect) → P (by_table s k effect)
+table_rule P s (Err r) effect off on = off r
+table_rule P s (Ok tt) effect off on = on refl
 
-pub turn_fine : (p : Pool) → judged (turn_refusals p) ≡ check.Fine
+pub turn_fine : (p : Pool) → judged (turn_refusals p) ≡ Ok tt
     → (p.turn.disk ≡ order.Free) × (in_turn p.turn.at ≡ false)
 unfolding turn_refusals
 turn_fine p fine =
     let clear = fine_clear (turn_refusals p) fine in
     (is_free_lem p.turn.disk clear.0 clear.1.0, clear.1.1.0)
 
-pub sync_fine : (p : Pool) → judged (sync_refusals p) ≡ check.Fine → p.turn.disk ≡ order.Free
+pub sync_fine : (p : Pool) → judged (sync_refusals p) ≡ Ok tt → p.turn.disk ≡ order.Free
 unfolding sync_refusals
 sync_fine p fine =
     let clear = fine_clear (sync_refusals p) fine in is_free_lem p.turn.disk clear.0 clear.1.0
 
-pub reply_fine : (s : State) (r : Reply) (name body : List ℕ) → judged (reply_refusals s r name body) ≡ check.Fine
+pub reply_fine : (s : State) (r : Reply) (name body : List ℕ) → judged (reply_refusals s r name body) ≡ Ok tt
     → (fits_in (open_in s) r ≡ true) × ((is_message r && no_entry_free s.links) ≡ false)
 unfolding reply_refusals
 reply_fine s r name body fine =

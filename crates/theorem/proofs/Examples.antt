@@ -17,7 +17,7 @@ use Rattle.theorem.specs.Examples as shown
 pub examples_hold : all_true shown.examples ≡ true
 unfolding all_true same_bytes shown.examples shown.dealt shown.waiting shown.delivered shown.taken shown.pushed_back
     shown.sent_back shown.in_hand shown.front_of_none shown.then_end shown.unread shown.ids_over
-    links.mailbox_of links.hand_of links.capped links.link_at links.set_ends links.set_next links.start_from links.leave_of
+    links.mailbox_of links.hand_of links.link_at links.set_ends links.set_next links.start_from links.leave_of
     links.join_end links.join_front links.move_first links.move_first_to_front links.move_all
     family.chain family.view family.up_from messages.message_at actors.actor_at actors.actor_of actors.actor_onto
     questions.slot_of

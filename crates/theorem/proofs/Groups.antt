@@ -1,24 +1,17 @@
 -- A turn that works on a group works on one of the pool's: every point that runs, and every reply, keeps it so. Assumes
 -- nothing.
+use Rattle.std.specs.Prelude.{Option, Some, None, Bool, true, false}
 use mathlib.Core.Bool.{Bool}
 use Prim.Native.Nat.{ℕ, ◌-◌, ◌≤◌, ◌<◌}
 use native.Mathlib.Omega.{arith}
 use borrow.Author.Tests.{leb-false}
 use lib.Dec.{eqb, leb}
 use lib.ListN.{set}
-use Rattle.lists.specs.declared.keys.Key.{Key}
-use Rattle.lists.specs.declared.keys.Key.TheVariants as key
 use Rattle.lists.specs.Links.{Table, len_of, mailbox_of, KEYS, GROUPS}
 use Rattle.lists.specs.KeyLists.{blank_row, keys_at, front_of, pop_front}
 use Rattle.lists.specs.Slabs.{next_key}
 use Rattle.actor.specs.declared.question.Reply.{Reply}
 use Rattle.actor.specs.declared.question.Reply.TheVariants as reply
-use Rattle.actor.specs.declared.question.YesIn.{YesIn}
-use Rattle.actor.specs.declared.question.YesIn.TheVariants as yes
-use Rattle.actor.specs.declared.question.CountIn.{CountIn}
-use Rattle.actor.specs.declared.question.CountIn.TheVariants as count
-use Rattle.actor.specs.declared.question.ClockIn.{ClockIn}
-use Rattle.actor.specs.declared.question.ClockIn.TheVariants as clock
 use Rattle.actor.specs.declared.state.Mode.{Mode}
 use Rattle.actor.specs.declared.state.Mode.TheVariants as mode
 use Rattle.actor.specs.Questions.{yes_in, count_in, clock_in}
@@ -108,11 +101,11 @@ module _ (n : ℕ) where
       (λ e. pick_rule SeededIn (eqb (group_at groups g).ceiling 0) (λ e. omega arith)
       (λ e. pick_rule SeededIn (group_at groups g).eval (λ e. omega arith) (λ e. omega arith))))
 
-  seed_by_in : (keys actors : Table) (g : ℕ) (y : YesIn) → SeededIn (seed_by keys actors g y)
+  seed_by_in : (keys actors : Table) (g : ℕ) (y : Option Bool) → SeededIn (seed_by keys actors g y)
   unfolding seed_booted
-  seed_by_in keys actors g yes.Yes = omega arith
-  seed_by_in keys actors g yes.No = omega arith
-  seed_by_in keys actors g yes.Other = omega arith
+  seed_by_in keys actors g (Some true) = omega arith
+  seed_by_in keys actors g (Some false) = omega arith
+  seed_by_in keys actors g None = omega arith
 
   seed_reply_in : (keys actors : Table) (g : ℕ) (r : Reply) → SeededIn (seed_reply keys actors g r)
   unfolding seed_reply
@@ -155,19 +148,19 @@ module _ (n : ℕ) where
         (λ e. pick_rule WakedIn (polls_of (actor_at actors (slot_at g k))) (λ e. here) (λ e. here)))
         (λ e. here)
 
-    first_in_lem : (keys actors : Table) (left : ℕ) (k : Key) → WakedIn (wake_first (keyed keys actors) g now left k)
-    first_in_lem keys actors left (key.At k) = one_in (set keys REST (pop_front (keys_at keys REST))) actors k (left - 1)
-    first_in_lem keys actors left key.Nothing = here
+    first_in_lem : (keys actors : Table) (left : ℕ) (k : Option ℕ) → WakedIn (wake_first (keyed keys actors) g now left k)
+    first_in_lem keys actors left (Some k) = one_in (set keys REST (pop_front (keys_at keys REST))) actors k (left - 1)
+    first_in_lem keys actors left None = here
 
     wake_next_in : (keys actors : Table) (left : ℕ) → WakedIn (wake_next (keyed keys actors) g now left)
     unfolding wake_next
     wake_next_in keys actors left =
         pick_rule WakedIn (eqb left 0) (λ e. here) (λ e. first_in_lem keys actors left (front_of (keys_at keys REST)))
 
-    poll_in : (keys actors : Table) (k left : ℕ) (m : CountIn)
+    poll_in : (keys actors : Table) (k left : ℕ) (m : Option ℕ)
         → WakedIn (poll_by (keyed keys actors) (who_of g k) now left m)
-    poll_in keys actors k left (count.Of m) = here
-    poll_in keys actors k left count.Other = here
+    poll_in keys actors k left (Some m) = here
+    poll_in keys actors k left None = here
 
     poll_reply_in : (keys actors : Table) (k left : ℕ) (r : Reply)
         → WakedIn (poll_reply (keyed keys actors) (who_of g k) now left r)
@@ -228,37 +221,37 @@ module _ (n : ℕ) where
 
     -- ---- Trap and Trapped, and those that were trapped
 
-    asked_in_lem : (k : Key) → AtIn n (trapped_at c k)
-    asked_in_lem (key.At k) = here
-    asked_in_lem key.Nothing = here
+    asked_in_lem : (k : Option ℕ) → AtIn n (trapped_at c k)
+    asked_in_lem (Some k) = here
+    asked_in_lem None = here
 
     next_in : (keys : Table) (from : ℕ) → AtIn n (trapped_next keys c from)
     unfolding trapped_next
     next_in keys from = asked_in_lem (next_key (keys_at keys (slab_row c.group)) (KEYS - from) from)
 
-    trap_in : (keys : Table) (y : YesIn) → AtIn n (trap_by keys c y).at
-    trap_in keys yes.Yes = next_in (set keys TRAPPED blank_row) 0
-    trap_in keys yes.No = here
-    trap_in keys yes.Other = here
+    trap_in : (keys : Table) (y : Option Bool) → AtIn n (trap_by keys c y).at
+    trap_in keys (Some true) = next_in (set keys TRAPPED blank_row) 0
+    trap_in keys (Some false) = here
+    trap_in keys None = here
 
     trap_reply_in : (keys : Table) (r : Reply) → AtIn n (trap_reply keys c r).at
     unfolding trap_reply
     trap_reply_in keys r = trap_in keys (yes_in r)
 
-    trapped_in : (keys : Table) (k : ℕ) (y : YesIn) → AtIn n (trapped_by keys c k y).at
-    trapped_in keys k yes.Yes = next_in (push_key keys TRAPPED k) (next_asked k)
-    trapped_in keys k yes.No = next_in keys (next_asked k)
-    trapped_in keys k yes.Other = here
+    trapped_in : (keys : Table) (k : ℕ) (y : Option Bool) → AtIn n (trapped_by keys c k y).at
+    trapped_in keys k (Some true) = next_in (push_key keys TRAPPED k) (next_asked k)
+    trapped_in keys k (Some false) = next_in keys (next_asked k)
+    trapped_in keys k None = here
 
     trapped_reply_in : (keys : Table) (k : ℕ) (r : Reply) → AtIn n (trapped_reply keys c k r).at
     unfolding trapped_reply
     trapped_reply_in keys k r = trapped_in keys k (yes_in r)
 
-    retired_in : (groups t rows keys : Table) (left q : ℕ) (l : Losses) (k : Key)
+    retired_in : (groups t rows keys : Table) (left q : ℕ) (l : Losses) (k : Option ℕ)
         → AtIn n (crash_trapped_front groups (retiring t rows keys q l) c left k).crashed.at
     unfolding crash_trapped_key
-    retired_in groups t rows keys left q l (key.At k) = here
-    retired_in groups t rows keys left q l key.Nothing = here
+    retired_in groups t rows keys left q l (Some k) = here
+    retired_in groups t rows keys left q l None = here
 
     crash_trapped_in : (groups t rows keys : Table) (left q : ℕ) (l : Losses)
         → AtIn n (crash_trapped groups (retiring t rows keys q l) c left).crashed.at
@@ -270,11 +263,11 @@ module _ (n : ℕ) where
   -- ---- the ready list
 
   module _ (g now : ℕ) (here : g < n) where
-    front_in : (t keys actors : Table) (q : ℕ) (stepped : Bool) (pops : ℕ) (k : Key)
+    front_in : (t keys actors : Table) (q : ℕ) (stepped : Bool) (pops : ℕ) (k : Option ℕ)
         → AtIn n (ready_front (readying t keys actors q stepped) g now pops k).begun.at
-    front_in t keys actors q stepped pops (key.At k) =
+    front_in t keys actors q stepped pops (Some k) =
         key_in (cursor_at g k now (pops - 1)) here t (pop_ready keys g) actors q stepped
-    front_in t keys actors q stepped pops key.Nothing = omega arith
+    front_in t keys actors q stepped pops None = omega arith
 
     ready_in : (t keys actors : Table) (q : ℕ) (stepped : Bool) (pops : ℕ)
         → AtIn n (ready_of (readying t keys actors q stepped) g now pops).begun.at
@@ -283,9 +276,9 @@ module _ (n : ℕ) where
         pick_rule (λ (s : Readied). AtIn n s.begun.at) (eqb pops 0) (λ e. omega arith)
         (λ e. front_in t keys actors q stepped pops (front_of (keys_at keys (ready_row g))))
 
-  clock_in_lem : (x : ClockIn) → AtIn n (clock_by x)
-  clock_in_lem (clock.Of ns) = omega arith
-  clock_in_lem clock.Other = omega arith
+  clock_in_lem : (x : Option ℕ) → AtIn n (clock_by x)
+  clock_in_lem (Some ns) = omega arith
+  clock_in_lem None = omega arith
 
 -- ---- every point, and every reply
 

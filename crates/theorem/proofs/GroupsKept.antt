@@ -1,23 +1,20 @@
 -- The pool's groups through every list of calls: a turn works on one of them, and each tries a message again at most
 -- 255 times. Assumes nothing.
+use Rattle.std.specs.Prelude.{Option, Some, None}
+use Rattle.message_log.specs.declared.Order.{Order}
 use mathlib.Core.Path.{◌≡◌, refl, sym, ap, ◌∙◌, subst}
 use mathlib.Core.Bool.{Bool, true, false, false≢true, ◌&&◌}
 use mathlib.Core.List.{List, [], ◌∷◌}
 use Prim.Native.Nat.{ℕ, zero, suc, ◌+◌, ◌≤◌, ◌<◌}
 use native.Mathlib.Omega.{arith}
-use borrow.Author.Tests.{ltb-true, ltb-false, leb-false}
-use lib.Dec.{eqb, leb, ltb}
+use borrow.Author.Tests.{ltb-true, ltb-false}
+use lib.Dec.{eqb, ltb}
 use lib.ListN.{length, get_or, set, drop}
 use Rattle.text.specs.Format.{ATTEMPTS}
-use Rattle.lists.specs.declared.Found.TheVariants as found
-use Rattle.lists.specs.declared.keys.Key.{Key}
-use Rattle.lists.specs.declared.keys.Key.TheVariants as key
 use Rattle.lists.specs.Links.{pick, Table, GROUPS, KEYS, HAND, capped, first_of, hand_of}
 use Rattle.lists.specs.KeyLists.{keys_at, front_of}
 use Rattle.message_log.specs.Opening.{NAME}
-use Rattle.message_log.specs.declared.AnsweredDue.{AnsweredDue}
-use Rattle.message_log.specs.declared.Due.{Due}
-use Rattle.message_log.specs.declared.Due.TheVariants as due
+use Rattle.message_log.specs.Log.{AnsweredDue}
 use Rattle.message_log.specs.Log as log
 use Rattle.message_log.proofs.OpeningLaws.{and_left, and_right}
 use Rattle.actor.specs.declared.question.Reply.{Reply}
@@ -39,8 +36,8 @@ use Rattle.turn.specs.Step.{mark_at, turn_step, advanced}
 use Rattle.answers.specs.Answers.{Did, shown}
 use Rattle.answers.specs.Refusals.{Lent, judged, in_turn, is_message, admit_refusals, turn_refusals, reply_refusals}
 use Rattle.answers.specs.Refusals.{sync_refusals, close_refusals, file_in}
-use Rattle.pool.specs.declared.calls.StoredIn.{StoredIn}
-use Rattle.pool.specs.declared.calls.StoredIn.TheVariants as stored
+use Rattle.pool.specs.Stored.{StoredIn}
+use Rattle.pool.specs.Stored as stored
 use Rattle.pool.specs.Run.{run_of}
 use Rattle.pool.specs.Admit as admits
 use Rattle.pool.specs.Calls as one
@@ -101,7 +98,7 @@ run_in s h =
 
 module _ (s : State) (h : InGroups s) (e : ℕ) where
   first_few : (g from : ℕ) → g < s.pool.limits.groups
-      → again_first s.groups s.links s.rows g from ≡ found.Entry e → (message_at s.rows e).attempts < ATTEMPTS
+      → again_first s.groups s.links s.rows g from ≡ Some e → (message_at s.rows e).attempts < ATTEMPTS
   unfolding again_first
   first_few g from here is =
       omega (
@@ -111,7 +108,7 @@ module _ (s : State) (h : InGroups s) (e : ℕ) where
             (found_again s.groups s.rows g e (first_of s.links from) is).1,
       )
 
-  pub again_few : (p : Point) → s.pool.turn.at ≡ at.Runs p → again_at s p ≡ found.Entry e
+  pub again_few : (p : Point) → s.pool.turn.at ≡ at.Runs p → again_at s p ≡ Some e
       → (message_at s.rows e).attempts < ATTEMPTS
   unfolding again_at
   again_few (point.Seed g) at-is is = let z : ◌≡◌ {A = ℕ} 0 1 = cc in absurd (omega arith)
@@ -127,11 +124,11 @@ module _ (s : State) (h : InGroups s) (e : ℕ) where
   again_few (point.AskTrap c) at-is is = let z : ◌≡◌ {A = ℕ} 0 1 = cc in absurd (omega arith)
   again_few (point.CrashTrapped c left) at-is is = at (eqb left 0) refl
     where
-      by : (k : Key) → again_trapped s c k ≡ found.Entry e → (message_at s.rows e).attempts < ATTEMPTS
-      by (key.At k) is =
+      by : (k : Option ℕ) → again_trapped s c k ≡ Some e → (message_at s.rows e).attempts < ATTEMPTS
+      by (Some k) is =
           first_few c.group (hand_of (slot_at c.group k)) (subst (AtIn s.pool.limits.groups) at-is h.here)
           is
-      by key.Nothing is = let z : ◌≡◌ {A = ℕ} 0 1 = cc in absurd (omega arith)
+      by None is = let z : ◌≡◌ {A = ℕ} 0 1 = cc in absurd (omega arith)
 
       at : (b : Bool) → eqb left 0 ≡ b → (message_at s.rows e).attempts < ATTEMPTS
       at true b = let z : ◌≡◌ {A = ℕ} 0 1 = cc in absurd (omega arith)
@@ -139,10 +136,7 @@ module _ (s : State) (h : InGroups s) (e : ℕ) where
 
 -- so it has at most 255 then
 pub one_more : (n : ℕ) → n < ATTEMPTS → capped (n + 1) ≤ ATTEMPTS
-unfolding capped
-one_more n few =
-    pick_rule (λ k. k ≤ ATTEMPTS) (leb (n + 1) 18446744073709551615) (λ e. omega arith)
-    (λ e. omega (arith, leb-false (n + 1) 18446744073709551615 e))
+one_more n few = omega arith
 
 -- ---- the calls
 
@@ -177,9 +171,9 @@ module _ (s : State) (h : InGroups s) where
   reply_in_lem r name body stored.Other =
       pick_rule DidIn (is_message r) (λ e. h) (λ e. run_in (one.resume_at s r) (resumed_in r))
 
-  by_due_in : (d : AnsweredDue) (x : Due) → InGroups (with_pool s (one.synced_in s.pool d x))
-  by_due_in d (due.Ordered o) = h
-  by_due_in d due.Nothing = h
+  by_due_in : (d : AnsweredDue) (x : Option Order) → InGroups (with_pool s (one.synced_in s.pool d x))
+  by_due_in d (Some o) = h
+  by_due_in d None = h
 
   synced_in_lem : InGroups (with_pool s (one.sync_effect s.pool))
   unfolding one.sync_effect one.synced_by

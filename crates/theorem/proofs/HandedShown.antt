@@ -1,5 +1,6 @@
 -- What the pool shows of a message is the message: the part of the body store that its row names is its name and body.
 -- Assumes nothing.
+use Rattle.std.specs.Prelude.{Some}
 use mathlib.Core.Path.{◌≡◌, refl, sym, ap, subst}
 use mathlib.Core.Bool.{true}
 use mathlib.Core.List.{List, [], ◌∷◌, map}
@@ -10,7 +11,6 @@ use Rattle.text.specs.Format.{Message}
 use Rattle.message_log.specs.Opened.{stored}
 use Rattle.message_log.specs.Opening.{all_fit}
 use Rattle.message_log.proofs.StoreLaws.{fit_first}
-use Rattle.lists.specs.declared.Found.TheVariants.{Entry}
 use Rattle.lists.specs.Links.{Table}
 use Rattle.lists.specs.Family.{up_from, view}
 use Rattle.actor.specs.Messages.{message_at}
@@ -23,7 +23,7 @@ use Rattle.theorem.proofs.Handing.{put_all, hands}
 
 -- an entry whose row is within the limits shows the message that is handed back from it
 pub message_shown : (store : List ℕ) (rows : Table) (e : ℕ) → Limits (message_at rows e) e
-    → Shows store rows (Entry e) (message_in store rows e).name (message_in store rows e).body
+    → Shows store rows (Some e) (message_in store rows e).name (message_in store rows e).body
 message_shown store rows e h =
     let p = sym (part_is rows e (message_at rows e) refl h) in
     record { name_is = ap (λ q. bytes_in store q.name) p; body_is = ap (λ q. bytes_in store q.body) p }

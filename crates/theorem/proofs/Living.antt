@@ -1,5 +1,7 @@
 -- What keeps the invariant of who holds messages: lists that get shorter, keys and actors that change elsewhere, a
 -- spawn, a key that is freed. Assumes nothing.
+use Rattle.std.specs.Prelude.{Option, Some, None}
+use Rattle.message_log.specs.declared.LogId.{LogId}
 use mathlib.Core.Path.{◌≡◌, refl, sym, ap, ◌∙◌, subst}
 use mathlib.Core.Bool.{Bool, true, false, ◌&&◌}
 use mathlib.Core.Logic.{◌≢◌}
@@ -11,10 +13,6 @@ use borrow.Author.Tests.{lt-ltb, le-ltb, ltb-true, leb-false}
 use lib.Dec.{ltb, leb}
 use lib.ListN.{length, set, take, drop, length-set, length-append, length-drop, take-append-drop}
 use lib.Seq.{get_or-set_same, get_or-set_other, set_out}
-use Rattle.lists.specs.declared.Found.{Found}
-use Rattle.lists.specs.declared.Found.TheVariants as found
-use Rattle.lists.specs.declared.keys.Key.{Key}
-use Rattle.lists.specs.declared.keys.Key.TheVariants as key
 use Rattle.lists.specs.Links.{pick, LISTS, Table, len_of, first_of, move_first, move_all, mailbox_of, hand_of}
 use Rattle.lists.specs.Family.{view, Good, Pair, Moved, MovedAll}
 use Rattle.lists.specs.KeyLists.{blank_row, keys_at}
@@ -23,8 +21,6 @@ use Rattle.lists.specs.Slabs.{contains_of, vacant_of, insert_of, remove_of}
 use Rattle.lists.proofs.Family.{length_view}
 use Rattle.lists.proofs.Moves.{move_first_lem, move_all_lem, move_first_good}
 use Rattle.lists.proofs.Slabs.{Inserted, inserted_live, Removed, removed_dead, live_given}
-use Rattle.actor.specs.declared.message.Logged.{Logged}
-use Rattle.actor.specs.declared.message.Logged.TheVariants as logged
 use Rattle.actor.specs.declared.state.Actor.{Actor}
 use Rattle.actor.specs.declared.state.Mode.TheVariants as mode
 use Rattle.actor.specs.Questions.{slot_of}
@@ -192,14 +188,14 @@ all_less t good from to low = all_rule t good from to (λ (r : Table). Less t r)
       ap length (m.others j p (λ z. omega arith)),
     )
 
-over_place : (rows : Table) (f : Found) → place_over rows f < 5
+over_place : (rows : Table) (f : Option ℕ) → place_over rows f < 5
 unfolding place_over
-over_place rows (found.Entry e) = go (message_at rows e).id
+over_place rows (Some e) = go (message_at rows e).id
   where
-    go : (l : Logged) → place_logged l < 5
-    go (logged.As id) = omega arith
-    go logged.Never = omega arith
-over_place rows found.Nothing = omega arith
+    go : (l : Option LogId) → place_logged l < 5
+    go (Some id) = omega arith
+    go None = omega arith
+over_place rows None = omega arith
 
 pub over_less : (t rows : Table) → Good t → (from : ℕ) → Less t (over_first t rows from)
 unfolding over_first
@@ -512,7 +508,7 @@ changes_lives {t = t} {r = r} {keys = keys} {actors = actors} {actors' = actors'
 
 pub record SpawnLives (t : Table) (g : ℕ) (s : Spawned) : Type 0 where
   pub lives : Lives t s.keys s.actors
-  pub live : (k : ℕ) → s.key ≡ key.At k → slot_at g k < 128 → live_of s.keys g k ≡ true
+  pub live : (k : ℕ) → s.key ≡ Some k → slot_at g k < 128 → live_of s.keys g k ≡ true
 
 -- the row of a group's slab changes for one key
 module _ (t keys actors : Table) (l : Lives t keys actors) (g : ℕ) (g-is : g < 8) (k : ℕ) where
@@ -629,8 +625,8 @@ module _ (t keys actors : Table) (l : Lives t keys actors) (g : ℕ) (eval-is : 
   abbrev fresh : Actor
   fresh = new_actor (mode_for eval-is)
 
-  spawn_in : g < 8 → (k : ℕ) → vacant_of (keys_at keys (slab_row g)) ≡ key.At k
-      → SpawnLives t g (spawn_by keys actors g eval-is (key.At k))
+  spawn_in : g < 8 → (k : ℕ) → vacant_of (keys_at keys (slab_row g)) ≡ Some k
+      → SpawnLives t g (spawn_by keys actors g eval-is (Some k))
   unfolding spawn_key
   spawn_in g-is k gives = record {
     lives = same_lives after (rw (slab_row_lem g g-is, low_slot g k g-is new.low) (inserted_lives t keys actors l g g-is
@@ -650,7 +646,7 @@ module _ (t keys actors : Table) (l : Lives t keys actors) (g : ℕ) (eval-is : 
       after : Same keys₁ actors₁ (schedule_of keys₁ actors₁ g k).keys (schedule_of keys₁ actors₁ g k).actors
       after = schedule_same keys₁ actors₁ g k
 
-      told : (a b : ℕ) → ◌≡◌ {A = Key} (key.At a) (key.At b) → a ≡ b
+      told : (a b : ℕ) → ◌≡◌ {A = (Option ℕ)} (Some a) (Some b) → a ≡ b
       told a b e = cc
 
       here : live_of keys₁ g k ≡ true
@@ -660,7 +656,7 @@ module _ (t keys actors : Table) (l : Lives t keys actors) (g : ℕ) (eval-is : 
             (insert_of (keys_at keys (4 * g))),
       ) new.live)
 
-  spawn_out : (g < 8 → ⊥) → (k : ℕ) → SpawnLives t g (spawn_by keys actors g eval-is (key.At k))
+  spawn_out : (g < 8 → ⊥) → (k : ℕ) → SpawnLives t g (spawn_by keys actors g eval-is (Some k))
   unfolding spawn_key put_actor
   spawn_out out k = record {
     lives = same_lives (same_then (same_then rows puts) (schedule_same keys₁ actors₁ g k)) l;
@@ -685,15 +681,15 @@ module _ (t keys actors : Table) (l : Lives t keys actors) (g : ℕ) (eval-is : 
   unfolding spawn_of
   spawn_lives = go (vacant_of (keys_at keys (slab_row g))) refl
     where
-      go : (k : Key) → vacant_of (keys_at keys (slab_row g)) ≡ k → SpawnLives t g (spawn_by keys actors g eval-is k)
-      go (key.At k) is = by (dec_lt g 8)
+      go : (k : Option ℕ) → vacant_of (keys_at keys (slab_row g)) ≡ k → SpawnLives t g (spawn_by keys actors g eval-is k)
+      go (Some k) is = by (dec_lt g 8)
         where
-          by : Dec (g < 8) → SpawnLives t g (spawn_by keys actors g eval-is (key.At k))
+          by : Dec (g < 8) → SpawnLives t g (spawn_by keys actors g eval-is (Some k))
           by (yes p) = spawn_in p k is
           by (no p) = spawn_out p k
-      go key.Nothing is = record { lives = l; live = λ j e low. none j e }
+      go None is = record { lives = l; live = λ j e low. none j e }
         where
-          none : (j : ℕ) → ◌≡◌ {A = Key} key.Nothing (key.At j) → live_of keys g j ≡ true
+          none : (j : ℕ) → ◌≡◌ {A = (Option ℕ)} None (Some j) → live_of keys g j ≡ true
           none j e = let z : ◌≡◌ {A = ℕ} 0 1 = cc in absurd (omega arith)
 
 -- a key is freed whose slot, where there is one, is empty

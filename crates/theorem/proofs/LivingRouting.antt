@@ -1,4 +1,5 @@
 -- Seeding, taking in and routing keep the invariant of who holds messages. Assumes nothing.
+use Rattle.std.specs.Prelude.{Option, Some, None, Bool, true, false}
 use mathlib.Core.Path.{◌≡◌, refl, ◌∙◌}
 use mathlib.Core.Bool.{Bool, true, false}
 use mathlib.Core.List.{List}
@@ -7,22 +8,14 @@ use native.Mathlib.Omega.{arith}
 use native.Mathlib.Decide.{dec_lt}
 use borrow.Author.Tests.{lt-ltb}
 use lib.Dec.{eqb, ltb, leb}
-use Rattle.lists.specs.declared.Found.{Found}
-use Rattle.lists.specs.declared.Found.TheVariants as found
-use Rattle.lists.specs.declared.keys.Key.{Key}
-use Rattle.lists.specs.declared.keys.Key.TheVariants as key
 use Rattle.lists.specs.Links.{pick, LISTS, Table, len_of, capped, first_of, move_first, mailbox_of, INBOX, PENDING, BATCH}
 use Rattle.lists.specs.Family.{Good, Pair}
 use Rattle.lists.specs.KeyLists.{keys_at, last_of, pop_end, count_of}
 use Rattle.lists.specs.Slabs.{contains_of}
 use Rattle.actor.specs.declared.question.Reply.{Reply}
-use Rattle.actor.specs.declared.question.YesIn.{YesIn}
-use Rattle.actor.specs.declared.question.YesIn.TheVariants as yes
 use Rattle.actor.specs.Questions.{yes_in}
 use Rattle.actor.specs.Messages.{message_at}
 use Rattle.actor.specs.Actors.{actor_at, delivered_to}
-use Rattle.group.specs.declared.settings.Named.{Named}
-use Rattle.group.specs.declared.settings.Named.TheVariants as named
 use Rattle.group.specs.Settings.{group_at, by_name}
 use Rattle.group.specs.Roster.{slab_row, idle_row, slot_at, live_of, live_len, spawn_of, pop_idle_of, Popped, pop_idle_row}
 use Rattle.group.specs.Roster.{idle_key}
@@ -59,10 +52,10 @@ module _ (t keys actors : Table) (l : Lives t keys actors) where
   booted_lives g true = (spawn_lives t keys actors l g false).lives
   booted_lives g false = l
 
-  by_seed : (g : ℕ) (y : YesIn) → Seeds (seed_by keys actors g y)
-  by_seed g yes.Yes = booted_lives g true
-  by_seed g yes.No = booted_lives g false
-  by_seed g yes.Other = l
+  by_seed : (g : ℕ) (y : Option Bool) → Seeds (seed_by keys actors g y)
+  by_seed g (Some true) = booted_lives g true
+  by_seed g (Some false) = booted_lives g false
+  by_seed g None = l
 
   pub seed_reply_lives : (g : ℕ) (r : Reply) → Seeds (seed_reply keys actors g r)
   unfolding seed_reply
@@ -87,17 +80,17 @@ intake_less t good q backlog left =
 
 -- ---- keys that are there
 
-abbrev In : List ℕ → Key → Type 0
-In s (key.At k) = contains_of s k ≡ true
-In s key.Nothing = 0 ≤ 0
+abbrev In : List ℕ → Option ℕ → Type 0
+In s (Some k) = contains_of s k ≡ true
+In s None = 0 ≤ 0
 
-better_in : (s : List ℕ) (t : Table) (g : ℕ) (best : Key) (k : ℕ) → In s best → contains_of s k ≡ true
+better_in : (s : List ℕ) (t : Table) (g : ℕ) (best : Option ℕ) (k : ℕ) → In s best → contains_of s k ≡ true
     → In s (better_of t g best k)
 unfolding better_of
-better_in s t g (key.At b) k was is = pick_rule (In s) (ltb (load_of t g k) (load_of t g b)) (λ e. is) (λ e. was)
-better_in s t g key.Nothing k was is = is
+better_in s t g (Some b) k was is = pick_rule (In s) (ltb (load_of t g k) (load_of t g b)) (λ e. is) (λ e. was)
+better_in s t g None k was is = is
 
-least_in : (s : List ℕ) (t : Table) (g n k : ℕ) (best : Key) → In s best → In s (least_from s (better_of t g) n k best)
+least_in : (s : List ℕ) (t : Table) (g n k : ℕ) (best : Option ℕ) → In s best → In s (least_from s (better_of t g) n k best)
 unfolding least_from
 least_in s t g zero k best was = was
 least_in s t g (suc n) k best was =
@@ -110,18 +103,18 @@ unfolding live_of
 live_in keys g k is low = rw (lt-ltb (slot_at g k) 128 low) is
 
 -- a key whose actor lives, if it has a slot
-abbrev Goes : Table → ℕ → Key → Type 0
-Goes keys g (key.At k) = slot_at g k < 128 → live_of keys g k ≡ true
-Goes keys g key.Nothing = 0 ≤ 0
+abbrev Goes : Table → ℕ → Option ℕ → Type 0
+Goes keys g (Some k) = slot_at g k < 128 → live_of keys g k ≡ true
+Goes keys g None = 0 ≤ 0
 
-in_goes : (keys : Table) (g : ℕ) (k : Key) → In (keys_at keys (slab_row g)) k → Goes keys g k
-in_goes keys g (key.At k) is = live_in keys g k is
-in_goes keys g key.Nothing is = is
+in_goes : (keys : Table) (g : ℕ) (k : Option ℕ) → In (keys_at keys (slab_row g)) k → Goes keys g k
+in_goes keys g (Some k) is = live_in keys g k is
+in_goes keys g None is = is
 
 least_goes : (keys t : Table) (g : ℕ) → Goes keys g (least_of keys t g)
 unfolding least_of
-least_goes keys t g = in_goes keys g (least_from (keys_at keys (slab_row g)) (better_of t g) 16 0 key.Nothing)
-    (least_in (keys_at keys (slab_row g)) t g 16 0 key.Nothing (omega arith))
+least_goes keys t g = in_goes keys g (least_from (keys_at keys (slab_row g)) (better_of t g) 16 0 None)
+    (least_in (keys_at keys (slab_row g)) t g 16 0 None (omega arith))
 
 idle_live : (keys actors : Table) (g k : ℕ) → idle_key keys actors g k ≡ true → live_of keys g k ≡ true
 unfolding idle_key
@@ -136,17 +129,17 @@ unfolding pop_idle_row
 pop_goes keys actors g zero row = omega arith
 pop_goes keys actors g (suc n) row = go (last_of row) refl (pop_goes keys actors g n (pop_end row))
   where
-    go : (k : Key) → last_of row ≡ k → Goes keys g (pop_idle_row keys actors g n (pop_end row)).key
+    go : (k : Option ℕ) → last_of row ≡ k → Goes keys g (pop_idle_row keys actors g n (pop_end row)).key
         → Goes keys g (pop_idle_row keys actors g (suc n) row).key
-    go (key.At k) e later =
+    go (Some k) e later =
         rw (e, pop_idle_row) (pick_rule (λ (p : Popped). Goes keys g p.key) (idle_key keys actors g k)
         (λ f. λ low. idle_live keys actors g k f) (λ f. later))
-    go key.Nothing e later = rw (e, pop_idle_row) later
+    go None e later = rw (e, pop_idle_row) later
 
-goes_same : {keys actors keys' actors' : Table} → Same keys actors keys' actors' → (g : ℕ) (k : Key) → Goes keys g k
+goes_same : {keys actors keys' actors' : Table} → Same keys actors keys' actors' → (g : ℕ) (k : Option ℕ) → Goes keys g k
     → Goes keys' g k
-goes_same s g (key.At k) goes = λ low. same_live s g k (goes low)
-goes_same s g key.Nothing goes = goes
+goes_same s g (Some k) goes = λ low. same_live s g k (goes low)
+goes_same s g None goes = goes
 
 idle_same : (keys actors : Table) (g : ℕ) → Same keys actors (pop_idle_of keys actors g).keys actors
 unfolding pop_idle_of
@@ -164,9 +157,9 @@ spawn_goes : (t keys actors : Table) (l : Lives t keys actors) (g : ℕ) (e : Bo
     → Goes (spawn_of keys actors g e).keys g (spawn_of keys actors g e).key
 spawn_goes t keys actors l g e = go (spawn_of keys actors g e).key refl
   where
-    go : (k : Key) → (spawn_of keys actors g e).key ≡ k → Goes (spawn_of keys actors g e).keys g k
-    go (key.At k) is = λ low. (spawn_lives t keys actors l g e).live k is low
-    go key.Nothing is = omega arith
+    go : (k : Option ℕ) → (spawn_of keys actors g e).key ≡ k → Goes (spawn_of keys actors g e).keys g k
+    go (Some k) is = λ low. (spawn_lives t keys actors l g e).live k is low
+    go None is = omega arith
 
 -- ---- delivery
 
@@ -215,7 +208,7 @@ module _ (t : Table) (good : Good t) (h : step_hand t ≤ 0) where
         (first_rule t good BATCH LISTS (λ (r : Table). Rests r keys actors) (record { lives = l; free = h })
         (λ pair. absurd (omega (arith, pair.to_is))))
 
-    mailed : Goes keys g (key.At k) → Rests (move_first t BATCH (mailbox_of (slot_at g k))) keys actors
+    mailed : Goes keys g (Some k) → Rests (move_first t BATCH (mailbox_of (slot_at g k))) keys actors
     mailed goes = go (dec_lt (slot_at g k) 128)
       where
         go : Dec (slot_at g k < 128) → Rests (move_first t BATCH (mailbox_of (slot_at g k))) keys actors
@@ -230,7 +223,7 @@ module _ (t : Table) (good : Good t) (h : step_hand t ≤ 0) where
   SentRests s = Rests s.links s.keys s.actors
 
   module _ (rows : Table) (q left : ℕ) where
-    sent : (keys actors : Table) → Lives t keys actors → (g k : ℕ) → Goes keys g (key.At k)
+    sent : (keys actors : Table) → Lives t keys actors → (g k : ℕ) → Goes keys g (Some k)
         → SentRests (to.deliver (turn_tables t keys actors q) g k left)
     unfolding to.deliver to.deliver_to to.wake_at
     sent keys actors l g k goes =
@@ -245,21 +238,21 @@ module _ (t : Table) (good : Good t) (h : step_hand t ≤ 0) where
       free = omega (arith, less_at t _ (over_less t rows good BATCH) 5 (omega arith));
     }
 
-    by_key : (keys actors : Table) → Lives t keys actors → (g : ℕ) (k : Key) → Goes keys g k
+    by_key : (keys actors : Table) → Lives t keys actors → (g : ℕ) (k : Option ℕ) → Goes keys g k
         → SentRests (to.deliver_key rows (turn_tables t keys actors q) g k left)
     unfolding to.deliver_key
-    by_key keys actors l g (key.At k) goes = sent keys actors l g k goes
-    by_key keys actors l g key.Nothing goes = lost keys actors l
+    by_key keys actors l g (Some k) goes = sent keys actors l g k goes
+    by_key keys actors l g None goes = lost keys actors l
 
     by_least : (keys actors : Table) → Lives t keys actors → (g : ℕ)
         → SentRests (to.route_least rows (turn_tables t keys actors q) g left)
     unfolding to.route_least
     by_least keys actors l g = by_key keys actors l g (least_of keys t g) (least_goes keys t g)
 
-    by_spawned : (keys actors : Table) → Lives t keys actors → (g : ℕ) (k : Key) → Goes keys g k
+    by_spawned : (keys actors : Table) → Lives t keys actors → (g : ℕ) (k : Option ℕ) → Goes keys g k
         → SentRests (to.spawned_sent rows (turn_tables t keys actors q) g left k)
-    by_spawned keys actors l g (key.At k) goes = sent keys actors l g k goes
-    by_spawned keys actors l g key.Nothing goes = by_least keys actors l g
+    by_spawned keys actors l g (Some k) goes = sent keys actors l g k goes
+    by_spawned keys actors l g None goes = by_least keys actors l g
 
     by_spawn : (keys actors : Table) → Lives t keys actors → (g : ℕ) (e : Bool)
         → SentRests (to.route_spawned rows (turn_tables t keys actors q) g e left)
@@ -277,11 +270,11 @@ module _ (t : Table) (good : Good t) (h : step_hand t ≤ 0) where
         (λ e. record { lives = l; free = h }))
         (λ e. by_least keys actors l g)
 
-    by_idle : (groups keys actors : Table) → Lives t keys actors → (g : ℕ) (k : Key) → Goes keys g k
+    by_idle : (groups keys actors : Table) → Lives t keys actors → (g : ℕ) (k : Option ℕ) → Goes keys g k
         → SentRests (to.idle_else (turn_tables t keys actors q) g left k
         (to.route_new groups rows (turn_tables t keys actors q) g left))
-    by_idle groups keys actors l g (key.At k) goes = sent keys actors l g k goes
-    by_idle groups keys actors l g key.Nothing goes = by_new groups keys actors l g
+    by_idle groups keys actors l g (Some k) goes = sent keys actors l g k goes
+    by_idle groups keys actors l g None goes = by_new groups keys actors l g
 
     by_group : (groups keys actors : Table) → Lives t keys actors → (g : ℕ)
         → SentRests (to.pick_of groups rows (turn_tables t keys actors q) g left)
@@ -290,17 +283,17 @@ module _ (t : Table) (good : Good t) (h : step_hand t ≤ 0) where
         by_idle groups (pop_idle_of keys actors g).keys actors (same_lives (idle_same keys actors g) l) g
         (pop_idle_of keys actors g).key (idle_goes keys actors g)
 
-    by_named : (groups keys actors : Table) → Lives t keys actors → (n : Named)
+    by_named : (groups keys actors : Table) → Lives t keys actors → (n : Option ℕ)
         → SentRests (to.route_named groups rows (turn_tables t keys actors q) left n)
-    by_named groups keys actors l (named.Group g) = by_group groups keys actors l g
-    by_named groups keys actors l named.Nothing = lost keys actors l
+    by_named groups keys actors l (Some g) = by_group groups keys actors l g
+    by_named groups keys actors l None = lost keys actors l
 
-    by_first : (groups : Table) (count : ℕ) (store : List ℕ) (keys actors : Table) → Lives t keys actors → (f : Found)
+    by_first : (groups : Table) (count : ℕ) (store : List ℕ) (keys actors : Table) → Lives t keys actors → (f : Option ℕ)
         → SentRests (to.route_first (programs groups count store) rows (turn_tables t keys actors q) left f)
     unfolding to.route_one
-    by_first groups count store keys actors l (found.Entry e) = by_named groups keys actors l (by_name groups store e
+    by_first groups count store keys actors l (Some e) = by_named groups keys actors l (by_name groups store e
         (message_at rows e).name_len count)
-    by_first groups count store keys actors l found.Nothing = record { lives = l; free = h }
+    by_first groups count store keys actors l None = record { lives = l; free = h }
 
     pub route_rests : (groups : Table) (count : ℕ) (store : List ℕ) (keys actors : Table) → Lives t keys actors
         → SentRests (route_of (programs groups count store) rows (turn_tables t keys actors q) left)
@@ -315,11 +308,11 @@ module _ (t : Table) (good : Good t) (h : step_hand t ≤ 0) where
     by_boot keys actors l g true = by_spawn keys actors l g false
     by_boot keys actors l g false = by_least keys actors l g
 
-    by_yes : (keys actors : Table) → Lives t keys actors → (g : ℕ) (y : YesIn)
+    by_yes : (keys actors : Table) → Lives t keys actors → (g : ℕ) (y : Option Bool)
         → SentRests (to.route_by rows (turn_tables t keys actors q) g left y)
-    by_yes keys actors l g yes.Yes = by_boot keys actors l g true
-    by_yes keys actors l g yes.No = by_boot keys actors l g false
-    by_yes keys actors l g yes.Other = record { lives = l; free = h }
+    by_yes keys actors l g (Some true) = by_boot keys actors l g true
+    by_yes keys actors l g (Some false) = by_boot keys actors l g false
+    by_yes keys actors l g None = record { lives = l; free = h }
 
     pub route_reply_rests : (keys actors : Table) → Lives t keys actors → (g : ℕ) (r : Reply)
         → SentRests (route_reply rows (turn_tables t keys actors q) g left r)

@@ -1,5 +1,7 @@
 -- A step of an actor keeps the invariant of who holds messages: every transition of a fixed and of an eval actor.
 -- Assumes nothing.
+use Rattle.std.specs.Prelude.{Option, Some, None, Bool, true, false}
+use Rattle.actor.specs.declared.message.CallerId.{CallerId}
 use mathlib.Core.Path.{◌≡◌, refl, sym, ap, ◌∙◌, subst}
 use mathlib.Core.Bool.{Bool, true, false}
 use mathlib.Core.Logic.{◌≢◌}
@@ -11,25 +13,13 @@ use Rattle.lists.specs.Links.{pick, Table, len_of, first_of, move_first, move_fi
 use Rattle.lists.specs.Family.{view, Good, MovedToFront}
 use Rattle.lists.proofs.Family.{length_view}
 use Rattle.lists.proofs.Moves.{move_first_to_front_lem, move_first_good}
-use Rattle.actor.specs.declared.message.Caller.{Caller}
-use Rattle.actor.specs.declared.message.Caller.TheVariants as caller
 use Rattle.actor.specs.declared.question.Status.{Status}
 use Rattle.actor.specs.declared.question.Status.TheVariants as status
 use Rattle.actor.specs.declared.question.Outcome.{Outcome}
 use Rattle.actor.specs.declared.question.Outcome.TheVariants as outcome
 use Rattle.actor.specs.declared.question.Reply.{Reply}
-use Rattle.actor.specs.declared.question.YesIn.{YesIn}
-use Rattle.actor.specs.declared.question.YesIn.TheVariants as yes
-use Rattle.actor.specs.declared.question.ClockIn.{ClockIn}
-use Rattle.actor.specs.declared.question.ClockIn.TheVariants as clock
-use Rattle.actor.specs.declared.question.CountIn.{CountIn}
-use Rattle.actor.specs.declared.question.CountIn.TheVariants as count
-use Rattle.actor.specs.declared.question.RanIn.{RanIn}
-use Rattle.actor.specs.declared.question.RanIn.TheVariants as ran
 use Rattle.actor.specs.declared.state.Mode.{Mode}
 use Rattle.actor.specs.declared.state.Mode.TheVariants as mode
-use Rattle.actor.specs.declared.state.EvalRun.{EvalRun}
-use Rattle.actor.specs.declared.state.EvalRun.TheVariants as run
 use Rattle.actor.specs.Questions.{yes_in, clock_in, count_in, ran_in, is_told}
 use Rattle.actor.specs.Actors.{actor_at, put_actor, idled_as, consumed_as, running_to, has_run, deadline_of}
 use Rattle.actor.proofs.Back.{actor_put, actor_other}
@@ -224,7 +214,7 @@ module _ (t keys actors : Table) (good : Good t) (l : Lives t keys actors) (c : 
       ))
 
   -- the actor runs, or runs nothing with its hand empty
-  pub run_lives : (r : EvalRun) → (has_run r ≡ false → hand_len t g k ≡ 0)
+  pub run_lives : (r : Option ℕ) → (has_run r ≡ false → hand_len t g k ≡ 0)
       → Lives t keys (put_actor actors slot (running_to (actor_at actors slot) r))
   unfolding put_actor
   run_lives r empty =
@@ -253,7 +243,7 @@ module _ (t keys actors : Table) (good : Good t) (l : Lives t keys actors) (c : 
           )))
 
 -- an actor that ran on has a run
-runs_now : (actors : Table) (slot : ℕ) (r : EvalRun) → slot < length actors → has_run r ≡ true
+runs_now : (actors : Table) (slot : ℕ) (r : Option ℕ) → slot < length actors → has_run r ≡ true
     → has_run (actor_at (put_actor actors slot (running_to (actor_at actors slot) r)) slot).run ≡ true
 runs_now actors slot r low is = ap (λ a. has_run a.run) (actor_put actors slot (running_to (actor_at actors slot) r)
     low) ∙ is
@@ -408,24 +398,24 @@ module _ (t rows keys actors : Table) (q : ℕ) (good : Good t) (l : Lives t key
       pick_rule (λ (f : one.FixedLinks). FixedLives keys c (one.kept_fixed actors q f)) (ltb 0 n)
       (λ e. record { lives = l; is_fixed = is_fixed; hands = h }) (λ e. failed_lives h)
 
-  by_run : step_hand t ≤ 0 → (start : Bool) (r : RanIn)
+  by_run : step_hand t ≤ 0 → (start : Bool) (r : Option Status)
       → FixedLives keys c (one.kept_fixed actors q (one.run_by t rows at_slot start r))
-  by_run h start (ran.Of s) = ran_lives h s
-  by_run h start ran.Other = stays (fixed.Run start) h
+  by_run h start (Some s) = ran_lives h s
+  by_run h start None = stays (fixed.Run start) h
 
-  by_drain : FixedHands c fixed.Drain t → (r : CountIn) → FixedLives keys c (one.drain_by t actors at_slot q r)
-  by_drain (h, e) (count.Of n) = drained_lives h e n
-  by_drain h count.Other = stays fixed.Drain h
+  by_drain : FixedHands c fixed.Drain t → (r : Option ℕ) → FixedLives keys c (one.drain_by t actors at_slot q r)
+  by_drain (h, e) (Some n) = drained_lives h e n
+  by_drain h None = stays fixed.Drain h
 
-  by_push : FixedHands c fixed.Push t → (r : YesIn) → FixedLives keys c (one.push_by t actors at_slot q r)
-  by_push (h, e) yes.Yes = pushed_lives h e true
-  by_push (h, e) yes.No = pushed_lives h e false
-  by_push h yes.Other = stays fixed.Push h
+  by_push : FixedHands c fixed.Push t → (r : Option Bool) → FixedLives keys c (one.push_by t actors at_slot q r)
+  by_push (h, e) (Some true) = pushed_lives h e true
+  by_push (h, e) (Some false) = pushed_lives h e false
+  by_push h None = stays fixed.Push h
 
-  by_dispatch : step_hand t ≤ 0 → (r : CountIn)
+  by_dispatch : step_hand t ≤ 0 → (r : Option ℕ)
       → FixedLives keys c (one.kept_fixed actors q (one.dispatch_by t at_slot r))
-  by_dispatch h (count.Of n) = dispatched_lives h n
-  by_dispatch h count.Other = stays fixed.Dispatch h
+  by_dispatch h (Some n) = dispatched_lives h n
+  by_dispatch h None = stays fixed.Dispatch h
 
   pub fixed_lives : (a : FixedAsk) → FixedHands c a t → (r : Reply)
       → FixedLives keys c (step_fixed (step_tables t rows actors) at_slot q a r)
@@ -470,9 +460,9 @@ module _ (t rows keys actors : Table) (good : Good t) (l : Lives t keys actors) 
     unfolding two.eval_tell
     tell_eval h o = go (caller_first rows (first_of t HAND))
       where
-        go : (x : Caller) → EvalLives keys c (two.eval_told (step_tables t rows actors) on o x)
-        go (caller.From id) = record { lives = l; hands = h }
-        go caller.Nobody = over_eval h
+        go : (x : Option CallerId) → EvalLives keys c (two.eval_told (step_tables t rows actors) on o x)
+        go (Some id) = record { lives = l; hands = h }
+        go None = over_eval h
 
 module _ (t rows keys actors : Table) (good : Good t) (l : Lives t keys actors) (c : Cursor) (live : Lively keys c)
   where
@@ -484,7 +474,7 @@ module _ (t rows keys actors : Table) (good : Good t) (l : Lives t keys actors) 
     finish_eval h o =
         tell_eval out rows keys _ (move_first_good t good (hand_of its) HAND)
         (run_lives out keys actors (move_first_good t good (hand_of its) HAND) (out_lives t keys actors good l c live) c
-        live run.Nothing (λ e. out_empty t keys actors good l c live))
+        live None (λ e. out_empty t keys actors good l c live))
         c live (omega (arith, out_hand t keys actors good l c live)) o
       where
         out : Table
@@ -517,8 +507,8 @@ module _ (t rows keys actors : Table) (good : Good t) (l : Lives t keys actors) 
       hands = omega (arith, in_hand_lem t keys _ good running c live, h.0);
     }
       where
-        until : EvalRun
-        until = run.Until (two.deadline_from n limit)
+        until : Option ℕ
+        until = Some (two.deadline_from n limit)
 
         running : Lives t keys (put_actor actors its (running_to (actor_at actors its) until))
         running = run_lives t keys actors good l c live until (λ e. absurd (true_apart e))
@@ -549,29 +539,29 @@ module _ (t rows keys actors : Table) (good : Good t) (l : Lives t keys actors) 
     dispatched_eval h n = pick_rule (EvalLives keys c) (ltb 0 n) (λ e. record { lives = l; hands = h })
         (λ e. finish_eval h outcome.StuckHostCall)
 
-    by_clock : step_hand t ≤ 0 → (r : ClockIn) → EvalLives keys c (two.eval_clock_by (step_tables t rows actors) its r)
-    by_clock h (clock.Of ns) = clocked_eval h ns
-    by_clock h clock.Other = stay_eval eval.Clock h
+    by_clock : step_hand t ≤ 0 → (r : Option ℕ) → EvalLives keys c (two.eval_clock_by (step_tables t rows actors) its r)
+    by_clock h (Some ns) = clocked_eval h ns
+    by_clock h None = stay_eval eval.Clock h
 
-    by_boot : EvalHands c eval.Boot t → (r : YesIn) → EvalLives keys c (two.boot_by (step_tables t rows actors) its r)
-    by_boot h yes.Yes = booted_eval h true
-    by_boot h yes.No = booted_eval h false
-    by_boot h yes.Other = stay_eval eval.Boot h
+    by_boot : EvalHands c eval.Boot t → (r : Option Bool) → EvalLives keys c (two.boot_by (step_tables t rows actors) its r)
+    by_boot h (Some true) = booted_eval h true
+    by_boot h (Some false) = booted_eval h false
+    by_boot h None = stay_eval eval.Boot h
 
-    by_start : EvalHands c eval.StartClock t → (limit : Limit) (r : ClockIn)
+    by_start : EvalHands c eval.StartClock t → (limit : Limit) (r : Option ℕ)
         → EvalLives keys c (two.start_by t actors its limit r)
-    by_start h limit (clock.Of ns) = started_eval_lem h limit ns
-    by_start h limit clock.Other = stay_eval eval.StartClock h
+    by_start h limit (Some ns) = started_eval_lem h limit ns
+    by_start h limit None = stay_eval eval.StartClock h
 
-    by_run_eval : step_hand t ≤ 0 → (start : Bool) (r : RanIn)
+    by_run_eval : step_hand t ≤ 0 → (start : Bool) (r : Option Status)
         → EvalLives keys c (two.eval_run_by (step_tables t rows actors) its start r)
-    by_run_eval h start (ran.Of s) = ran_eval h s
-    by_run_eval h start ran.Other = stay_eval (eval.Run start) h
+    by_run_eval h start (Some s) = ran_eval h s
+    by_run_eval h start None = stay_eval (eval.Run start) h
 
-    by_dispatch_eval : step_hand t ≤ 0 → (r : CountIn)
+    by_dispatch_eval : step_hand t ≤ 0 → (r : Option ℕ)
         → EvalLives keys c (two.eval_dispatch_by (step_tables t rows actors) its r)
-    by_dispatch_eval h (count.Of n) = dispatched_eval h n
-    by_dispatch_eval h count.Other = stay_eval eval.Dispatch h
+    by_dispatch_eval h (Some n) = dispatched_eval h n
+    by_dispatch_eval h None = stay_eval eval.Dispatch h
 
     pub eval_lives : (limit : Limit) (a : EvalAsk) → EvalHands c a t → (r : Reply)
         → EvalLives keys c (step_eval (step_tables t rows actors) its limit a r)

@@ -1,4 +1,5 @@
 -- Waking, stepping, settling and crashing keep the invariant of who holds messages. Assumes nothing.
+use Rattle.std.specs.Prelude.{Option, Some, None, Bool, true, false}
 use mathlib.Core.Path.{◌≡◌, refl, sym, ap, ◌∙◌, subst}
 use mathlib.Core.Bool.{Bool, true, false}
 use mathlib.Core.List.{[]}
@@ -7,19 +8,12 @@ use native.Mathlib.Omega.{arith}
 use borrow.Author.Tests.{eqb-true}
 use lib.Dec.{eqb, ltb, leb}
 use lib.ListN.{length, set}
-use Rattle.lists.specs.declared.Found.{Found}
-use Rattle.lists.specs.declared.keys.Key.{Key}
-use Rattle.lists.specs.declared.keys.Key.TheVariants as key
 use Rattle.lists.specs.Links.{LISTS, Table, len_of, head_of, move_all, mailbox_of, hand_of, PENDING, HAND}
 use Rattle.lists.specs.Family.{Good}
 use Rattle.lists.specs.KeyLists.{blank_row, keys_at, front_of, pop_front}
 use Rattle.lists.proofs.Family.{length_view}
 use Rattle.lists.proofs.Moves.{move_all_good}
 use Rattle.actor.specs.declared.question.Reply.{Reply}
-use Rattle.actor.specs.declared.question.YesIn.{YesIn}
-use Rattle.actor.specs.declared.question.YesIn.TheVariants as yes
-use Rattle.actor.specs.declared.question.CountIn.{CountIn}
-use Rattle.actor.specs.declared.question.CountIn.TheVariants as count
 use Rattle.actor.specs.declared.state.Mode.{Mode}
 use Rattle.actor.specs.declared.state.Mode.TheVariants as mode
 use Rattle.actor.specs.Questions.{yes_in, count_in}
@@ -95,9 +89,9 @@ module _ (keys actors : Table) where
       (λ e. woken_same g k false)))
       (λ e. same_both keys actors)
 
-  by_poll : (g k clock left : ℕ) (n : CountIn) → WakedSame (waking.poll_by (keyed keys actors) (who_of g k) clock left n)
-  by_poll g k clock left (count.Of n) = woken_same g k (ltb 0 n)
-  by_poll g k clock left count.Other = same_both keys actors
+  by_poll : (g k clock left : ℕ) (n : Option ℕ) → WakedSame (waking.poll_by (keyed keys actors) (who_of g k) clock left n)
+  by_poll g k clock left (Some n) = woken_same g k (ltb 0 n)
+  by_poll g k clock left None = same_both keys actors
 
   pub poll_same : (g k clock left : ℕ) (r : Reply) → WakedSame (poll_reply (keyed keys actors) (who_of g k) clock left r)
   unfolding poll_reply
@@ -114,32 +108,32 @@ module _ (keys actors : Table) where
       P : Listed → Type 0
       P s = Same keys actors s.keys actors
 
-  trap_by_lem : (c : Cursor) (y : YesIn) → Same keys actors (crashing.trap_by keys c y).keys actors
-  trap_by_lem c yes.Yes = set_row keys actors TRAPPED blank_row (high_row TRAPPED (omega arith))
-  trap_by_lem c yes.No = same_both keys actors
-  trap_by_lem c yes.Other = same_both keys actors
+  trap_by_lem : (c : Cursor) (y : Option Bool) → Same keys actors (crashing.trap_by keys c y).keys actors
+  trap_by_lem c (Some true) = set_row keys actors TRAPPED blank_row (high_row TRAPPED (omega arith))
+  trap_by_lem c (Some false) = same_both keys actors
+  trap_by_lem c None = same_both keys actors
 
   pub trap_same : (c : Cursor) (r : Reply) → Same keys actors (trap_reply keys c r).keys actors
   unfolding trap_reply
   trap_same c r = trap_by_lem c (yes_in r)
 
-  trapped_by_lem : (c : Cursor) (k : ℕ) (y : YesIn) → Same keys actors (crashing.trapped_by keys c k y).keys actors
-  trapped_by_lem c k yes.Yes = push_row keys actors TRAPPED k (high_row TRAPPED (omega arith))
-  trapped_by_lem c k yes.No = same_both keys actors
-  trapped_by_lem c k yes.Other = same_both keys actors
+  trapped_by_lem : (c : Cursor) (k : ℕ) (y : Option Bool) → Same keys actors (crashing.trapped_by keys c k y).keys actors
+  trapped_by_lem c k (Some true) = push_row keys actors TRAPPED k (high_row TRAPPED (omega arith))
+  trapped_by_lem c k (Some false) = same_both keys actors
+  trapped_by_lem c k None = same_both keys actors
 
   pub trapped_same : (c : Cursor) (k : ℕ) (r : Reply) → Same keys actors (trapped_reply keys c k r).keys actors
   unfolding trapped_reply
   trapped_same c k r = trapped_by_lem c k (yes_in r)
 
-wake_first_same : (keys actors : Table) (g clock left : ℕ) (k : Key)
+wake_first_same : (keys actors : Table) (g clock left : ℕ) (k : Option ℕ)
     → Same keys actors (waking.wake_first (keyed keys actors) g clock left k).keys
     (waking.wake_first (keyed keys actors) g clock left k
     ).actors
-wake_first_same keys actors g clock left (key.At k) =
+wake_first_same keys actors g clock left (Some k) =
     same_then (set_row keys actors REST _ (high_row REST (omega arith)))
     (one_same (set keys REST (pop_front (keys_at keys REST))) actors g k clock (left - 1))
-wake_first_same keys actors g clock left key.Nothing = same_both keys actors
+wake_first_same keys actors g clock left None = same_both keys actors
 
 pub wake_next_same : (keys actors : Table) (g clock left : ℕ)
     → Same keys actors (wake_next (keyed keys actors) g clock left).keys
@@ -229,12 +223,12 @@ module _ (t keys actors : Table) (good : Good t) (l : Lives t keys actors) (h : 
   abbrev ReadyStands : Readied → Type 0
   ReadyStands s = Stands s.begun.at s.links s.keys s.actors
 
-  ready_front_lem : (k : Key) → ReadyStands (starting.ready_front (readying t keys actors q stepped) g clock pops k)
-  ready_front_lem (key.At k) =
+  ready_front_lem : (k : Option ℕ) → ReadyStands (starting.ready_front (readying t keys actors q stepped) g clock pops k)
+  ready_front_lem (Some k) =
       ready_key_lem t (starting.pop_ready keys g) good h q actors
       (same_lives (set_row keys actors (ready_row g) _ (ready_row_lem g)) l) (starting.cursor_at g k clock (pops - 1))
       stepped
-  ready_front_lem key.Nothing = record { lives = l; ok = h }
+  ready_front_lem None = record { lives = l; ok = h }
 
   pub ready_stands : ReadyStands (ready_of (readying t keys actors q stepped) g clock pops)
   unfolding ready_of
@@ -342,7 +336,7 @@ module _ (groups t rows : Table) (good : Good t) (g from dead : ℕ) where
   pub first_crashes : Crashes t (crashing.handle_crash groups (dying t rows dead) g from).links from
   unfolding crashing.handle_crash
   first_crashes =
-      pick_rule (λ (f : Found). Crashes t (crashing.crashed_found groups (dying t rows dead) g from f).links from)
+      pick_rule (λ (f : Option ℕ). Crashes t (crashing.crashed_found groups (dying t rows dead) g from f).links from)
       (eqb (len_of t from) 0)
       (λ e. record { less = less_same t; left = λ high is. omega (arith, eqb-true (len_of t from) 0 e) })
       (λ e. entry_crashes (head_of t from))
@@ -411,11 +405,11 @@ module _ (groups t rows keys actors : Table) (good : Good t) (l : Lives t keys a
             l.one c.group k S.group S.key,
           )
 
-  crash_trapped_front_lem : (k : Key)
+  crash_trapped_front_lem : (k : Option ℕ)
       → TrappedStands (crashing.crash_trapped_front groups (retiring t rows keys q x) c left k)
-  crash_trapped_front_lem (key.At k) = crash_trapped_key_lem (set keys TRAPPED (pop_front (keys_at keys TRAPPED)))
+  crash_trapped_front_lem (Some k) = crash_trapped_key_lem (set keys TRAPPED (pop_front (keys_at keys TRAPPED)))
       (same_lives (set_row keys actors TRAPPED _ (high_row TRAPPED (omega arith))) l) k (left - 1)
-  crash_trapped_front_lem key.Nothing = (l, h)
+  crash_trapped_front_lem None = (l, h)
 
   pub crash_trapped_stands : TrappedStands (crash_trapped groups (retiring t rows keys q x) c left)
   unfolding crash_trapped

@@ -1,6 +1,9 @@
 -- An accepted admission is for a program that is loaded, and one that is refused with 17 is not (statements:
 -- specs/Rail.antt). The message stands in the entry that was the first free one, since the body store keeps its
 -- length. Assumes nothing.
+use Rattle.std.specs.Prelude.{Option, Some, None, Err, Ok}
+use Rattle.message_log.specs.declared.LogId.{LogId}
+use Rattle.actor.specs.declared.message.CallerId.{CallerId}
 use mathlib.Core.Path.{◌≡◌, refl, sym, ap, ◌∙◌, subst}
 use mathlib.Core.Bool.{true, false, false≢true, not}
 use mathlib.Core.Logic.{◌⊎◌, inl, inr}
@@ -9,7 +12,6 @@ use Prim.Native.Nat.{ℕ, ◌≤◌, ◌<◌}
 use native.Mathlib.Omega.{arith}
 use borrow.Author.Tests.{eqb-false, not-true}
 use lib.ListN.{length, take, drop}
-use Rattle.lists.specs.declared.Found.TheVariants.{Entry}
 use Rattle.lists.specs.Links.{Table, FREE, len_of, first_of, move_first, INBOX, PENDING}
 use Rattle.lists.specs.Family.{view, first_in, Moved}
 use Rattle.lists.proofs.Family.{length_view, first_is, count_at, entry}
@@ -17,10 +19,6 @@ use Rattle.lists.proofs.Moves.{move_first_lem}
 use Rattle.message_log.specs.declared.Order.{Order}
 use Rattle.message_log.specs.Log as log
 use Rattle.message_log.specs.Recovery as disk
-use Rattle.actor.specs.declared.message.Caller.{Caller}
-use Rattle.actor.specs.declared.message.Caller.TheVariants as caller
-use Rattle.actor.specs.declared.message.Logged.{Logged}
-use Rattle.actor.specs.declared.message.Logged.TheVariants as id
 use Rattle.actor.specs.declared.question.Reply.{Reply}
 use Rattle.group.specs.Settings.{loaded_in}
 use Rattle.actor.specs.Entry.{Messages, Arrival, keep_at, keep_of}
@@ -33,7 +31,6 @@ use Rattle.theorem.proofs.Turn.{StateSound}
 use Rattle.answers.specs.declared.answer.Answer.{Answer}
 use Rattle.answers.specs.declared.answer.Answer.TheVariants as answer
 use Rattle.answers.specs.declared.answer.Refusal.TheVariants.{NotLoaded}
-use Rattle.answers.specs.declared.refusals.Check.TheVariants as check
 use Rattle.answers.specs.Answers.{Did, shown, messages_in, kept}
 use Rattle.answers.specs.Refusals.{judged, no_entry_free, in_turn, is_message, admit_refusals_first, admit_refusals_logged}
 use Rattle.answers.specs.Refusals.{admit_refusals, turn_refusals, reply_refusals, sync_refusals, close_refusals}
@@ -41,8 +38,8 @@ use Rattle.pool.specs.Admit as admits
 use Rattle.pool.specs.Loaded.{LoadedAt}
 use Rattle.pool.proofs.AdmitLaws.{short_both}
 use Rattle.pool.proofs.Names.{kept_loaded, unloaded_lost}
-use Rattle.pool.specs.declared.calls.StoredIn.{StoredIn}
-use Rattle.pool.specs.declared.calls.StoredIn.TheVariants as stored
+use Rattle.pool.specs.Stored.{StoredIn}
+use Rattle.pool.specs.Stored as stored
 use Rattle.pool.specs.Run.{run_of}
 use Rattle.pool.specs.Calls as one
 use Rattle.theorem.specs.Rail.{Call, admit, turn, reply, sync, close, call_of, Shown, nothing, shows, order_open}
@@ -57,7 +54,7 @@ use Rattle.theorem.proofs.Refusals.{Says, refuse_says, Fine, fine_check, fine_ap
 
 module _ (s : State) (name body : List ℕ) where
   -- 17: the name fits, and the program is not loaded
-  unloaded_check : (who : Caller) → judged (admit_refusals s name body who) ≡ check.Refuse NotLoaded
+  unloaded_check : (who : Option CallerId) → judged (admit_refusals s name body who) ≡ Err NotLoaded
       → (length name ≤ 32) × (loaded_in s.groups name s.pool.limits.groups ≡ false)
   unfolding admit_refusals_first admit_refusals_logged
   unloaded_check who is =
@@ -70,20 +67,20 @@ module _ (s : State) (name body : List ℕ) where
       go (inl e) = not-true _ e
       go (inr others) = absurd others.1.1.1.1.1.1
 
-  abbrev comer : Caller → Logged → Arrival
+  abbrev comer : Option CallerId → Option LogId → Arrival
   comer who l = record { name = name; body = body; caller = who; id = l }
 
   -- where no line holds the message is kept, and with it the log's order, if nobody waits
-  pub effect_rule : (P : State → Type 0) (who : Caller) → judged (admit_refusals s name body who) ≡ check.Fine
-      → ((l : Logged) → P (kept s (comer who l) INBOX))
-      → ((l : Logged) (d : log.DidAppend) (o : Order) → P (kept (admits.recorded s d o) (comer who l) INBOX))
+  pub effect_rule : (P : State → Type 0) (who : Option CallerId) → judged (admit_refusals s name body who) ≡ Ok tt
+      → ((l : Option LogId) → P (kept s (comer who l) INBOX))
+      → ((l : Option LogId) (d : log.DidAppend) (o : Order) → P (kept (admits.recorded s d o) (comer who l) INBOX))
       → P (admits.admit_effect s name body who).state
   unfolding admits.admit_called admits.admit_logged admits.recorded_by shown
-  effect_rule P (caller.From who) fine plain logs = plain id.Never
-  effect_rule P caller.Nobody fine plain logs =
+  effect_rule P (Some who) fine plain logs = plain None
+  effect_rule P None fine plain logs =
       let d = log.append_of (wal_of s) name body in
       subst (λ a. P (admits.recorded_in s name body d a).state) (sym (fine_appends s name body fine).answer_is)
-      (logs (id.As (admits.next_id s)) d (fine_appends s name body fine).order)
+      (logs (Some (admits.next_id s)) d (fine_appends s name body fine).order)
 
 -- ---- the body store keeps its length
 
@@ -103,7 +100,7 @@ module _ (s : State) where
       pick_rule Long (in_turn s.pool.turn.at) (λ e. ap length (run_stored (one.freed s))) (λ e. refl)
   reply_long r name body stored.Failed = refl
   reply_long r name body stored.Other =
-      pick_rule Long (is_message r) (λ e. keep_long (messages_in s) (comer s name body caller.Nobody id.Never) PENDING)
+      pick_rule Long (is_message r) (λ e. keep_long (messages_in s) (comer s name body None None) PENDING)
       (λ e. ap length (run_stored (one.resume_at s r) ∙ ap (λ (a : Aside). a.lasting.store) (resumed_aside s r)))
 
   call_long : (c : Call) → Long (call_of s c)
@@ -152,7 +149,7 @@ run_long (c ∷ calls) w =
 -- the first free entry
 record First (t : Table) : Type 0 where
   pub entry : ℕ
-  pub is : first_of t FREE ≡ Entry entry
+  pub is : first_of t FREE ≡ Some entry
   pub alone : take 1 (view t FREE) ≡ entry ∷ []
   pub inside : entry < 256
 
@@ -175,7 +172,7 @@ module _ (s : State) (sound : StateSound s) (long : length s.store ≡ 40960) (n
     pub last : view m.links INBOX ≡ view s.links INBOX ++ (entry ∷ [])
     pub loaded : LoadedAt s.groups s.pool.limits.groups m.store m.rows entry
 
-  kept_comes : Fine s name body → (who : Caller) (l : Logged)
+  kept_comes : Fine s name body → (who : Option CallerId) (l : Option LogId)
       → Comes (keep_of (messages_in s) (comer s name body who l) INBOX)
   unfolding keep_of keep_at
   kept_comes fine who l =
@@ -194,7 +191,7 @@ module _ (s : State) (sound : StateSound s) (long : length s.store ≡ 40960) (n
             sound.sized first.inside fine.short_name first.is fine.loaded;
       }
 
-  pub admit_comes : (who : Caller) → AcceptsLoaded s name body who
+  pub admit_comes : (who : Option CallerId) → AcceptsLoaded s name body who
   unfolding call_of admits.admit_of
   admit_comes who =
       table_rule (λ d. accepted d.answer ≡ true → ComesLoaded s d.state) s
@@ -206,7 +203,7 @@ module _ (s : State) (sound : StateSound s) (long : length s.store ≡ 40960) (n
       (λ l. record { entry = (came l).entry; last = (came l).last; loaded = (came l).loaded })
       (λ l d o. record { entry = (came l).entry; last = (came l).last; loaded = (came l).loaded }))
 
-  pub admit_away : (who : Caller) → RefusesUnloaded s name body who
+  pub admit_away : (who : Option CallerId) → RefusesUnloaded s name body who
   unfolding call_of
   admit_away who gone e inside routed =
       let none = unloaded_check s name body who ((by_the_table.admits s name body who).only NotLoaded gone) in

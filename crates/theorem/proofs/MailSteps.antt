@@ -1,5 +1,7 @@
 -- At every point of a turn, every reply and every mark at most one mailbox changes, by one of the operations of
 -- crates/theorem. Assumes nothing.
+use Rattle.std.specs.Prelude.{Option, Some, None, Bool, true, false}
+use Rattle.message_log.specs.declared.LogId.{LogId}
 use mathlib.Core.Path.{◌≡◌, refl}
 use mathlib.Core.Bool.{Bool, true, false}
 use Prim.Native.Nat.{ℕ, ◌-◌, ◌≤◌, ◌<◌}
@@ -7,26 +9,14 @@ use native.Mathlib.Omega.{arith}
 use native.Mathlib.Decide.{dec_lt}
 use lib.Dec.{eqb, ltb}
 use lib.ListN.{set}
-use Rattle.lists.specs.declared.Found.{Found}
-use Rattle.lists.specs.declared.Found.TheVariants as found
-use Rattle.lists.specs.declared.keys.Key.{Key}
-use Rattle.lists.specs.declared.keys.Key.TheVariants as key
 use Rattle.lists.specs.Links.{LISTS, FREE, Table, len_of, first_of, move_first, move_all, mailbox_of, hand_of}
 use Rattle.lists.specs.Links.{INBOX, PENDING, BATCH, OVER, HAND}
 use Rattle.lists.specs.Family.{Good}
 use Rattle.lists.specs.KeyLists.{keys_at, front_of, pop_front}
 use Rattle.lists.proofs.Moves.{move_first_lem}
-use Rattle.actor.specs.declared.message.Logged.{Logged}
-use Rattle.actor.specs.declared.message.Logged.TheVariants as logged
 use Rattle.actor.specs.declared.question.Status.{Status}
 use Rattle.actor.specs.declared.question.Status.TheVariants as status
 use Rattle.actor.specs.declared.question.Reply.{Reply}
-use Rattle.actor.specs.declared.question.YesIn.{YesIn}
-use Rattle.actor.specs.declared.question.YesIn.TheVariants as yes
-use Rattle.actor.specs.declared.question.CountIn.{CountIn}
-use Rattle.actor.specs.declared.question.CountIn.TheVariants as count
-use Rattle.actor.specs.declared.question.RanIn.{RanIn}
-use Rattle.actor.specs.declared.question.RanIn.TheVariants as ran
 use Rattle.actor.specs.declared.state.Mode.{Mode}
 use Rattle.actor.specs.declared.state.Mode.TheVariants as mode
 use Rattle.actor.specs.Questions.{yes_in, count_in, ran_in}
@@ -169,26 +159,26 @@ module _ (groups t rows l : Table) (slot : ℕ) (good : Good t) (low : slot < 12
       pick_rule (λ (f : FixedLinks). MailStep groups rows t f.links) (ltb 0 n) (λ e. nothing groups rows t good)
       (λ e. failed_fixed)
 
-  by_run : (start : Bool) (r : RanIn) → MailStep groups rows t (one.run_by t rows slot start r).links
-  by_run start (ran.Of s) = ran_fixed s
-  by_run start ran.Other = nothing groups rows t good
+  by_run : (start : Bool) (r : Option Status) → MailStep groups rows t (one.run_by t rows slot start r).links
+  by_run start (Some s) = ran_fixed s
+  by_run start None = nothing groups rows t good
 
-  by_drain : (q : ℕ) (r : CountIn) → MailStep groups rows t (one.drain_by t l slot q r).links
+  by_drain : (q : ℕ) (r : Option ℕ) → MailStep groups rows t (one.drain_by t l slot q r).links
   unfolding one.fixed_drained
-  by_drain q (count.Of n) =
+  by_drain q (Some n) =
       pick_rule (λ (s : FixedBoth). MailStep groups rows t s.links) (ltb 0 n) (λ e. nothing groups rows t good)
       (λ e. taken q)
-  by_drain q count.Other = nothing groups rows t good
+  by_drain q None = nothing groups rows t good
 
-  by_push : (q : ℕ) (r : YesIn) → MailStep groups rows t (one.push_by t l slot q r).links
+  by_push : (q : ℕ) (r : Option Bool) → MailStep groups rows t (one.push_by t l slot q r).links
   unfolding one.fixed_pushed
-  by_push q yes.Yes = elsewhere groups rows t good (hand_to_held t rows slot good low)
-  by_push q yes.No = pushed_back slot low (put_at_front_lem slot low t good HAND (omega arith))
-  by_push q yes.Other = nothing groups rows t good
+  by_push q (Some true) = elsewhere groups rows t good (hand_to_held t rows slot good low)
+  by_push q (Some false) = pushed_back slot low (put_at_front_lem slot low t good HAND (omega arith))
+  by_push q None = nothing groups rows t good
 
-  by_dispatch : (r : CountIn) → MailStep groups rows t (one.dispatch_by t slot r).links
-  by_dispatch (count.Of n) = dispatched_fixed n
-  by_dispatch count.Other = nothing groups rows t good
+  by_dispatch : (r : Option ℕ) → MailStep groups rows t (one.dispatch_by t slot r).links
+  by_dispatch (Some n) = dispatched_fixed n
+  by_dispatch None = nothing groups rows t good
 
   fixed_step : (q : ℕ) (a : FixedAsk) (r : Reply)
       → MailStep groups rows t (step_fixed (step_tables t rows l) slot q a r).links
@@ -278,9 +268,9 @@ module _ (groups t rows : Table) (g slot : ℕ) (good : Good t) (from dead : ℕ
       (λ b. first_through t rows good from slot f PENDING (aside_not_mailbox slot PENDING not_mailbox_pending))
       (λ b. over_through t rows good from slot f)
 
-  found_through : (e : Found) → Through t rows (crashing.crashed_found groups (dying t rows dead) g from e).links slot
-  found_through (found.Entry e) = entry_through e
-  found_through found.Nothing = same_through t rows slot good
+  found_through : (e : Option ℕ) → Through t rows (crashing.crashed_found groups (dying t rows dead) g from e).links slot
+  found_through (Some e) = entry_through e
+  found_through None = same_through t rows slot good
 
   crashed_through : Through t rows (crashing.handle_crash groups (dying t rows dead) g from).links slot
   unfolding crashing.handle_crash
@@ -326,12 +316,12 @@ module _ (groups t rows : Table) (c : Cursor) (q : ℕ) (l : Losses) (good : Goo
       there s = retired c.group (slot_number c.group k) (omega (arith, s.group, s.key))
           (retires groups t rows keys c k n q l good s.group s.key)
 
-  crash_trapped_front_step : (keys : Table) (left : ℕ) (k : Key)
+  crash_trapped_front_step : (keys : Table) (left : ℕ) (k : Option ℕ)
       → MailStep groups rows t (crashing.crash_trapped_front groups (retiring t rows keys q l) c left k).links
-  crash_trapped_front_step keys left (key.At k) =
+  crash_trapped_front_step keys left (Some k) =
       crash_trapped_key_step (set keys TRAPPED (pop_front (keys_at keys TRAPPED))) k
       (left - 1)
-  crash_trapped_front_step keys left key.Nothing = nothing groups rows t good
+  crash_trapped_front_step keys left None = nothing groups rows t good
 
   crash_trapped_step : (keys : Table) (left : ℕ)
       → MailStep groups rows t (crash_trapped groups (retiring t rows keys q l) c left).links
@@ -395,26 +385,26 @@ every_reply s (asks.Trapped c k) r good ok = stays s
 -- ---- every mark, and every message that comes
 
 -- the mark itself changes only the log
-logged_links : (s : State) (l : Logged) → (turn.mark_logged s l).links ≡ s.links
+logged_links : (s : State) (l : Option LogId) → (turn.mark_logged s l).links ≡ s.links
 unfolding turn.mark_logged
-logged_links s (logged.As id) = refl
-logged_links s logged.Never = refl
+logged_links s (Some id) = refl
+logged_links s None = refl
 
-mark_found_lem : (s : State) → Good s.links → (e : Found) → MailSame s.links (turn.mark_entry s e).links
-mark_found_lem s good (found.Entry e) =
+mark_found_lem : (s : State) → Good s.links → (e : Option ℕ) → MailSame s.links (turn.mark_entry s e).links
+mark_found_lem s good (Some e) =
     rw (logged_links (with_links s (move_first s.links OVER FREE)) (message_at s.rows e).id)
     (low_move s.links good OVER FREE (omega arith) (omega arith))
-mark_found_lem s good found.Nothing = λ slot low. refl
+mark_found_lem s good None = λ slot low. refl
 
 pub every_mark : EveryMark
 unfolding mark_first
 every_mark s good = mark_found_lem s good (first_of s.links OVER)
 
-kept_found : (m : Messages) (a : Arrival) (to : ℕ) → Good m.links → to < 6 → (e : Found)
+kept_found : (m : Messages) (a : Arrival) (to : ℕ) → Good m.links → to < 6 → (e : Option ℕ)
     → MailSame m.links (entry.keep_found m a to e).links
 unfolding entry.keep_at
-kept_found m a to good low (found.Entry e) = low_move m.links good FREE to (omega arith) low
-kept_found m a to good low found.Nothing = λ slot s-is. refl
+kept_found m a to good low (Some e) = low_move m.links good FREE to (omega arith) low
+kept_found m a to good low None = λ slot s-is. refl
 
 pub every_arrival : EveryArrival
 unfolding entry.keep_of

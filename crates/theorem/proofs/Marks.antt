@@ -1,8 +1,8 @@
 -- The mark of a message that was logged and not done: its order goes out, and its id alone is no longer open. Assumes
 -- nothing.
+use Rattle.std.specs.Prelude.{Some}
 use mathlib.Core.Path.{◌≡◌, refl, sym, ap, ◌∙◌, subst}
 use mathlib.Core.Bool.{Bool, true, false}
-use mathlib.Core.Option.{some}
 use mathlib.Core.List.{List, [], ◌∷◌}
 use Prim.Native.Nat.{ℕ, suc, ◌+◌, ◌<◌}
 use native.Mathlib.Omega.{arith}
@@ -14,7 +14,6 @@ use Rattle.text.specs.Format.{Message, record_line, done_line}
 use Rattle.lists.specs.Links.{pick}
 use Rattle.lists.specs.Family.{count}
 use Rattle.message_log.specs.declared.Order.{Order}
-use Rattle.message_log.specs.declared.Due.TheVariants.{Ordered}
 use Rattle.message_log.specs.Opening.{Rising, remove}
 use Rattle.message_log.specs.Log.{Wal, DidMark, row_id, row_at, open_rows, extended, compacted, find_row, without_row, keeps}
 use Rattle.message_log.specs.Log.{marked_done, mark_of}
@@ -32,12 +31,12 @@ use Rattle.theorem.proofs.Ids.{rising_once, gone_same, gone_other}
 -- an order goes out, and the next id is as it was
 pub record GoesOut (next : ℕ) (did : DidMark) : Type 0 where
   pub order : Order
-  pub due_is : did.due ≡ Ordered order
+  pub due_is : did.due ≡ Some order
   pub next_is : did.wal.counters.next ≡ next
 
 -- the row of an id that is open is found
 pub row_found : (x size : ℕ) (bytes : List ℕ) (ms : List Message) (rs : List (List ℕ)) (start j : ℕ)
-    → Tabled bytes start ms rs size → 0 < count x (ids_of ms) → (k : ℕ) × (find_row j x rs ≡ some k)
+    → Tabled bytes start ms rs size → 0 < count x (ids_of ms) → (k : ℕ) × (find_row j x rs ≡ Some k)
 unfolding find_row count
 row_found x size bytes [] [] start j t there = absurd (omega arith)
 row_found x size bytes [] (r ∷ rs) start j t there = absurd t
@@ -45,8 +44,8 @@ row_found x size bytes (m ∷ ms) [] start j t there = absurd t
 row_found x size bytes (m ∷ ms) (r ∷ rs) start j t there = go (eqb (row_id r) x) refl (row_found x size bytes ms rs
     (row_at r + length (record_line m)) (suc j) t.3)
   where
-    go : (b : Bool) → eqb (row_id r) x ≡ b → (0 < count x (ids_of ms) → (k : ℕ) × (find_row (suc j) x rs ≡ some k))
-        → (k : ℕ) × (find_row j x (r ∷ rs) ≡ some k)
+    go : (b : Bool) → eqb (row_id r) x ≡ b → (0 < count x (ids_of ms) → (k : ℕ) × (find_row (suc j) x rs ≡ Some k))
+        → (k : ℕ) × (find_row j x (r ∷ rs) ≡ Some k)
     go true e later = (j, cc)
     go false e later =
         let other : eqb m.id x ≡ false = ap (λ n. eqb n x) (sym (ap row_id t.0)) ∙ e in
@@ -74,7 +73,7 @@ mark_goes limit w ms x stands there =
 
 -- the journal after it
 pub mark_sound : (long limit : ℕ) (j : disk.LogWorld) (x : ℕ) (o : Order) → j.disk.status ≡ disk.settled
-    → log.Sound long j → (mark_of limit j.wal x).due ≡ Ordered o
+    → log.Sound long j → (mark_of limit j.wal x).due ≡ Some o
     → log.Sound long (disk.issue j (mark_of limit j.wal x).wal (remove x j.now)
     (disk.sent (mark_of limit j.wal x).wal.bytes o))
 unfolding disk.step_log disk.called disk.did_call disk.call_effect

@@ -1,5 +1,7 @@
 -- What an accepted opening is: its table refuses nothing, the log takes the file, and the messages left are in
 -- pending; any other leaves all that it was lent as it was. Assumes nothing.
+use Rattle.std.specs.Prelude.{Result, Err, Ok}
+use Rattle.answers.specs.declared.answer.Refusal.{Refusal}
 use mathlib.Core.Path.{◌≡◌, refl, sym, ap, ◌∙◌, subst}
 use mathlib.Core.Bool.{true, false, false≢true, ◌&&◌}
 use mathlib.Core.Logic.{◌⊎◌, inl, inr}
@@ -22,8 +24,6 @@ use Rattle.message_log.specs.Stands.{Stands}
 use Rattle.message_log.proofs.RecoveryLaws.{ReadBack, stands_fit, stored_replace, whole_image, Sound, waiting}
 use Rattle.theorem.specs.Handing.{put_messages}
 use Rattle.settings.specs.Tables.{LeftPlaced, put_left}
-use Rattle.answers.specs.declared.refusals.Check.{Check}
-use Rattle.answers.specs.declared.refusals.Check.TheVariants as check
 use Rattle.answers.specs.Answers.{Did}
 use Rattle.answers.specs.Refusals.{Lent, judged, by_table, tables_sized, tables_fit, open_refusals}
 use Rattle.pool.specs.Open.{unopened, no_left, tables_in, fill_from, filled_with, filled_by, opened_with, opened_by}
@@ -75,11 +75,11 @@ module _ (l : Lent) where
   pub accepted_taken : Accepts l → Taken l
   accepted_taken ok = go (judged (open_refusals l)) refl
     where
-      go : (c : Check) → judged (open_refusals l) ≡ c → Taken l
-      go (check.Refuse r) is =
+      go : (c : Result Unit Refusal) → judged (open_refusals l) ≡ c → Taken l
+      go (Err r) is =
           let turned = ap (λ (d : Did). accepted d.answer) ((by_the_table.openings l).refuses r is) in
           absurd (false≢true (sym turned ∙ ok))
-      go check.Fine is = fine_taken l is
+      go (Ok tt) is = fine_taken l is
 
   abbrev log_made : Read → log.Opened
   log_made r = log.opened_log_by l.bytes l.store l.records no_left r

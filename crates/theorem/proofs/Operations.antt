@@ -1,4 +1,6 @@
 -- What each operation of the pool does to the order of a mailbox, and to every other list. Assumes nothing.
+use Rattle.std.specs.Prelude.{Option, Some, None}
+use Rattle.message_log.specs.declared.LogId.{LogId}
 use mathlib.Core.Path.{◌≡◌, refl, sym, ap, ◌∙◌}
 use mathlib.Core.Bool.{Bool, true, false}
 use mathlib.Core.Logic.{◌≢◌}
@@ -12,8 +14,6 @@ use Rattle.lists.specs.Links.{Table, len_of, move_first, move_all, mailbox_of, F
 use Rattle.lists.specs.Family.{first_in, view, Good, Moved, MovedAll}
 use Rattle.lists.proofs.Family.{first_is, view_none}
 use Rattle.lists.proofs.Moves.{move_first_lem, move_all_lem}
-use Rattle.actor.specs.declared.message.Logged.{Logged}
-use Rattle.actor.specs.declared.message.Logged.TheVariants as logged
 use Rattle.actor.specs.Messages.{message_at}
 use Rattle.actor.specs.Questions.{slot_of}
 use Rattle.steps.specs.Steps.{place_logged, place_over, over_first, take_mail}
@@ -192,10 +192,10 @@ module _ (groups rows t : Table) (good : Good t) (g slot : ℕ) (low : slot < 12
     unfolding over_first place_over
     done_retired p = rw (first_is back hand, back_hand, is) (by (message_at rows e).id refl)
       where
-        by : (l : Logged) → (message_at rows e).id ≡ l
+        by : (l : Option LogId) → (message_at rows e).id ≡ l
             → Retired groups rows g slot t (move_first back hand (place_logged l))
-        by (logged.As id) q = over_retired p (rw q)
-        by logged.Never q = free_retired p (rw q)
+        by (Some id) q = over_retired p (rw q)
+        by None q = free_retired p (rw q)
 
     first_retired : (dead : ℕ)
         → Retired groups rows g slot t (crashing.crashed_entry groups (dying back rows dead) g hand e

@@ -1,5 +1,9 @@
 -- An order that waits after an accepted call is the one that the call's answer shows; a reply fits that order, or,
 -- with none waiting, the turn's question. Assumes nothing.
+use Rattle.std.specs.Prelude.{Option, Some, None, Ok, Err, Result}
+use Rattle.message_log.specs.declared.LogId.{LogId}
+use Rattle.actor.specs.declared.question.Question.{Question}
+use Rattle.actor.specs.declared.message.CallerId.{CallerId}
 use mathlib.Core.Path.{◌≡◌, refl, sym, ap, ◌∙◌}
 use mathlib.Core.Bool.{Bool, true, false, false≢true}
 use mathlib.Core.Logic.{◌⊎◌, inl, inr}
@@ -8,22 +12,13 @@ use Prim.Native.Nat.{ℕ, ◌<◌, ◌≤◌}
 use native.Mathlib.Omega.{arith}
 use borrow.Author.Tests.{eqb-true}
 use lib.Dec.{eqb, leb}
-use Rattle.lists.specs.declared.Found.{Found}
-use Rattle.lists.specs.declared.Found.TheVariants as found
-use Rattle.lists.specs.declared.keys.Key.{Key}
-use Rattle.lists.specs.declared.keys.Key.TheVariants as key
 use Rattle.lists.specs.Links.{Table, first_of, HAND}
 use Rattle.lists.specs.KeyLists.{keys_at, front_of}
-use Rattle.message_log.specs.declared.Answer as of-log
-use Rattle.message_log.specs.declared.Answer.TheVariants as logged
+use Rattle.message_log.specs.declared.Refusal as of-log
 use Rattle.message_log.specs.declared.Order.{Order}
 use Rattle.message_log.specs.Log as log
-use Rattle.actor.specs.declared.message.Caller.{Caller}
-use Rattle.actor.specs.declared.message.Caller.TheVariants as caller
 use Rattle.actor.specs.declared.question.Who.{Who}
 use Rattle.actor.specs.declared.question.Outcome.{Outcome}
-use Rattle.actor.specs.declared.question.Asked.{Asked}
-use Rattle.actor.specs.declared.question.Asked.TheVariants as asked
 use Rattle.actor.specs.declared.question.Reply.{Reply}
 use Rattle.actor.specs.declared.question.Reply.TheVariants as reply
 use Rattle.actor.specs.Questions.{kind_of, kind_wanted, fits_of}
@@ -34,8 +29,6 @@ use Rattle.steps.specs.declared.eval.EvalAsk.{EvalAsk}
 use Rattle.steps.specs.declared.eval.EvalAsk.TheVariants as eval
 use Rattle.steps.specs.StepFixed.{fixed_asks}
 use Rattle.steps.specs.StepEval.{ask_tell, eval_asks}
-use Rattle.actor.specs.declared.message.Logged.{Logged}
-use Rattle.actor.specs.declared.message.Logged.TheVariants as named
 use Rattle.actor.specs.Messages.{message_at}
 use Rattle.points.specs.declared.at.Point.{Point}
 use Rattle.points.specs.declared.at.Point.TheVariants as point
@@ -61,8 +54,8 @@ use Rattle.answers.specs.Answers.{Did, refused, shown}
 use Rattle.answers.specs.Refusals.{judged, in_turn, fits_in, is_message, admit_refusals, turn_refusals, reply_refusals}
 use Rattle.answers.specs.Refusals.{sync_refusals, close_refusals}
 use Rattle.pool.specs.Admit as admits
-use Rattle.pool.specs.declared.calls.StoredIn.{StoredIn}
-use Rattle.pool.specs.declared.calls.StoredIn.TheVariants as stored
+use Rattle.pool.specs.Stored.{StoredIn}
+use Rattle.pool.specs.Stored as stored
 use Rattle.pool.specs.Run.{answered_of, run_of}
 use Rattle.pool.specs.Calls as pool
 use Rattle.pool.specs.Calls.{begun_turn, stored_in, freed, resume_in, resume_at}
@@ -82,13 +75,13 @@ refused_shows s r ok = absurd (false≢true ok)
 -- ---- what is open
 
 -- no question of the turn is an order, nor of an order's kind
-abbrev OfTurn : Asked → Type 0
-OfTurn (asked.Open q) = (order_asked q ≡ nothing) × (kind_wanted q < 7)
-OfTurn asked.Nothing = 0 ≤ 0
+abbrev OfTurn : Option Question → Type 0
+OfTurn (Some q) = (order_asked q ≡ nothing) × (kind_wanted q < 7)
+OfTurn None = 0 ≤ 0
 
-tell_asks : (c : Caller) (o : Outcome) → OfTurn (ask_tell c o)
-tell_asks (caller.From x) o = (refl, omega arith)
-tell_asks caller.Nobody o = omega arith
+tell_asks : (c : Option CallerId) (o : Outcome) → OfTurn (ask_tell c o)
+tell_asks (Some x) o = (refl, omega arith)
+tell_asks None o = omega arith
 
 fixed_asks_lem : (t : Table) (who : Who) (a : FixedAsk) → OfTurn (fixed_asks t who a)
 unfolding fixed_asks
@@ -123,9 +116,9 @@ at_asks at.Rest t rows = omega arith
 at_asks (at.Asks a) t rows = ask_asks a t rows
 at_asks (at.Runs p) t rows = omega arith
 
-turn_shows : (a : Asked) → OfTurn a → order_open a ≡ nothing
-turn_shows (asked.Open q) is = is.0
-turn_shows asked.Nothing is = refl
+turn_shows : (a : Option Question) → OfTurn a → order_open a ≡ nothing
+turn_shows (Some q) is = is.0
+turn_shows None is = refl
 
 disk_shows : (d : Disk) (a : At) (t rows : Table) → order_open (asked_in d a t rows) ≡ order_of d
 unfolding asked_in
@@ -139,10 +132,10 @@ shown_shows s ok = disk_shows s.pool.turn.disk s.pool.turn.at s.links s.rows
 
 -- ---- which reply fits
 
-turn_fits : (a : Asked) (r : Reply) → OfTurn a → fits_in a r ≡ true → kind_of r < 7
+turn_fits : (a : Option Question) (r : Reply) → OfTurn a → fits_in a r ≡ true → kind_of r < 7
 unfolding fits_of
-turn_fits (asked.Open q) r is fits = omega (arith, is.1, eqb-true (kind_wanted q) (kind_of r) fits)
-turn_fits asked.Nothing r is fits = absurd (false≢true fits)
+turn_fits (Some q) r is fits = omega (arith, is.1, eqb-true (kind_wanted q) (kind_of r) fits)
+turn_fits None r is fits = absurd (false≢true fits)
 
 -- a reply to an order is of the order's kind, and no other is
 abbrev OfKind : StoredIn → ℕ → Type 0
@@ -202,17 +195,17 @@ abbrev Moving : State → Type 0
 Moving s = (is_free s.pool.turn.disk ≡ true) ⊎ (in_turn s.pool.turn.at ≡ true)
 
 -- a point that tried a message again leaves the turn at a point
-entry_moving : (s : State) (f : Found) → is_free s.pool.turn.disk ≡ true
-    → ((e : ℕ) → f ≡ found.Entry e → in_turn s.pool.turn.at ≡ true) → Moving (retry_entry s f)
+entry_moving : (s : State) (f : Option ℕ) → is_free s.pool.turn.disk ≡ true
+    → ((e : ℕ) → f ≡ Some e → in_turn s.pool.turn.at ≡ true) → Moving (retry_entry s f)
 unfolding retry_entry retry_logged
-entry_moving s found.Nothing free under = inl free
-entry_moving s (found.Entry e) free under = by (message_at s.rows e).id
+entry_moving s None free under = inl free
+entry_moving s (Some e) free under = by (message_at s.rows e).id
   where
-    by : (l : Logged) → Moving (retry_logged s l (message_at s.rows e).attempts)
-    by (named.As id) = inr (under e refl)
-    by named.Never = inl free
+    by : (l : Option LogId) → Moving (retry_logged s l (message_at s.rows e).attempts)
+    by (Some id) = inr (under e refl)
+    by None = inl free
 
-again_in_turn : (s : State) (p : Point) (e : ℕ) → again_at s p ≡ found.Entry e
+again_in_turn : (s : State) (p : Point) (e : ℕ) → again_at s p ≡ Some e
     → in_turn (go_of s p).pool.turn.at ≡ true
 unfolding again_at go_of crash_trapped crash_trapped_key
 again_in_turn s (point.Seed g) e is = let z : ◌≡◌ {A = ℕ} 0 1 = cc in absurd (omega arith)
@@ -227,10 +220,10 @@ again_in_turn s (point.Crash c) e is = refl
 again_in_turn s (point.AskTrap c) e is = let z : ◌≡◌ {A = ℕ} 0 1 = cc in absurd (omega arith)
 again_in_turn s (point.CrashTrapped c left) e is = at (eqb left 0) refl
   where
-    by : eqb left 0 ≡ false → (k : Key) → front_of (keys_at s.keys TRAPPED) ≡ k
+    by : eqb left 0 ≡ false → (k : Option ℕ) → front_of (keys_at s.keys TRAPPED) ≡ k
         → in_turn (go_of s (point.CrashTrapped c left)).pool.turn.at ≡ true
-    by b (key.At k) front = rw (b, front) refl
-    by b key.Nothing front = rw (b, front) refl
+    by b (Some k) front = rw (b, front) refl
+    by b None front = rw (b, front) refl
 
     at : (b : Bool) → eqb left 0 ≡ b → in_turn (go_of s (point.CrashTrapped c left)).pool.turn.at ≡ true
     at true b = rw b refl
@@ -289,15 +282,15 @@ resumed_aside s r = go s.pool.turn.at
     go (at.Runs p) = refl
 
 module _ (s : State) where
-  logged_shows : (name body : List ℕ) (d : log.DidAppend) (a : of-log.Answer)
+  logged_shows : (name body : List ℕ) (d : log.DidAppend) (a : Result Order of-log.Refusal)
       → Shows (admits.recorded_in s name body d a)
-  logged_shows name body d (logged.Ordered o) = shown_shows _
-  logged_shows name body d (logged.Refused r) = refused_shows _ _
+  logged_shows name body d (Ok o) = shown_shows _
+  logged_shows name body d (Err r) = refused_shows _ _
 
-  admit_shows : (name body : List ℕ) (who : Caller) → Shows (admits.admit_effect s name body who)
+  admit_shows : (name body : List ℕ) (who : Option CallerId) → Shows (admits.admit_effect s name body who)
   unfolding admits.admit_called admits.admit_logged admits.recorded_by
-  admit_shows name body (caller.From who) = shown_shows _
-  admit_shows name body caller.Nobody =
+  admit_shows name body (Some who) = shown_shows _
+  admit_shows name body None =
       logged_shows name body (log.append_of (wal_of s) name body) (log.append_of (wal_of s) name body).answer
 
   reply_shows : (r : Reply) (name body : List ℕ) (x : StoredIn) → FitsOn s.pool.turn.disk x

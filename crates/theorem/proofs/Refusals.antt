@@ -1,5 +1,7 @@
 -- Every call goes by its table of refusals (statement: specs/Refusals.antt): what a table says, that a table which
 -- refuses nothing has the log refuse nothing, and that no other effect refuses. Assumes nothing.
+use Rattle.std.specs.Prelude.{Option, Some, None, Result, Ok, Err}
+use Rattle.actor.specs.declared.message.CallerId.{CallerId}
 use mathlib.Core.Path.{◌≡◌, refl, sym, ap, ◌∙◌, subst}
 use mathlib.Core.Bool.{Bool, true, false, false≢true}
 use mathlib.Core.Logic.{◌⊎◌, inl, inr}
@@ -12,7 +14,6 @@ use lib.ListN.{length}
 use Rattle.text.specs.Format.{Message, record_line}
 use Rattle.lists.specs.Links.{pick}
 use Rattle.message_log.specs.declared.Order.{Order}
-use Rattle.message_log.specs.declared.Answer.TheVariants as logged
 use Rattle.message_log.specs.Opening.{Read, opening, opened, read_file}
 use Rattle.message_log.specs.Opened as log
 use Rattle.message_log.specs.Log.{Wal, extended, compacted, with_record, new_message, appended, append_of}
@@ -20,8 +21,6 @@ use Rattle.message_log.specs.Log as wal
 use Rattle.message_log.proofs.OpeningLaws.{judge_good, judge_opened}
 use Rattle.message_log.proofs.OpenLaws.{open_accepts}
 use Rattle.message_log.proofs.WalLaws.{append_goes}
-use Rattle.actor.specs.declared.message.Caller.{Caller}
-use Rattle.actor.specs.declared.message.Caller.TheVariants as caller
 use Rattle.actor.specs.declared.question.Reply.{Reply}
 use Rattle.theorem.proofs.Steps.{pick_rule}
 use Rattle.group.specs.Settings.{loaded_in}
@@ -33,8 +32,6 @@ use Rattle.turn.specs.Step.{advanced}
 use Rattle.answers.specs.declared.answer.Refusal.{Refusal}
 use Rattle.answers.specs.declared.answer.Answer.{Answer}
 use Rattle.answers.specs.declared.answer.Answer.TheVariants as answer
-use Rattle.answers.specs.declared.refusals.Check.{Check}
-use Rattle.answers.specs.declared.refusals.Check.TheVariants as check
 use Rattle.answers.specs.Answers as answers
 use Rattle.answers.specs.Answers.{number_of, shown}
 use Rattle.answers.specs.Refusals.{RefusalLine, judged, by_table, JudgedBy, Lent, file_in, tables_fit, log_sized}
@@ -45,8 +42,8 @@ use Rattle.answers.proofs.RefusalLaws.{fine_clear}
 use Rattle.pool.proofs.AdmitLaws.{short_both}
 use Rattle.pool.specs.Open.{no_left, filled_by, opened_by, open_effect, open_of}
 use Rattle.pool.specs.Admit.{recorded_in, recorded_by, admit_logged, admit_called, admit_effect, admit_of}
-use Rattle.pool.specs.declared.calls.StoredIn.{StoredIn}
-use Rattle.pool.specs.declared.calls.StoredIn.TheVariants as stored
+use Rattle.pool.specs.Stored.{StoredIn}
+use Rattle.pool.specs.Stored as stored
 use Rattle.pool.specs.Run.{answered_of, run_of}
 use Rattle.pool.specs.Calls.{stored_of, failed_of, collect_send, resumed_of, stored_in, reply_by, reply_effect}
 use Rattle.pool.specs.Calls.{turn_of, reply_of, sync_of, close_of}
@@ -63,14 +60,14 @@ Says n (l ∷ ls) = elim (eqb (number_of l.refusal) n) [
   | false ↦ (l.holds ≡ false) × Says n ls
 ]
 
-pub refuse_says : (ls : List RefusalLine) (r : Refusal) → judged ls ≡ check.Refuse r → Says (number_of r) ls
+pub refuse_says : (ls : List RefusalLine) (r : Refusal) → judged ls ≡ Err r → Says (number_of r) ls
 unfolding judged
 refuse_says [] r is = let z : ◌≡◌ {A = ℕ} 0 1 = cc in absurd (omega arith)
 refuse_says (l ∷ ls) r is = go (eqb (number_of l.refusal) (number_of r)) refl l.holds refl is (refuse_says ls r)
   where
     go : (a : Bool) → eqb (number_of l.refusal) (number_of r) ≡ a → (b : Bool) → l.holds ≡ b
-        → pick b (check.Refuse l.refusal) (judged ls) ≡ check.Refuse r
-        → (judged ls ≡ check.Refuse r → Says (number_of r) ls) → Says (number_of r) (l ∷ ls)
+        → pick b (Err l.refusal) (judged ls) ≡ Err r
+        → (judged ls ≡ Err r → Says (number_of r) ls) → Says (number_of r) (l ∷ ls)
     go true same true e is rest = rw (same, Says) (inl e)
     go true same false e is rest = rw (same, Says) (inr (rest is))
     go false same true e is rest =
@@ -84,16 +81,16 @@ abbrev Takes : answers.Did → Type 0
 Takes d = accepted d.answer ≡ true
 
 -- where the effect is no refusal, the call is judged by its table
-judges : (s : State) (table : Check) (effect : answers.Did) → (table ≡ check.Fine → Takes effect)
+judges : (s : State) (table : Result Unit Refusal) (effect : answers.Did) → (table ≡ Ok tt → Takes effect)
     → JudgedBy table s (by_table s table effect)
-judges s (check.Refuse r) effect takes = record { refuses = λ q is. cc; only = λ q is. cc }
-judges s check.Fine effect takes = record {
+judges s (Err r) effect takes = record { refuses = λ q is. cc; only = λ q is. cc }
+judges s (Ok tt) effect takes = record {
   refuses = λ q is. let z : ◌≡◌ {A = ℕ} 0 1 = cc in absurd (omega arith);
   only = λ q is. absurd (false≢true (sym (ap accepted is) ∙ takes refl));
 }
 
 -- a call that is judged by a table and refused leaves the state as it was
-pub judged_stays : (table : Check) (s : State) (d : answers.Did) → JudgedBy table s d → accepted d.answer ≡ false
+pub judged_stays : (table : Result Unit Refusal) (s : State) (d : answers.Did) → JudgedBy table s d → accepted d.answer ≡ false
     → d.state ≡ s
 judged_stays table s d by turned = go d.answer refl
   where
@@ -139,7 +136,7 @@ is_free_lem disk.Failed failed waits = absurd (false≢true (sym failed))
 -- the log has an order for it, with the next id one further
 pub record Appends (w : Wal) (d : wal.DidAppend) : Type 0 where
   pub order : Order
-  pub answer_is : d.answer ≡ logged.Ordered order
+  pub answer_is : d.answer ≡ Ok order
   pub next_is : d.wal.counters.next ≡ w.counters.next + 1
 
 appended_out : (w : Wal) (m : Message) (t : Bool)
@@ -149,7 +146,7 @@ appended_out w m true e = rw (e, appended) (record { order = _; answer_is = refl
 appended_out w m false e = rw (e, appended) (record { order = _; answer_is = refl; next_is = refl })
 
 module _ (s : State) (name body : List ℕ) where
-  pub fine_check : (who : Caller) → judged (admit_refusals s name body who) ≡ check.Fine → Fine s name body
+  pub fine_check : (who : Option CallerId) → judged (admit_refusals s name body who) ≡ Ok tt → Fine s name body
   unfolding admit_refusals_first admit_refusals_logged
   fine_check who fine =
       let c = fine_clear (admit_refusals s name body who) fine in
@@ -162,14 +159,14 @@ module _ (s : State) (name body : List ℕ) where
         room = c.1.1.1.1.1.1.0;
       }
 
-  pub fine_appends : judged (admit_refusals s name body caller.Nobody) ≡ check.Fine
+  pub fine_appends : judged (admit_refusals s name body None) ≡ Ok tt
       → Appends (wal_of s) (append_of (wal_of s) name body)
   unfolding admit_refusals_first admit_refusals_logged
   fine_appends fine =
       let w = wal_of s in
       let m = new_message w name body in
-      let c = (fine_clear (admit_refusals s name body caller.Nobody) fine).1.1.1.1.1.1.1 in
-      let short = fine_check caller.Nobody fine in
+      let c = (fine_clear (admit_refusals s name body None) fine).1.1.1.1.1.1.1 in
+      let short = fine_check None fine in
       subst (Appends w)
       (append_goes w name body short.short_name short.short_body
       (ltb-true w.counters.count (length w.table) (not-false _ c.0))
@@ -177,11 +174,11 @@ module _ (s : State) (name body : List ℕ) where
       (leb-true (w.counters.live + length (record_line m)) (length w.bytes) (not-false _ c.1.1.0)))
       (appended_out w m _ refl)
 
-  admit_taken : (who : Caller) → judged (admit_refusals s name body who) ≡ check.Fine
+  admit_taken : (who : Option CallerId) → judged (admit_refusals s name body who) ≡ Ok tt
       → Takes (admit_effect s name body who)
   unfolding admit_called admit_logged recorded_by
-  admit_taken (caller.From who) fine = shown_taken _
-  admit_taken caller.Nobody fine =
+  admit_taken (Some who) fine = shown_taken _
+  admit_taken None fine =
       let d = append_of (wal_of s) name body in
       subst (λ a. Takes (recorded_in s name body d a)) (sym (fine_appends fine).answer_is) (shown_taken _)
 
@@ -196,7 +193,7 @@ pub record Taken (l : Lent) : Type 0 where
   pub reads : opening (file_in l) ≡ opened found
 
 module _ (l : Lent) where
-  pub fine_taken : judged (open_refusals l) ≡ check.Fine → Taken l
+  pub fine_taken : judged (open_refusals l) ≡ Ok tt → Taken l
   unfolding open_refusals_first open_refusals_logged opening
   fine_taken fine =
       let r = read_file (file_in l) in
@@ -212,7 +209,7 @@ module _ (l : Lent) where
       }
 
   -- and the other way
-  pub taken_fine : Taken l → judged (open_refusals l) ≡ check.Fine
+  pub taken_fine : Taken l → judged (open_refusals l) ≡ Ok tt
   unfolding open_refusals_first open_refusals_logged opening judged
   taken_fine t =
       let r = read_file (file_in l) in
@@ -226,7 +223,7 @@ module _ (l : Lent) where
   log_opens t =
       open_accepts l.bytes l.size l.store l.records no_left t.found t.sizes t.reads
 
-  open_taken : judged (open_refusals l) ≡ check.Fine → Takes (open_effect l)
+  open_taken : judged (open_refusals l) ≡ Ok tt → Takes (open_effect l)
   unfolding open_effect opened_by filled_by
   open_taken fine = subst (λ o. Takes (opened_by l o)) (sym (log_opens (fine_taken fine))) refl
 

@@ -1,5 +1,6 @@
 -- Turn, reply, sync and close: each refused with the state as it was, or accepted with the invariant kept. Assumes
 -- nothing.
+use Rattle.std.specs.Prelude.{Some, None}
 use mathlib.Core.Path.{◌≡◌, refl, sym, ap, ◌∙◌, subst}
 use mathlib.Core.Bool.{Bool, true, false, ◌&&◌, false≢true}
 use mathlib.Core.Logic.{inl, inr}
@@ -10,13 +11,10 @@ use lib.ListN.{drop}
 use Rattle.lists.specs.Links.{Table, PENDING}
 use Rattle.message_log.specs.declared.Counters.{Counters}
 use Rattle.message_log.specs.declared.Order.TheVariants.{Flush}
-use Rattle.message_log.specs.declared.Due.TheVariants as due
-use Rattle.message_log.specs.declared.AnsweredDue.{AnsweredDue}
+use Rattle.message_log.specs.Log.{AnsweredDue}
 use Rattle.message_log.specs.Log as log
 use Rattle.message_log.specs.Recovery as disk
 use Rattle.message_log.proofs.RecoveryLaws as sound
-use Rattle.actor.specs.declared.message.Caller.TheVariants as caller
-use Rattle.actor.specs.declared.message.Logged.TheVariants as id
 use Rattle.actor.specs.declared.question.Reply.{Reply}
 use Rattle.points.specs.declared.at.At.{At}
 use Rattle.points.specs.declared.at.At.TheVariants as at
@@ -38,8 +36,8 @@ use Rattle.turn.specs.Step.{advanced}
 use Rattle.answers.specs.Answers.{shown, messages_in, kept}
 use Rattle.answers.specs.Refusals.{judged, in_turn, is_message, no_entry_free, turn_refusals, reply_refusals, sync_refusals}
 use Rattle.answers.specs.Refusals.{close_refusals}
-use Rattle.pool.specs.declared.calls.StoredIn.{StoredIn}
-use Rattle.pool.specs.declared.calls.StoredIn.TheVariants as stored
+use Rattle.pool.specs.Stored.{StoredIn}
+use Rattle.pool.specs.Stored as stored
 use Rattle.pool.specs.Run.{run_of}
 use Rattle.pool.specs.Calls as pool
 use Rattle.pool.specs.Calls.{first_point, begun_turn, freed, resume_in, resume_at, stored_in}
@@ -96,8 +94,8 @@ same_ledger j j' top logged done old now next = record {
 
 -- nothing to flush, or a flush
 data Syncs (n : Counters) (s : AnsweredDue) : Type 0 where
-  idle : s ≡ record { counters = n; due = due.Nothing } → Syncs n s
-  flush : s.due ≡ due.Ordered Flush → s.counters.next ≡ n.next → Syncs n s
+  idle : s ≡ record { counters = n; due = None } → Syncs n s
+  flush : s.due ≡ Some Flush → s.counters.next ≡ n.next → Syncs n s
 
 sync_view : (n : Counters) → Syncs n (log.sync_log n)
 unfolding log.sync_log
@@ -119,12 +117,12 @@ synced j v = disk.issue j (record {
 synced_sound : (long : ℕ) (j : disk.LogWorld) (v : log.Wal) → sound.Sound long j → j.disk.status ≡ disk.settled
     → j.wal
     ≡ v
-    → (log.sync_log v.counters).due ≡ due.Ordered Flush → sound.Sound long (synced j v)
+    → (log.sync_log v.counters).due ≡ Some Flush → sound.Sound long (synced j v)
 unfolding disk.called disk.did_call disk.call_effect
-synced_sound long j v good settled is ordered = subst (λ u. (log.sync_log u.counters).due ≡ due.Ordered Flush
+synced_sound long j v good settled is ordered = subst (λ u. (log.sync_log u.counters).due ≡ Some Flush
     → sound.Sound long (synced j u)) is here ordered
   where
-    here : (log.sync_log j.wal.counters).due ≡ due.Ordered Flush → sound.Sound long (synced j j.wal)
+    here : (log.sync_log j.wal.counters).due ≡ Some Flush → sound.Sound long (synced j j.wal)
     here e =
         subst (λ a. sound.Sound long (disk.issued j disk.sync (disk.by_sync j.wal (log.sync_log j.wal.counters)
         ).wal (disk.ordered_due a))) e
@@ -347,7 +345,7 @@ module _ (long : ℕ) (limits : Limits) (w : World) (steady : Steady long limits
 
       -- a message that was sent
       abbrev sent : Arrival
-      sent = record { name = name; body = body; caller = caller.Nobody; id = id.Never }
+      sent = record { name = name; body = body; caller = None; id = None }
 
       sent_works : no_entry_free s.links ≡ false → Working long j (kept s sent PENDING)
       sent_works room =

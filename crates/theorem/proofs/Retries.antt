@@ -1,18 +1,14 @@
 -- What a point tries again comes to the end of pending; and a retry leaves the log's next id. Assumes nothing.
+use Rattle.std.specs.Prelude.{Option, Some, None}
 use mathlib.Core.Path.{◌≡◌, refl, sym, ap, ◌∙◌}
 use mathlib.Core.Bool.{Bool, true, false}
 use mathlib.Core.Logic.{◌≢◌}
-use mathlib.Core.Option.{Option, none, some}
 use mathlib.Core.List.{List, [], ◌∷◌, ◌++◌}
 use Prim.Native.Nat.{ℕ, ◌+◌, ◌<◌}
 use native.Mathlib.Omega.{arith}
 use native.Mathlib.Decide.{dec_lt}
 use lib.Dec.{eqb, leb, ltb}
 use lib.ListN.{length, take}
-use Rattle.lists.specs.declared.Found.{Found}
-use Rattle.lists.specs.declared.Found.TheVariants as found
-use Rattle.lists.specs.declared.keys.Key.{Key}
-use Rattle.lists.specs.declared.keys.Key.TheVariants as key
 use Rattle.lists.specs.Links.{Table, LISTS, first_of, move_first, mailbox_of, hand_of, PENDING, HAND}
 use Rattle.lists.specs.KeyLists.{keys_at, front_of}
 use Rattle.lists.specs.Family.{first_in, view, Good, Moved}
@@ -38,30 +34,30 @@ use Rattle.theorem.proofs.PlaceMoves.{hand_is}
 use Rattle.theorem.proofs.Ticking.{no_hand}
 
 -- the last of some entries and one behind them
-pub last_snoc : (es : List ℕ) (e : ℕ) → last_in (es ++ (e ∷ [])) ≡ found.Entry e
+pub last_snoc : (es : List ℕ) (e : ℕ) → last_in (es ++ (e ∷ [])) ≡ Some e
 unfolding last_in
 last_snoc [] e = refl
 last_snoc (x ∷ []) e = refl
 last_snoc (x ∷ y ∷ es) e = last_snoc (y ∷ es) e
 
 -- the first of some entries
-first_one : (es : List ℕ) (e : ℕ) → first_in es ≡ found.Entry e → take 1 es ≡ e ∷ []
+first_one : (es : List ℕ) (e : ℕ) → first_in es ≡ Some e → take 1 es ≡ e ∷ []
 first_one [] e is = let z : ◌≡◌ {A = ℕ} 0 1 = cc in absurd (omega arith)
 first_one (x ∷ es) e is = let same : x ≡ e = cc in cc
 
 -- a message that is tried again is the first of its list, and its attempts are below the retries
 record Tries (groups t rows : Table) (g from e : ℕ) : Type 0 where
-  first : first_of t from ≡ found.Entry e
+  first : first_of t from ≡ Some e
   below : ltb (message_at rows e).attempts (group_at groups g).retry ≡ true
 
-pub found_again : (groups rows : Table) (g e : ℕ) (f : Found) → again_found groups rows g f ≡ found.Entry e
-    → (f ≡ found.Entry e) × (ltb (message_at rows e).attempts (group_at groups g).retry ≡ true)
-found_again groups rows g e found.Nothing is = let z : ◌≡◌ {A = ℕ} 0 1 = cc in absurd (omega arith)
-found_again groups rows g e (found.Entry x) is =
+pub found_again : (groups rows : Table) (g e : ℕ) (f : Option ℕ) → again_found groups rows g f ≡ Some e
+    → (f ≡ Some e) × (ltb (message_at rows e).attempts (group_at groups g).retry ≡ true)
+found_again groups rows g e None is = let z : ◌≡◌ {A = ℕ} 0 1 = cc in absurd (omega arith)
+found_again groups rows g e (Some x) is =
     at (ltb (message_at rows x).attempts (group_at groups g).retry) refl
   where
     at : (b : Bool) → ltb (message_at rows x).attempts (group_at groups g).retry ≡ b
-        → (found.Entry x ≡ found.Entry e)
+        → (Some x ≡ Some e)
         × (ltb (message_at rows e).attempts (group_at groups g).retry ≡ true)
     at true b =
         let same : x ≡ e = cc in
@@ -69,7 +65,7 @@ found_again groups rows g e (found.Entry x) is =
     at false b = let z : ◌≡◌ {A = ℕ} 0 1 = cc in absurd (omega arith)
 
 module _ (groups t rows : Table) (g from e dead : ℕ) (good : Good t) (apart : from ≢ PENDING)
-    (is : again_first groups t rows g from ≡ found.Entry e) where
+    (is : again_first groups t rows g from ≡ Some e) where
   tries : Tries groups t rows g from e
   unfolding again_first
   tries = let both = found_again groups rows g e (first_of t from) is in record { first = both.0; below = both.1 }
@@ -80,7 +76,7 @@ module _ (groups t rows : Table) (g from e dead : ℕ) (good : Good t) (apart : 
       ap (λ f. (crashed_found groups (dying t rows dead) g from f).links) tries.first
       ∙ rw tries.below refl
 
-  first_there : first_in (view t from) ≡ found.Entry e
+  first_there : first_in (view t from) ≡ Some e
   first_there = sym (first_is t from) ∙ tries.first
 
   within : from < LISTS
@@ -89,14 +85,14 @@ module _ (groups t rows : Table) (g from e dead : ℕ) (good : Good t) (apart : 
       at : Dec (from < LISTS) → from < LISTS
       at (yes p) = p
       at (no p) =
-          let empty : first_in (view t from) ≡ found.Nothing = ap first_in (view_past t good from (omega arith)) in
+          let empty : first_in (view t from) ≡ None = ap first_in (view_past t good from (omega arith)) in
           let z : ◌≡◌ {A = ℕ} 0 1 = cc first_there in
           absurd (omega arith)
 
   moved : Moved t from PENDING 1 (move_first t from PENDING)
   moved = move_first_lem (record { good = good; from_is = within; to_is = omega arith; apart = apart })
 
-  pub crash_last : last_in (view (handle_crash groups (dying t rows dead) g from).links PENDING) ≡ found.Entry e
+  pub crash_last : last_in (view (handle_crash groups (dying t rows dead) g from).links PENDING) ≡ Some e
   crash_last =
       ap (λ r. last_in (view r PENDING)) crashed_links
       ∙ (ap last_in (moved.joined ∙ ap (λ l. view t PENDING ++ l) (first_one (view t from) e first_there))
@@ -115,7 +111,7 @@ module _ (t : Table) (good : Good t) (slot : ℕ) (slot_is : slot < 128) where
 
 -- past the last slot nobody has a hand
 past_none : (groups t rows : Table) (g slot : ℕ) → Good t → (slot < 128 → ⊥)
-    → again_first groups t rows g (hand_of slot) ≡ found.Nothing
+    → again_first groups t rows g (hand_of slot) ≡ None
 unfolding again_first
 past_none groups t rows g slot good gone =
     ap (again_found groups rows g)
@@ -142,15 +138,15 @@ hand_again groups t rows g slot good = at (dec_lt slot 128)
         ∙ sym (past_none groups t rows g slot good p)
 
 module _ (s : State) (good : Good s.links) (c : Cursor) where
-  trapped_last : (k left e : ℕ) → again_trapped s c (key.At k) ≡ found.Entry e
+  trapped_last : (k left e : ℕ) → again_trapped s c (Some k) ≡ Some e
       → last_in (view (handle_crash s.groups (dying (mail_back s.links (slot_at c.group k)) s.rows
-      s.pool.turn.counts.losses.dead) c.group (hand_of (slot_at c.group k))).links PENDING) ≡ found.Entry e
+      s.pool.turn.counts.losses.dead) c.group (hand_of (slot_at c.group k))).links PENDING) ≡ Some e
   trapped_last k left e is = at (dec_lt (slot_at c.group k) 128)
     where
       Last : Type 0
       Last = last_in (view (handle_crash s.groups (dying (mail_back s.links (slot_at c.group k)) s.rows
           s.pool.turn.counts.losses.dead) c.group (hand_of (slot_at c.group k))).links PENDING)
-          ≡ found.Entry e
+          ≡ Some e
 
       at : Dec (slot_at c.group k < 128) → Last
       at (yes p) =
@@ -165,8 +161,8 @@ module _ (s : State) (good : Good s.links) (c : Cursor) where
           absurd (omega arith)
 
 -- what a point tries again is the last of pending when it has run
-pub again_last : (s : State) (p : Point) (e : ℕ) → Good s.links → again_at s p ≡ found.Entry e
-    → last_in (view (go_of s p).links PENDING) ≡ found.Entry e
+pub again_last : (s : State) (p : Point) (e : ℕ) → Good s.links → again_at s p ≡ Some e
+    → last_in (view (go_of s p).links PENDING) ≡ Some e
 unfolding again_at go_of crash_of crash_trapped crash_trapped_key
 again_last s (point.Seed g) e good is = let z : ◌≡◌ {A = ℕ} 0 1 = cc in absurd (omega arith)
 again_last s (point.Intake left) e good is = let z : ◌≡◌ {A = ℕ} 0 1 = cc in absurd (omega arith)
@@ -182,12 +178,12 @@ again_last s (point.Crash c) e good is =
 again_last s (point.AskTrap c) e good is = let z : ◌≡◌ {A = ℕ} 0 1 = cc in absurd (omega arith)
 again_last s (point.CrashTrapped c left) e good is = at (eqb left 0) refl
   where
-    by : eqb left 0 ≡ false → (k : Key) → front_of (keys_at s.keys TRAPPED) ≡ k → again_trapped s c k ≡ found.Entry e
-        → last_in (view (go_of s (point.CrashTrapped c left)).links PENDING) ≡ found.Entry e
-    by b (key.At k) front is = rw (b, front) (trapped_last s good c k left e is)
-    by b key.Nothing front is = let z : ◌≡◌ {A = ℕ} 0 1 = cc in absurd (omega arith)
+    by : eqb left 0 ≡ false → (k : Option ℕ) → front_of (keys_at s.keys TRAPPED) ≡ k → again_trapped s c k ≡ Some e
+        → last_in (view (go_of s (point.CrashTrapped c left)).links PENDING) ≡ Some e
+    by b (Some k) front is = rw (b, front) (trapped_last s good c k left e is)
+    by b None front is = let z : ◌≡◌ {A = ℕ} 0 1 = cc in absurd (omega arith)
 
-    at : (b : Bool) → eqb left 0 ≡ b → last_in (view (go_of s (point.CrashTrapped c left)).links PENDING) ≡ found.Entry e
+    at : (b : Bool) → eqb left 0 ≡ b → last_in (view (go_of s (point.CrashTrapped c left)).links PENDING) ≡ Some e
     at true b = let z : ◌≡◌ {A = ℕ} 0 1 = cc in absurd (omega arith)
     at false b = by b (front_of (keys_at s.keys TRAPPED)) refl (rw b at is)
 
@@ -210,8 +206,8 @@ retry_next w id n = counted (counts_tries n) refl
     at i false e = cc
 
     found : (o : Option ℕ) → (retry_found w id n o).wal.counters.next ≡ w.counters.next
-    found none = refl
-    found (some i) = at i _ refl
+    found None = refl
+    found (Some i) = at i _ refl
 
     counted : (t : Bool) → counts_tries n ≡ t → (retry_of w id n).wal.counters.next ≡ w.counters.next
     counted true e =

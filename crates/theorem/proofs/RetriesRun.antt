@@ -1,8 +1,8 @@
 -- What holds of a message's attempts while a turn runs: as many as before, written, or without room. Assumes nothing.
+use Rattle.std.specs.Prelude.{Option, Some, None}
 use mathlib.Core.Path.{◌≡◌, refl, sym, ap, ◌∙◌, subst}
 use mathlib.Core.Bool.{Bool, true, false, false≢true, ◌&&◌}
 use mathlib.Core.Logic.{◌≢◌}
-use mathlib.Core.Option.{some}
 use mathlib.Core.List.{List}
 use Prim.Native.Nat.{ℕ, ◌+◌, ◌<◌, ◌≤◌}
 use native.Mathlib.Omega.{arith}
@@ -11,17 +11,11 @@ use borrow.Author.Tests.{leb-false, lt-ltb, le-leb}
 use lib.Dec.{eqb, leb, ltb}
 use lib.ListN.{length}
 use Rattle.text.specs.Format.{ATTEMPTS, Message, retry_line}
-use Rattle.lists.specs.declared.Found.{Found}
-use Rattle.lists.specs.declared.Found.TheVariants as found
-use Rattle.lists.specs.declared.keys.Key.{Key}
-use Rattle.lists.specs.declared.keys.Key.TheVariants as key
 use Rattle.lists.specs.Links.{Table, FREE, PENDING, OVER, HAND, capped, first_of, move_first, hand_of}
 use Rattle.lists.specs.KeyLists.{keys_at, front_of}
 use Rattle.lists.specs.Family.{count, view, Good}
 use Rattle.message_log.specs.declared.LogId.{LogId}
 use Rattle.message_log.specs.declared.Order.{Order}
-use Rattle.message_log.specs.declared.Due.{Due}
-use Rattle.message_log.specs.declared.Due.TheVariants as due
 use Rattle.message_log.specs.Opening.{retried, image}
 use Rattle.message_log.specs.Log.{Wal, open_rows, search_row, with_tried, retry_written, retried_at, retry_found, counts_tries}
 use Rattle.message_log.specs.Log.{retry_of}
@@ -30,8 +24,6 @@ use Rattle.message_log.specs.Recovery as disk
 use Rattle.message_log.proofs.RecoveryLaws as log
 use Rattle.message_log.proofs.SearchLaws.{open_finds}
 use Rattle.message_log.proofs.Steps.{tried_laid}
-use Rattle.actor.specs.declared.message.Logged.{Logged}
-use Rattle.actor.specs.declared.message.Logged.TheVariants as logged
 use Rattle.actor.specs.Messages.{message_at, put_message, tried_of}
 use Rattle.actor.proofs.Back.{message_put, message_other}
 use Rattle.points.specs.declared.at.At.TheVariants as at
@@ -70,19 +62,19 @@ tried_in rows e = put_message rows e (tried_of (message_at rows e))
 
 module _ (groups t rows : Table) (g from dead : ℕ) where
   -- a message that is not tried again leaves the rows ..
-  dead_rows : (f : Found) → again_found groups rows g f ≡ found.Nothing
+  dead_rows : (f : Option ℕ) → again_found groups rows g f ≡ None
       → (crashed_found groups (dying t rows dead) g from f).rows ≡ rows
   unfolding crashed_entry
-  dead_rows found.Nothing is = refl
-  dead_rows (found.Entry x) is = at (ltb (message_at rows x).attempts (group_at groups g).retry) refl
+  dead_rows None is = refl
+  dead_rows (Some x) is = at (ltb (message_at rows x).attempts (group_at groups g).retry) refl
     where
       at : (b : Bool) → ltb (message_at rows x).attempts (group_at groups g).retry ≡ b
-          → (crashed_found groups (dying t rows dead) g from (found.Entry x)).rows ≡ rows
+          → (crashed_found groups (dying t rows dead) g from (Some x)).rows ≡ rows
       at true b = let z : ◌≡◌ {A = ℕ} 0 1 = cc in absurd (omega arith)
       at false b = rw b refl
 
   -- .. and one that is has one attempt more
-  again_rows : (f : Found) (e : ℕ) → again_found groups rows g f ≡ found.Entry e
+  again_rows : (f : Option ℕ) (e : ℕ) → again_found groups rows g f ≡ Some e
       → (crashed_found groups (dying t rows dead) g from f).rows ≡ tried_in rows e
   unfolding crashed_entry
   again_rows f e is =
@@ -90,18 +82,18 @@ module _ (groups t rows : Table) (g from dead : ℕ) where
       ap (λ x. (crashed_found groups (dying t rows dead) g from x).rows) both.0 ∙ rw both.1 refl
 
 -- the rows by what is tried again
-abbrev rows_by : Table → Found → Table
-rows_by rows (found.Entry e) = tried_in rows e
-rows_by rows found.Nothing = rows
+abbrev rows_by : Table → Option ℕ → Table
+rows_by rows (Some e) = tried_in rows e
+rows_by rows None = rows
 
-crash_rows : (groups t rows : Table) (g from dead : ℕ) (f : Found) → again_first groups t rows g from ≡ f
+crash_rows : (groups t rows : Table) (g from dead : ℕ) (f : Option ℕ) → again_first groups t rows g from ≡ f
     → (handle_crash groups (dying t rows dead) g from).rows ≡ rows_by rows f
 unfolding handle_crash again_first
-crash_rows groups t rows g from dead (found.Entry e) is = again_rows groups t rows g from dead (first_of t from) e is
-crash_rows groups t rows g from dead found.Nothing is = dead_rows groups t rows g from dead (first_of t from) is
+crash_rows groups t rows g from dead (Some e) is = again_rows groups t rows g from dead (first_of t from) e is
+crash_rows groups t rows g from dead None is = dead_rows groups t rows g from dead (first_of t from) is
 
 -- a point changes the row of what it tries again, and no other
-go_rows : (s : State) (p : Point) (f : Found) → Good s.links → again_at s p ≡ f
+go_rows : (s : State) (p : Point) (f : Option ℕ) → Good s.links → again_at s p ≡ f
     → (go_of s p).rows ≡ rows_by s.rows f
 unfolding again_at go_of crash_of crash_trapped crash_trapped_key
 go_rows s (point.Seed g) f good is = ap (rows_by s.rows) is
@@ -117,28 +109,28 @@ go_rows s (point.Crash c) f good is =
 go_rows s (point.AskTrap c) f good is = ap (rows_by s.rows) is
 go_rows s (point.CrashTrapped c left) f good is = at (eqb left 0) refl
   where
-    by : eqb left 0 ≡ false → (k : Key) → front_of (keys_at s.keys TRAPPED) ≡ k → again_trapped s c k ≡ f
+    by : eqb left 0 ≡ false → (k : Option ℕ) → front_of (keys_at s.keys TRAPPED) ≡ k → again_trapped s c k ≡ f
         → (go_of s (point.CrashTrapped c left)).rows ≡ rows_by s.rows f
-    by b (key.At k) front is =
+    by b (Some k) front is =
         rw (b, front)
         (crash_rows s.groups (mail_back s.links (slot_at c.group k)) s.rows c.group
         (hand_of (slot_at c.group k)) s.pool.turn.counts.losses.dead f
         (hand_again s.groups s.links s.rows c.group (slot_at c.group k) good ∙ is))
-    by b key.Nothing front is = rw (b, front) (ap (rows_by s.rows) is)
+    by b None front is = rw (b, front) (ap (rows_by s.rows) is)
 
     at : (b : Bool) → eqb left 0 ≡ b → (go_of s (point.CrashTrapped c left)).rows ≡ rows_by s.rows f
     at true b = rw b (ap (rows_by s.rows) (rw b at is))
     at false b = by b (front_of (keys_at s.keys TRAPPED)) refl (rw b at is)
 
 -- a mark changes none
-logged_rows : (s : State) (t : Table) (l : Logged) → (mark_logged (with_links s t) l).rows ≡ s.rows
+logged_rows : (s : State) (t : Table) (l : Option LogId) → (mark_logged (with_links s t) l).rows ≡ s.rows
 unfolding mark_logged
-logged_rows s t (logged.As id) = refl
-logged_rows s t logged.Never = refl
+logged_rows s t (Some id) = refl
+logged_rows s t None = refl
 
-found_rows : (s : State) (f : Found) → (mark_entry s f).rows ≡ s.rows
-found_rows s (found.Entry e) = logged_rows s (move_first s.links OVER FREE) (message_at s.rows e).id
-found_rows s found.Nothing = refl
+found_rows : (s : State) (f : Option ℕ) → (mark_entry s f).rows ≡ s.rows
+found_rows s (Some e) = logged_rows s (move_first s.links OVER FREE) (message_at s.rows e).id
+found_rows s None = refl
 
 mark_rows : (s : State) (p : Point) → (mark_at s p).rows ≡ s.rows
 unfolding mark_first
@@ -146,34 +138,29 @@ mark_rows s p =
     pick_rule (λ (x : State). x.rows ≡ s.rows) (marks_at p) (λ e. found_rows s (first_of s.links OVER)) (λ e. refl)
 
 -- nor does a retry that is written
-wrote_rows : (s : State) (f : Found) → (retry_entry s f).rows ≡ s.rows
+wrote_rows : (s : State) (f : Option ℕ) → (retry_entry s f).rows ≡ s.rows
 unfolding retry_entry retry_logged
-wrote_rows s (found.Entry e) = at (message_at s.rows e).id
+wrote_rows s (Some e) = at (message_at s.rows e).id
   where
-    at : (l : Logged) → (retry_logged s l (message_at s.rows e).attempts).rows ≡ s.rows
-    at (logged.As id) = refl
-    at logged.Never = refl
-wrote_rows s found.Nothing = refl
+    at : (l : Option LogId) → (retry_logged s l (message_at s.rows e).attempts).rows ≡ s.rows
+    at (Some id) = refl
+    at None = refl
+wrote_rows s None = refl
 
 -- one attempt more is at least one
 capped_some : (n : ℕ) → 0 < capped (n + 1)
-unfolding capped
-capped_some n = at (leb (n + 1) 18446744073709551615) refl
-  where
-    at : (b : Bool) → leb (n + 1) 18446744073709551615 ≡ b → 0 < capped (n + 1)
-    at true b = rw b (omega arith)
-    at false b = rw b (omega arith)
+capped_some n = omega arith
 
 -- ---- with no order there was no room
 
 -- the retry of an open id, of a number that a line says, is written if the messages with it fit into the log
 retry_unwritten : (w : Wal) (ms : List Message) (x n : ℕ) → Stands w ms → 0 < count x (ids_of ms) → 0 < n
-    → n ≤ ATTEMPTS → (retry_of w x n).due ≡ due.Nothing → length w.bytes < length (image (retried x n ms))
+    → n ≤ ATTEMPTS → (retry_of w x n).due ≡ None → length w.bytes < length (image (retried x n ms))
 unfolding retry_of retried_at retry_written counts_tries
 retry_unwritten w ms x n stands there told most idle =
     at (leb (with_tried w x i n).counters.live (length w.bytes)) refl
   where
-    place : (k : ℕ) × (search_row x (open_rows w) ≡ some k)
+    place : (k : ℕ) × (search_row x (open_rows w) ≡ Some k)
     place =
         let found = row_found x w.counters.size w.bytes ms (open_rows w) 0 0 stands.tabled there in
         (found.0, open_finds w ms stands x ∙ found.1)
@@ -194,7 +181,7 @@ retry_unwritten w ms x n stands there told most idle =
 
     ordered : (b : Bool)
         → leb ((with_tried w x i n).counters.size + length (retry_line x n)) (length (with_tried w x i n).bytes) ≡ b
-        → (retry_written (with_tried w x i n) x n).due ≢ due.Nothing
+        → (retry_written (with_tried w x i n) x n).due ≢ None
     ordered true b is = let z : ◌≡◌ {A = ℕ} 0 1 = cc in absurd (omega arith)
     ordered false b is = let z : ◌≡◌ {A = ℕ} 0 1 = cc in absurd (omega arith)
 
@@ -216,11 +203,11 @@ module _ (long : ℕ) (j : disk.LogWorld) (e : ℕ) (id : LogId) (n₀ : ℕ) wh
     no_room : attempts_in s e ≤ ATTEMPTS
         → length j.wal.bytes < length (image (retried id.0 (attempts_in s e) j.now)) → Tells s
     goes_out : attempts_in s e ≤ ATTEMPTS → (o : Order) → s.pool.turn.disk ≡ order.Waits o (orderFor.Retry id)
-        → last_in (view s.links PENDING) ≡ found.Entry e → Tells s
+        → last_in (view s.links PENDING) ≡ Some e → Tells s
 
   -- the entry is the id's own
   abbrev pub Owns : State → Type 0
-  Owns s = (message_at s.rows e).id ≡ logged.As id
+  Owns s = (message_at s.rows e).id ≡ Some id
 
   -- a state whose row of the entry is the same, of one where no order waits
   row_tells : (s s' : State) → s.pool.turn.disk ≡ order.Free → message_at s'.rows e ≡ message_at s.rows e
@@ -234,24 +221,24 @@ module _ (long : ℕ) (j : disk.LogWorld) (e : ℕ) (id : LogId) (n₀ : ℕ) wh
 
   -- what was tried again is written, or there was no room
   module _ (s : State) (free : s.pool.turn.disk ≡ order.Free) (works : Working long j s) (owns : Owns s)
-      (last : last_in (view s.links PENDING) ≡ found.Entry e) (some : 0 < attempts_in s e)
+      (last : last_in (view s.links PENDING) ≡ Some e) (some : 0 < attempts_in s e)
       (few : attempts_in s e ≤ ATTEMPTS) where
     standing : Stands (wal_of s) j.now
     standing = subst (λ v. Stands v j.now) works.wal (log.sound_stands long j works.journal).stands
 
-    abbrev wrote_by : Due → State
+    abbrev wrote_by : Option Order → State
     wrote_by d = retried_in s id (record { wal = (retry_of (wal_of s) id.0 (attempts_in s e)).wal; due = d })
 
-    wrote_tells : (d : Due) → (retry_of (wal_of s) id.0 (attempts_in s e)).due ≡ d → Tells (wrote_by d)
-    wrote_tells (due.Ordered o) is = goes_out few o refl last
-    wrote_tells due.Nothing is =
+    wrote_tells : (d : Option Order) → (retry_of (wal_of s) id.0 (attempts_in s e)).due ≡ d → Tells (wrote_by d)
+    wrote_tells (Some o) is = goes_out few o refl last
+    wrote_tells None is =
         no_room few
         (subst (λ (v : Wal). length v.bytes < length (image (retried id.0 (attempts_in s e) j.now)))
         (sym works.wal)
         (retry_unwritten (wal_of s) j.now id.0 (attempts_in s e) standing
         (last_among long j s free works e last id owns) some few is))
 
-    entry_tells : Tells (retry_entry s (found.Entry e))
+    entry_tells : Tells (retry_entry s (Some e))
     unfolding retry_entry retry_logged
     entry_tells =
         subst (λ l. Tells (retry_logged s l (attempts_in s e))) (sym owns)
@@ -267,19 +254,19 @@ module _ (long : ℕ) (j : disk.LogWorld) (e : ℕ) (id : LogId) (n₀ : ℕ) wh
     stays = ap (λ (a : Aside). a.disk) (go_aside s p) ∙ free
 
     -- no row changed, or another one
-    other_tells : (f : Found) → message_at (go_of s p).rows e ≡ message_at s.rows e
+    other_tells : (f : Option ℕ) → message_at (go_of s p).rows e ≡ message_at s.rows e
         → Tells (retry_entry (go_of s p) f)
     other_tells f row =
         row_tells s (retry_entry (go_of s p) f) free (ap (λ r. message_at r e) (wrote_rows (go_of s p) f) ∙ row) before
 
     -- its own row
-    own_tells : again_at s p ≡ found.Entry e → Tells (retry_entry (go_of s p) (found.Entry e))
+    own_tells : again_at s p ≡ Some e → Tells (retry_entry (go_of s p) (Some e))
     own_tells is = at (dec_lt e (length s.rows))
       where
         rows : (go_of s p).rows ≡ tried_in s.rows e
-        rows = go_rows s p (found.Entry e) works.sound.good is
+        rows = go_rows s p (Some e) works.sound.good is
 
-        at : Dec (e < length s.rows) → Tells (retry_entry (go_of s p) (found.Entry e))
+        at : Dec (e < length s.rows) → Tells (retry_entry (go_of s p) (Some e))
         at (yes inside) =
             let row : message_at (go_of s p).rows e ≡ tried_of (message_at s.rows e) =
             ap (λ r. message_at r e) rows ∙ message_put s.rows e (tried_of (message_at s.rows e)) inside in
@@ -292,26 +279,26 @@ module _ (long : ℕ) (j : disk.LogWorld) (e : ℕ) (id : LogId) (n₀ : ℕ) wh
               one_more (message_at s.rows e).attempts (again_few s within e p at-is is),
             ))
         at (no outside) =
-            other_tells (found.Entry e)
+            other_tells (Some e)
             (ap (λ r. message_at r e) (rows ∙ row_past s.rows e (tried_of (message_at s.rows e)) (omega arith)))
 
     ran_tells : Tells (ran_of s p)
     unfolding ran_of
     ran_tells = go (again_at s p) refl
       where
-        go : (f : Found) → again_at s p ≡ f → Tells (retry_entry (go_of s p) (again_at s p))
-        go found.Nothing is =
+        go : (f : Option ℕ) → again_at s p ≡ f → Tells (retry_entry (go_of s p) (again_at s p))
+        go None is =
             other_tells (again_at s p)
-            (ap (λ r. message_at r e) (go_rows s p found.Nothing works.sound.good is))
-        go (found.Entry k) is = at (ℕ_discrete k e)
+            (ap (λ r. message_at r e) (go_rows s p None works.sound.good is))
+        go (Some k) is = at (ℕ_discrete k e)
           where
             at : Dec (k ≡ e) → Tells (retry_entry (go_of s p) (again_at s p))
             at (yes same) =
-                let own : again_at s p ≡ found.Entry e = is ∙ ap found.Entry same in
+                let own : again_at s p ≡ Some e = is ∙ ap Some same in
                 subst (λ f. Tells (retry_entry (go_of s p) f)) (sym own) (own_tells own)
             at (no other) =
                 other_tells (again_at s p)
-                (ap (λ r. message_at r e) (go_rows s p (found.Entry k) works.sound.good is)
+                (ap (λ r. message_at r e) (go_rows s p (Some k) works.sound.good is)
                 ∙ message_other s.rows k (tried_of (message_at s.rows k)) e (λ z. other (sym z)))
 
   -- ---- a step, and a run
@@ -366,8 +353,8 @@ module _ (long : ℕ) (j : disk.LogWorld) (e : ℕ) (id : LogId) (n₀ : ℕ) wh
     goes_tells : Tells (go_free marked p)
     goes_tells =
         pick_rule Tells (is_free marked.pool.turn.disk)
-        (λ is. let none = free_is marked.pool.turn.disk is in
-        ran_tells marked p ((mark_stays s p).0 ∙ at-is) none (marked_works none) (marked_in s p h.within)
+        (λ is. let None = free_is marked.pool.turn.disk is in
+        ran_tells marked p ((mark_stays s p).0 ∙ at-is) None (marked_works None) (marked_in s p h.within)
         marked_owns marked_tells)
         (λ is. marked_tells)
 

@@ -1,4 +1,6 @@
 -- A message whose attempts a call changed: the log has them then, or had no room for them. Assumes nothing.
+use Rattle.std.specs.Prelude.{Option, Some, None, Ok, Err, Result}
+use Rattle.actor.specs.declared.message.CallerId.{CallerId}
 use mathlib.Core.Path.{◌≡◌, refl, sym, ap, ◌∙◌, subst}
 use mathlib.Core.Bool.{Bool, true, false, false≢true, ◌&&◌}
 use mathlib.Core.Logic.{inl, inr, ◌≢◌}
@@ -10,20 +12,15 @@ use borrow.Author.Tests.{eqb-true}
 use lib.Dec.{eqb}
 use lib.ListN.{length}
 use Rattle.text.specs.Format.{Message}
-use Rattle.lists.specs.declared.Found.TheVariants as found
 use Rattle.lists.specs.Links.{FREE, INBOX, PENDING, HAND}
 use Rattle.lists.specs.Family.{count, view}
 use Rattle.message_log.specs.declared.LogId.{LogId}
 use Rattle.message_log.specs.declared.Order.{Order}
 use Rattle.message_log.specs.Opening.{tried_times, retried, image}
-use Rattle.message_log.specs.declared.Answer as of-log
-use Rattle.message_log.specs.declared.Answer.TheVariants as answered-by-log
+use Rattle.message_log.specs.declared.Refusal as of-log
 use Rattle.message_log.specs.Log.{append_of}
 use Rattle.message_log.specs.Recovery as disk
-use Rattle.actor.specs.declared.message.Caller.{Caller}
-use Rattle.actor.specs.declared.message.Caller.TheVariants as caller
 use Rattle.actor.specs.declared.question.Reply.{Reply}
-use Rattle.actor.specs.declared.message.Logged.TheVariants as logged
 use Rattle.actor.specs.Messages.{message_at}
 use Rattle.actor.specs.Entry.{Arrival, keep_of}
 use Rattle.points.specs.declared.at.At.{At}
@@ -39,12 +36,11 @@ use Rattle.turn.specs.declared.state.Limits.{Limits}
 use Rattle.answers.specs.declared.answer.Refusal.{Refusal}
 use Rattle.answers.specs.declared.answer.Answer.{Answer}
 use Rattle.answers.specs.declared.answer.Answer.TheVariants as answer
-use Rattle.answers.specs.declared.refusals.Check.TheVariants as check
 use Rattle.answers.specs.Answers.{Did, log_refusal, refused, shown, messages_in, kept}
 use Rattle.answers.specs.Refusals.{judged, in_turn, is_message, no_entry_free, admit_refusals, turn_refusals, reply_refusals}
 use Rattle.answers.specs.Refusals.{sync_refusals, close_refusals}
-use Rattle.pool.specs.declared.calls.StoredIn.{StoredIn}
-use Rattle.pool.specs.declared.calls.StoredIn.TheVariants as stored
+use Rattle.pool.specs.Stored.{StoredIn}
+use Rattle.pool.specs.Stored as stored
 use Rattle.pool.specs.Run.{run_of}
 use Rattle.pool.specs.Admit as one
 use Rattle.pool.specs.Calls as pool
@@ -105,7 +101,7 @@ module _ (w : World) (c : Call) where
   -- as `CallRetries`, of any answer
   abbrev Writes : Did → Type 0
   Writes d = (e : ℕ) (id : LogId) → count e (view w.state.links FREE) ≡ 0
-      → (message_at w.state.rows e).id ≡ logged.As id → attempts_in d.state e ≢ attempts_in w.state e
+      → (message_at w.state.rows e).id ≡ Some id → attempts_in d.state e ≢ attempts_in w.state e
       → Noted w (now_by d.state) id.0 (attempts_in d.state e)
 
   -- the rows of those that were not free are as they were
@@ -118,7 +114,7 @@ module _ (w : World) (c : Call) where
   module _ (long : ℕ) (own : Marking w c) (s : State) (j : disk.LogWorld) (now : j.now ≡ w.journal.now)
       (rows : s.rows ≡ w.state.rows) (bytes : s.bytes ≡ w.state.bytes) (from : answered w.journal c ≡ j)
       (free : s.pool.turn.disk ≡ order.Free) (works : Working long j s) (within : InGroups s) where
-    module _ (e : ℕ) (id : LogId) (owns : (message_at w.state.rows e).id ≡ logged.As id)
+    module _ (e : ℕ) (id : LogId) (owns : (message_at w.state.rows e).id ≡ Some id)
         (changed : attempts_in (advanced s) e ≢ attempts_in w.state e) where
       abbrev end : State
       end = advanced s
@@ -130,7 +126,7 @@ module _ (w : World) (c : Call) where
       retry_says : (o : Order) (for : OrderFor) (l : LastTried end j.now)
           → end.pool.turn.disk ≡ order.Waits o for
           → Working long (retried_as j end o l.id (message_at end.rows l.entry).attempts) end
-          → last_in (view end.links PENDING) ≡ found.Entry e → (message_at end.rows e).id ≡ logged.As id
+          → last_in (view end.links PENDING) ≡ Some e → (message_at end.rows e).id ≡ Some id
           → Says (now_by end) id.0 (attempts_in end e)
       unfolding disk.issue
       retry_says o for l waits then last ends =
@@ -147,7 +143,7 @@ module _ (w : World) (c : Call) where
           (subst (λ k. Says (retried l.id.0 n j.now) l.id.0 (attempts_in end k)) same
           (retried_says l.id.0 n j.now l.among)))
 
-      by : Runs long j end → (message_at end.rows e).id ≡ logged.As id
+      by : Runs long j end → (message_at end.rows e).id ≡ Some id
           → Tells long j e id (attempts_in w.state e) end → Written
       by runs ends (as_before is) = absurd (changed is)
       by runs ends (no_room few more) = (
@@ -239,30 +235,30 @@ module _ (long : ℕ) (limits : Limits) (w : World) (steady : Steady long limits
       (λ fine. rest_writes close (with_pool s (closed_pool s.pool)) refl)
 
   module _ (name body : List ℕ) where
-    admitted_writes : (who : Caller) → judged (admit_refusals s name body who) ≡ check.Fine
+    admitted_writes : (who : Option CallerId) → judged (admit_refusals s name body who) ≡ Ok tt
         → Writes w (admit name body who) (one.admit_effect s name body who)
     unfolding one.admit_called one.admit_logged one.recorded_by
-    admitted_writes (caller.From who) fine =
-        comes_writes (admit name body (caller.From who)) INBOX not_mailbox_inbox (omega arith)
-        (fine_check s name body (caller.From who) fine).room
-        (record { name = name; body = body; caller = caller.From who; id = logged.Never })
-        (kept s (record { name = name; body = body; caller = caller.From who; id = logged.Never }) INBOX) refl
-    admitted_writes caller.Nobody fine = by (append_of (wal_of s) name body).answer
+    admitted_writes (Some who) fine =
+        comes_writes (admit name body (Some who)) INBOX not_mailbox_inbox (omega arith)
+        (fine_check s name body (Some who) fine).room
+        (record { name = name; body = body; caller = Some who; id = None })
+        (kept s (record { name = name; body = body; caller = Some who; id = None }) INBOX) refl
+    admitted_writes None fine = by (append_of (wal_of s) name body).answer
       where
-        by : (a : of-log.Answer)
-            → Writes w (admit name body caller.Nobody) (one.recorded_in s name body (append_of (wal_of s) name body) a)
-        by (answered-by-log.Ordered o) =
-            comes_writes (admit name body caller.Nobody) INBOX not_mailbox_inbox (omega arith)
-            (fine_check s name body caller.Nobody fine).room
-            (record { name = name; body = body; caller = caller.Nobody; id = logged.As (one.next_id s) })
+        by : (a : Result Order of-log.Refusal)
+            → Writes w (admit name body None) (one.recorded_in s name body (append_of (wal_of s) name body) a)
+        by (Ok o) =
+            comes_writes (admit name body None) INBOX not_mailbox_inbox (omega arith)
+            (fine_check s name body None fine).room
+            (record { name = name; body = body; caller = None; id = Some (one.next_id s) })
             (kept (one.recorded s (append_of (wal_of s) name body) o)
-            (record { name = name; body = body; caller = caller.Nobody; id = logged.As (one.next_id s) }) INBOX) refl
-        by (answered-by-log.Refused r) =
-            still_writes w (admit name body caller.Nobody)
+            (record { name = name; body = body; caller = None; id = Some (one.next_id s) }) INBOX) refl
+        by (Err r) =
+            still_writes w (admit name body None)
             (with_log s (append_of (wal_of s) name body).wal.bytes (append_of (wal_of s) name body).wal.table)
             (answer.Refused (log_refusal r)) (λ e busy. refl)
 
-    admit_writes : (who : Caller) → Writes w (admit name body who) (call_of s (admit name body who))
+    admit_writes : (who : Option CallerId) → Writes w (admit name body who) (call_of s (admit name body who))
     unfolding call_of one.admit_of
     admit_writes who =
         table_rule (Writes w (admit name body who)) s (judged (admit_refusals s name body who)) _
@@ -291,8 +287,8 @@ module _ (long : ℕ) (limits : Limits) (w : World) (steady : Steady long limits
           pick_rule (Writes w c) (is_message r)
           (λ e. comes_writes c PENDING not_mailbox_pending (omega arith)
           (subst (λ b. (b && no_entry_free s.links) ≡ false) e room)
-          (record { name = name; body = body; caller = caller.Nobody; id = logged.Never })
-          (kept s (record { name = name; body = body; caller = caller.Nobody; id = logged.Never }) PENDING) refl)
+          (record { name = name; body = body; caller = None; id = None })
+          (kept s (record { name = name; body = body; caller = None; id = None }) PENDING) refl)
           (λ e. let aside = resumed_aside s r in
           run_writes w c long (replying long limits w steady r name body) (resume_at s r) w.journal refl
           (resumed_rows s r) (ap (λ (a : Aside). a.wal.bytes) aside)

@@ -1,24 +1,17 @@
 -- Seeding, taking in and routing keep every message in a place, and lead to no step of an actor. Assumes nothing.
+use Rattle.std.specs.Prelude.{Option, Some, None, Bool, true, false}
 use mathlib.Core.Bool.{Bool, true, false}
 use mathlib.Core.List.{List}
 use Prim.Native.Nat.{ℕ, ◌+◌, ◌-◌}
 use native.Mathlib.Omega.{arith}
 use lib.Dec.{eqb, ltb, leb}
-use Rattle.lists.specs.declared.Found.{Found}
-use Rattle.lists.specs.declared.Found.TheVariants as found
-use Rattle.lists.specs.declared.keys.Key.{Key}
-use Rattle.lists.specs.declared.keys.Key.TheVariants as key
 use Rattle.lists.specs.Links.{Table, len_of, capped, first_of, move_first, INBOX, PENDING, BATCH}
 use Rattle.actor.specs.declared.question.Reply.{Reply}
-use Rattle.actor.specs.declared.question.YesIn.{YesIn}
-use Rattle.actor.specs.declared.question.YesIn.TheVariants as yes
 use Rattle.actor.specs.Questions.{yes_in}
 use Rattle.actor.specs.Messages.{message_at}
 use Rattle.points.specs.declared.at.At.TheVariants as at
 use Rattle.points.specs.declared.at.Ask.TheVariants as asks
 use Rattle.points.specs.declared.at.Point.TheVariants as point
-use Rattle.group.specs.declared.settings.Named.{Named}
-use Rattle.group.specs.declared.settings.Named.TheVariants as named
 use Rattle.group.specs.Settings.{group_at, by_name}
 use Rattle.group.specs.Roster.{slot_at, live_len, spawn_of, pop_idle_of, least_of}
 use Rattle.route.specs.Seed.{Seeded, seed_of, seed_booted, seed_by, seed_reply}
@@ -53,10 +46,10 @@ unfolding seed_booted
 booted_between keys actors g true = omega arith
 booted_between keys actors g false = omega arith
 
-seed_by_between : (keys actors : Table) (g : ℕ) (y : YesIn) → BetweenSteps (seed_by keys actors g y).at
-seed_by_between keys actors g yes.Yes = booted_between keys actors g true
-seed_by_between keys actors g yes.No = booted_between keys actors g false
-seed_by_between keys actors g yes.Other = omega arith
+seed_by_between : (keys actors : Table) (g : ℕ) (y : Option Bool) → BetweenSteps (seed_by keys actors g y).at
+seed_by_between keys actors g (Some true) = booted_between keys actors g true
+seed_by_between keys actors g (Some false) = booted_between keys actors g false
+seed_by_between keys actors g None = omega arith
 
 pub seed_reply_between : (keys actors : Table) (g : ℕ) (r : Reply) → BetweenSteps (seed_reply keys actors g r).at
 unfolding seed_reply
@@ -109,18 +102,18 @@ pub record Routes (t rows : Table) (q left : ℕ) (P : RoutedTables → Type 0) 
 
 -- what holds of these four holds of every way through routing
 module _ (t rows : Table) (q left : ℕ) (P : RoutedTables → Type 0) (ways : Routes t rows q left P) where
-  by_key : (keys actors : Table) (g : ℕ) (k : Key) → P (to.deliver_key rows (turn_tables t keys actors q) g k left)
+  by_key : (keys actors : Table) (g : ℕ) (k : Option ℕ) → P (to.deliver_key rows (turn_tables t keys actors q) g k left)
   unfolding to.deliver_key
-  by_key keys actors g (key.At k) = ways.sent keys actors g k
-  by_key keys actors g key.Nothing = ways.over keys actors
+  by_key keys actors g (Some k) = ways.sent keys actors g k
+  by_key keys actors g None = ways.over keys actors
 
   by_least : (keys actors : Table) (g : ℕ) → P (to.route_least rows (turn_tables t keys actors q) g left)
   unfolding to.route_least
   by_least keys actors g = by_key keys actors g (least_of keys t g)
 
-  by_spawned : (g : ℕ) (keys actors : Table) (k : Key) → P (to.spawned_sent rows (turn_tables t keys actors q) g left k)
-  by_spawned g keys actors (key.At k) = ways.sent keys actors g k
-  by_spawned g keys actors key.Nothing = by_least keys actors g
+  by_spawned : (g : ℕ) (keys actors : Table) (k : Option ℕ) → P (to.spawned_sent rows (turn_tables t keys actors q) g left k)
+  by_spawned g keys actors (Some k) = ways.sent keys actors g k
+  by_spawned g keys actors None = by_least keys actors g
 
   by_spawn : (keys actors : Table) (g : ℕ) (eval : Bool)
       → P (to.route_spawned rows (turn_tables t keys actors q) g eval left)
@@ -134,28 +127,28 @@ module _ (t rows : Table) (q left : ℕ) (P : RoutedTables → Type 0) (ways : R
       (λ e. pick_rule P (group_at groups g).eval (λ e. by_spawn keys actors g true) (λ e. ways.asks keys actors g))
       (λ e. by_least keys actors g)
 
-  by_idle : (groups keys actors : Table) (g : ℕ) (k : Key)
+  by_idle : (groups keys actors : Table) (g : ℕ) (k : Option ℕ)
       → P (to.idle_else (turn_tables t keys actors q) g left k
       (to.route_new groups rows (turn_tables t keys actors q) g left))
-  by_idle groups keys actors g (key.At k) = ways.sent keys actors g k
-  by_idle groups keys actors g key.Nothing = by_new groups keys actors g
+  by_idle groups keys actors g (Some k) = ways.sent keys actors g k
+  by_idle groups keys actors g None = by_new groups keys actors g
 
   by_group : (groups keys actors : Table) (g : ℕ) → P (to.pick_of groups rows (turn_tables t keys actors q) g left)
   unfolding to.pick_of
   by_group groups keys actors g = by_idle groups (pop_idle_of keys actors g).keys actors g (pop_idle_of keys actors g
       ).key
 
-  by_named : (groups keys actors : Table) (n : Named)
+  by_named : (groups keys actors : Table) (n : Option ℕ)
       → P (to.route_named groups rows (turn_tables t keys actors q) left n)
-  by_named groups keys actors (named.Group g) = by_group groups keys actors g
-  by_named groups keys actors named.Nothing = ways.over keys actors
+  by_named groups keys actors (Some g) = by_group groups keys actors g
+  by_named groups keys actors None = ways.over keys actors
 
-  by_first : (groups : Table) (count : ℕ) (store : List ℕ) (keys actors : Table) (f : Found)
+  by_first : (groups : Table) (count : ℕ) (store : List ℕ) (keys actors : Table) (f : Option ℕ)
       → P (to.route_first (programs groups count store) rows (turn_tables t keys actors q) left f)
   unfolding to.route_one
-  by_first groups count store keys actors (found.Entry e) = by_named groups keys actors (by_name groups store e
+  by_first groups count store keys actors (Some e) = by_named groups keys actors (by_name groups store e
       (message_at rows e).name_len count)
-  by_first groups count store keys actors found.Nothing = ways.done keys actors
+  by_first groups count store keys actors None = ways.done keys actors
 
   pub route_rule : (groups : Table) (count : ℕ) (store : List ℕ) (keys actors : Table)
       → P (route_of (programs groups count store) rows (turn_tables t keys actors q) left)
@@ -169,10 +162,10 @@ module _ (t rows : Table) (q left : ℕ) (P : RoutedTables → Type 0) (ways : R
   by_boot keys actors g true = by_spawn keys actors g false
   by_boot keys actors g false = by_least keys actors g
 
-  by_reply : (keys actors : Table) (g : ℕ) (y : YesIn) → P (to.route_by rows (turn_tables t keys actors q) g left y)
-  by_reply keys actors g yes.Yes = by_boot keys actors g true
-  by_reply keys actors g yes.No = by_boot keys actors g false
-  by_reply keys actors g yes.Other = ways.asks keys actors g
+  by_reply : (keys actors : Table) (g : ℕ) (y : Option Bool) → P (to.route_by rows (turn_tables t keys actors q) g left y)
+  by_reply keys actors g (Some true) = by_boot keys actors g true
+  by_reply keys actors g (Some false) = by_boot keys actors g false
+  by_reply keys actors g None = ways.asks keys actors g
 
   pub reply_rule : (keys actors : Table) (g : ℕ) (r : Reply)
       → P (route_reply rows (turn_tables t keys actors q) g left r)

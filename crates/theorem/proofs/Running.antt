@@ -1,5 +1,6 @@
 -- A turn that runs: no order goes out, or one, the mark or the retry of a message that was logged and not done. Assumes
 -- nothing.
+use Rattle.std.specs.Prelude.{Option, Some, None}
 use mathlib.Core.Path.{◌≡◌, refl, sym, ap, ◌∙◌, subst}
 use mathlib.Core.Bool.{Bool, true, false, false≢true, ◌&&◌}
 use mathlib.Core.List.{List, [], ◌∷◌}
@@ -9,8 +10,6 @@ use native.Mathlib.Decide.{ℕ_discrete}
 use borrow.Author.Tests.{eqb-false, eq-eqb, leb-true, ltb-true}
 use lib.Dec.{eqb, leb, ltb}
 use lib.ListN.{drop}
-use Rattle.lists.specs.declared.Found.{Found}
-use Rattle.lists.specs.declared.Found.TheVariants as found
 use Rattle.text.specs.Format.{ATTEMPTS, Message}
 use Rattle.lists.specs.Links.{pick, FREE, Table, len_of, head_of, first_of, move_first, PENDING, OVER}
 use Rattle.lists.specs.Family.{count, view}
@@ -18,8 +17,6 @@ use Rattle.lists.proofs.Counts.{count_same, count_other, total_one}
 use Rattle.lists.proofs.Family.{nowhere_else}
 use Rattle.message_log.specs.declared.LogId.{LogId}
 use Rattle.message_log.specs.declared.Order.{Order}
-use Rattle.message_log.specs.declared.Due.{Due}
-use Rattle.message_log.specs.declared.Due.TheVariants as due
 use Rattle.message_log.specs.Opening.{remove, retried}
 use Rattle.message_log.specs.Log.{Wal, DidMark, mark_of, counts_tries, retry_of}
 use Rattle.message_log.specs.Stands.{Stands}
@@ -27,8 +24,6 @@ use Rattle.message_log.specs.Recovery as disk
 use Rattle.message_log.proofs.RecoveryLaws as log
 use Rattle.message_log.proofs.Recovery.{call_tail, call_idle}
 use Rattle.message_log.proofs.OpeningLaws.{and_left, and_right}
-use Rattle.actor.specs.declared.message.Logged.{Logged}
-use Rattle.actor.specs.declared.message.Logged.TheVariants as logged
 use Rattle.actor.specs.Messages.{message_at}
 use Rattle.points.specs.declared.at.At.{At}
 use Rattle.points.specs.declared.at.At.TheVariants as at
@@ -100,29 +95,29 @@ go_aside s (point.CrashTrapped c left) = refl
 abbrev pub Stays : State → State → Type 0
 Stays s s' = (s'.pool.turn.at ≡ s.pool.turn.at) × (lasting_of s' ≡ lasting_of s)
 
-logged_stays : (s : State) (t : Table) (l : Logged) → Stays s (mark_logged (with_links s t) l)
+logged_stays : (s : State) (t : Table) (l : Option LogId) → Stays s (mark_logged (with_links s t) l)
 unfolding mark_logged
-logged_stays s t (logged.As id) = (refl, refl)
-logged_stays s t logged.Never = (refl, refl)
+logged_stays s t (Some id) = (refl, refl)
+logged_stays s t None = (refl, refl)
 
-found_stays : (s : State) (f : Found) → Stays s (mark_entry s f)
-found_stays s (found.Entry e) = logged_stays s (move_first s.links OVER FREE) (message_at s.rows e).id
-found_stays s found.Nothing = (refl, refl)
+found_stays : (s : State) (f : Option ℕ) → Stays s (mark_entry s f)
+found_stays s (Some e) = logged_stays s (move_first s.links OVER FREE) (message_at s.rows e).id
+found_stays s None = (refl, refl)
 
 pub mark_stays : (s : State) (p : Point) → Stays s (mark_at s p)
 unfolding mark_first
 mark_stays s p = pick_rule (Stays s) (marks_at p) (λ e. found_stays s (first_of s.links OVER)) (λ e. (refl, refl))
 
 -- nor what is tried again and written
-retried_stays : (s : State) (l : Logged) (n : ℕ) → Stays s (retry_logged s l n)
+retried_stays : (s : State) (l : Option LogId) (n : ℕ) → Stays s (retry_logged s l n)
 unfolding retry_logged
-retried_stays s (logged.As id) n = (refl, refl)
-retried_stays s logged.Never n = (refl, refl)
+retried_stays s (Some id) n = (refl, refl)
+retried_stays s None n = (refl, refl)
 
-entry_stays : (s : State) (f : Found) → Stays s (retry_entry s f)
+entry_stays : (s : State) (f : Option ℕ) → Stays s (retry_entry s f)
 unfolding retry_entry
-entry_stays s (found.Entry e) = retried_stays s (message_at s.rows e).id (message_at s.rows e).attempts
-entry_stays s found.Nothing = (refl, refl)
+entry_stays s (Some e) = retried_stays s (message_at s.rows e).id (message_at s.rows e).attempts
+entry_stays s None = (refl, refl)
 
 pub ran_stays : (s : State) (p : Point) → Stays (go_of s p) (ran_of s p)
 unfolding ran_of
@@ -217,7 +212,7 @@ module _ (long : ℕ) (j : disk.LogWorld) (s : State) (free : s.pool.turn.disk �
         (message_at s.rows (head_of s.links OVER)).id
     gone = goes s.links s.rows s.pool.turn.counts.queued works.sound some
 
-    less : (l : Logged) → (message_at s.rows (head_of s.links OVER)).id ≡ l → (x : ℕ)
+    less : (l : Option LogId) → (message_at s.rows (head_of s.links OVER)).id ≡ l → (x : ℕ)
         → stands x freed.links s.rows + pick (is_id x l) 1 0 ≡ stands x s.links s.rows
     less l is x = rw is at (gone.less x)
 
@@ -232,12 +227,12 @@ module _ (long : ℕ) (j : disk.LogWorld) (s : State) (free : s.pool.turn.disk �
     }
 
     -- it was logged: it was not done, and its mark goes out
-    module _ (id : LogId) (is : (message_at s.rows (head_of s.links OVER)).id ≡ logged.As id) where
+    module _ (id : LogId) (is : (message_at s.rows (head_of s.links OVER)).id ≡ Some id) where
       abbrev did : DidMark
       did = mark_of limit (wal_of s) id.0
 
       there : 0 < count id.0 (ids_of j.now)
-      there = omega (arith, works.ids id.0, rw (eq-eqb id.0 id.0 refl) at (less (logged.As id) is id.0))
+      there = omega (arith, works.ids id.0, rw (eq-eqb id.0 id.0 refl) at (less (Some id) is id.0))
 
       out : GoesOut s.pool.turn.counters.next did
       out = mark_goes limit (wal_of s) j.now id.0 standing there
@@ -245,16 +240,16 @@ module _ (long : ℕ) (j : disk.LogWorld) (s : State) (free : s.pool.turn.disk �
       journal : log.Sound long (disk.issue j did.wal (remove id.0 j.now) (disk.sent did.wal.bytes
           out.order))
       journal =
-          subst (λ v. (mark_of limit v id.0).due ≡ due.Ordered out.order
+          subst (λ v. (mark_of limit v id.0).due ≡ Some out.order
           → log.Sound long (disk.issue j (mark_of limit v id.0).wal (remove id.0 j.now)
           (disk.sent (mark_of limit v id.0).wal.bytes out.order)))
           works.wal (mark_sound long limit j id.0 out.order settles works.journal) out.due_is
 
-      abbrev marked_by : Due → State
+      abbrev marked_by : Option Order → State
       marked_by d = marked freed id (record { wal = did.wal; due = d })
 
       abbrev off : State
-      off = marked_by (due.Ordered out.order)
+      off = marked_by (Some out.order)
 
       stopped : Working long (marked_off j off out.order id) off
       unfolding disk.issue
@@ -262,7 +257,7 @@ module _ (long : ℕ) (j : disk.LogWorld) (s : State) (free : s.pool.turn.disk �
         sound = gone.sound;
         ids = λ x. omega (
           arith,
-          less (logged.As id) is x,
+          less (Some id) is x,
           works.ids x,
           ids_marked id.0 s.pool.turn.counters.next 0 j.now standing.rising there x,
         );
@@ -286,13 +281,13 @@ module _ (long : ℕ) (j : disk.LogWorld) (s : State) (free : s.pool.turn.disk �
           (marks out.order id refl there (out.next_is ∙ sym (ap (λ v. v.counters.next) works.wal)) tail
           stopped)
 
-    by_id : (l : Logged) → (message_at s.rows (head_of s.links OVER)).id ≡ l → Runs long j (mark_logged freed l)
+    by_id : (l : Option LogId) → (message_at s.rows (head_of s.links OVER)).id ≡ l → Runs long j (mark_logged freed l)
     unfolding mark_logged
-    by_id (logged.As id) is = marks_it id is
-    by_id logged.Never is =
+    by_id (Some id) is = marks_it id is
+    by_id None is =
         still free (record {
           sound = gone.sound;
-          ids = λ x. omega (arith, less logged.Never is x, works.ids x);
+          ids = λ x. omega (arith, less None is x, works.ids x);
           ok = ok;
           lives = lives.lives;
           here = lives.ok;
@@ -305,7 +300,7 @@ module _ (long : ℕ) (j : disk.LogWorld) (s : State) (free : s.pool.turn.disk �
   first_runs : Runs long j (mark_first s)
   unfolding mark_first
   first_runs =
-      pick_rule (λ (f : Found). Runs long j (mark_entry s f)) (eqb (len_of s.links OVER) 0) (λ e. still free works)
+      pick_rule (λ (f : Option ℕ). Runs long j (mark_entry s f)) (eqb (len_of s.links OVER) 0) (λ e. still free works)
       (λ e. by_id (omega (arith, eqb-false (len_of s.links OVER) 0 e))
       (message_at s.rows (head_of s.links OVER)).id refl)
 
@@ -316,7 +311,7 @@ module _ (long : ℕ) (j : disk.LogWorld) (s : State) (free : s.pool.turn.disk �
 
 -- the journal after a retry whose order goes out
 retry_sound : (long : ℕ) (j : disk.LogWorld) (x n : ℕ) (o : Order) → j.disk.status ≡ disk.settled
-    → log.Sound long j → (retry_of j.wal x n).due ≡ due.Ordered o
+    → log.Sound long j → (retry_of j.wal x n).due ≡ Some o
     → log.Sound long (disk.issue j (retry_of j.wal x n).wal (retried x n j.now)
     (disk.sent (retry_of j.wal x n).wal.bytes o))
 unfolding disk.step_log disk.called disk.did_call disk.call_effect
@@ -334,12 +329,12 @@ unfolding disk.did_call
 retry_tail w ms x n stands = call_tail 0 w ms (disk.retry x n) stands
 
 -- with no order the log is as it was
-retry_idle : (w : Wal) (x n : ℕ) → (retry_of w x n).due ≡ due.Nothing → (retry_of w x n).wal ≡ w
+retry_idle : (w : Wal) (x n : ℕ) → (retry_of w x n).due ≡ None → (retry_of w x n).wal ≡ w
 unfolding disk.did_call
 retry_idle w x n is = call_idle 0 w (disk.retry x n) (ap disk.ordered_due is)
 
 -- the last of some entries is one of them
-last_there : (es : List ℕ) (e : ℕ) → last_in es ≡ found.Entry e → 0 < count e es
+last_there : (es : List ℕ) (e : ℕ) → last_in es ≡ Some e → 0 < count e es
 unfolding last_in
 last_there [] e is = let z : ◌≡◌ {A = ℕ} 0 1 = cc in absurd (omega arith)
 last_there (x ∷ []) e is = let same : x ≡ e = cc in omega (arith, count_same e x [] same)
@@ -350,7 +345,7 @@ last_there (x ∷ y ∷ es) e is = at (ℕ_discrete x e) (last_there (y ∷ es) 
     at (no p) later = omega (arith, count_other e x (y ∷ es) p)
 
 -- an entry with a log id in a list: the id stands there
-id_there : (x : ℕ) (rows : Table) (e : ℕ) (id : LogId) → (message_at rows e).id ≡ logged.As id → x ≡ id.0 → (es : List ℕ)
+id_there : (x : ℕ) (rows : Table) (e : ℕ) (id : LogId) → (message_at rows e).id ≡ Some id → x ≡ id.0 → (es : List ℕ)
     → 0 < count e es → 0 < id_count x rows es
 unfolding id_count count
 id_there x rows e id own is [] there = there
@@ -358,12 +353,12 @@ id_there x rows e id own is (k ∷ es) there = at (ℕ_discrete k e) (id_there x
   where
     at : Dec (k ≡ e) → (0 < count e es → 0 < id_count x rows es) → 0 < id_count x rows (k ∷ es)
     at (yes p) later =
-        let here : (message_at rows k).id ≡ logged.As id = ap (λ y. (message_at rows y).id) p ∙ own in
+        let here : (message_at rows k).id ≡ Some id = ap (λ y. (message_at rows y).id) p ∙ own in
         rw here (rw (eq-eqb id.0 x (sym is)) (omega arith))
     at (no p) later = omega (arith, later (omega (arith, count_other e k es p)))
 
 module _ (long : ℕ) (j : disk.LogWorld) (s : State) (free : s.pool.turn.disk ≡ order.Free) (works : Working long j s)
-    (e : ℕ) (last : last_in (view s.links PENDING) ≡ found.Entry e) where
+    (e : ℕ) (last : last_in (view s.links PENDING) ≡ Some e) where
   abbrev n : ℕ
   n = (message_at s.rows e).attempts
 
@@ -379,7 +374,7 @@ module _ (long : ℕ) (j : disk.LogWorld) (s : State) (free : s.pool.turn.disk �
   not_free : count e (view s.links FREE) ≡ 0
   not_free = nowhere_else s.links works.sound.good e PENDING FREE (omega arith) in_pending (λ z. omega arith)
 
-  module _ (id : LogId) (own : (message_at s.rows e).id ≡ logged.As id) where
+  module _ (id : LogId) (own : (message_at s.rows e).id ≡ Some id) where
     abbrev written : DidMark
     written = retry_of (wal_of s) id.0 n
 
@@ -394,11 +389,11 @@ module _ (long : ℕ) (j : disk.LogWorld) (s : State) (free : s.pool.turn.disk �
               (id_none id.0 s.rows),
         )
 
-    abbrev wrote_by : Due → State
+    abbrev wrote_by : Option Order → State
     wrote_by d = retried_in s id (record { wal = written.wal; due = d })
 
     -- its order goes out
-    module _ (o : Order) (goes : written.due ≡ due.Ordered o) where
+    module _ (o : Order) (goes : written.due ≡ Some o) where
       counts : counts_tries n ≡ true
       unfolding retry_of
       counts = at (counts_tries n) refl
@@ -408,7 +403,7 @@ module _ (long : ℕ) (j : disk.LogWorld) (s : State) (free : s.pool.turn.disk �
           at false c = let z : ◌≡◌ {A = ℕ} 0 1 = cc goes in absurd (omega arith)
 
       abbrev wrote : State
-      wrote = wrote_by (due.Ordered o)
+      wrote = wrote_by (Some o)
 
       lasts : LastTried wrote j.now
       unfolding counts_tries
@@ -425,7 +420,7 @@ module _ (long : ℕ) (j : disk.LogWorld) (s : State) (free : s.pool.turn.disk �
       journal_is : log.Sound long
           (disk.issue j written.wal (retried id.0 n j.now) (disk.sent written.wal.bytes o))
       journal_is =
-          subst (λ v. (retry_of v id.0 n).due ≡ due.Ordered o
+          subst (λ v. (retry_of v id.0 n).due ≡ Some o
           → log.Sound long (disk.issue j (retry_of v id.0 n).wal (retried id.0 n j.now)
           (disk.sent (retry_of v id.0 n).wal.bytes o)))
           works.wal (retry_sound long j id.0 n o retry_settles works.journal) goes
@@ -456,28 +451,28 @@ module _ (long : ℕ) (j : disk.LogWorld) (s : State) (free : s.pool.turn.disk �
           (retry_next (wal_of s) id.0 n ∙ sym (ap (λ v. v.counters.next) works.wal)) wrote_tail stopped_works
 
     -- it has none: nothing changed
-    unwritten : written.due ≡ due.Nothing → wrote_by due.Nothing ≡ s
+    unwritten : written.due ≡ None → wrote_by None ≡ s
     unwritten none =
         let same : written.wal ≡ wal_of s = retry_idle (wal_of s) id.0 n none in
-        ap (λ (v : Wal). retried_in s id (record { wal = v; due = due.Nothing })) same
+        ap (λ (v : Wal). retried_in s id (record { wal = v; due = None })) same
         ∙ ap (λ d. with_pool s (with_disk s.pool s.pool.turn.counters d)) (sym free)
 
     logged_runs : Runs long j (wrote_by written.due)
     logged_runs = at written.due refl
       where
-        at : (d : Due) → written.due ≡ d → Runs long j (wrote_by written.due)
-        at (due.Ordered o) is = subst (λ d. Runs long j (wrote_by d)) (sym is) (wrote_runs o is)
-        at due.Nothing is =
+        at : (d : Option Order) → written.due ≡ d → Runs long j (wrote_by written.due)
+        at (Some o) is = subst (λ d. Runs long j (wrote_by d)) (sym is) (wrote_runs o is)
+        at None is =
             subst (λ d. Runs long j (wrote_by d)) (sym is)
             (subst (Runs long j) (sym (unwritten is)) (still free works))
 
-  pub entry_runs : Runs long j (retry_entry s (found.Entry e))
+  pub entry_runs : Runs long j (retry_entry s (Some e))
   unfolding retry_entry retry_logged
   entry_runs = at (message_at s.rows e).id refl
     where
-      at : (l : Logged) → (message_at s.rows e).id ≡ l → Runs long j (retry_logged s (message_at s.rows e).id n)
-      at (logged.As id) is = subst (λ l. Runs long j (retry_logged s l n)) (sym is) (logged_runs id is)
-      at logged.Never is = subst (λ l. Runs long j (retry_logged s l n)) (sym is) (still free works)
+      at : (l : Option LogId) → (message_at s.rows e).id ≡ l → Runs long j (retry_logged s (message_at s.rows e).id n)
+      at (Some id) is = subst (λ l. Runs long j (retry_logged s l n)) (sym is) (logged_runs id is)
+      at None is = subst (λ l. Runs long j (retry_logged s l n)) (sym is) (still free works)
 
 -- the point runs, and what it tried again is written
 ran_runs : (long : ℕ) (j : disk.LogWorld) (s : State) (p : Point) → s.pool.turn.at ≡ at.Runs p
@@ -491,11 +486,11 @@ ran_runs long j s p at-is free works = go (again_at s p) refl
     stays : (go_of s p).pool.turn.disk ≡ order.Free
     stays = ap (λ (a : Aside). a.disk) (go_aside s p) ∙ free
 
-    go : (f : Found) → again_at s p ≡ f → Runs long j (retry_entry (go_of s p) (again_at s p))
-    go (found.Entry e) is =
+    go : (f : Option ℕ) → again_at s p ≡ f → Runs long j (retry_entry (go_of s p) (again_at s p))
+    go (Some e) is =
         subst (λ f. Runs long j (retry_entry (go_of s p) f)) (sym is)
         (entry_runs long j (go_of s p) stays went e (again_last s p e works.sound.good is))
-    go found.Nothing is = subst (λ f. Runs long j (retry_entry (go_of s p) f)) (sym is) (still stays went)
+    go None is = subst (λ f. Runs long j (retry_entry (go_of s p) f)) (sym is) (still stays went)
 
 -- ---- a step, and a run
 

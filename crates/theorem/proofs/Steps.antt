@@ -1,4 +1,6 @@
 -- A step of an actor keeps every message in its place, or moves it to another one. Assumes nothing.
+use Rattle.std.specs.Prelude.{Option, Some, None, Bool, true, false}
+use Rattle.actor.specs.declared.message.CallerId.{CallerId}
 use mathlib.Core.Path.{◌≡◌, refl}
 use mathlib.Core.Bool.{Bool, true, false}
 use Prim.Native.Nat.{ℕ, ◌-◌, ◌<◌}
@@ -8,21 +10,11 @@ use borrow.Author.Tests.{eq-eqb, ne_eqb}
 use lib.Dec.{eqb, ltb, leb}
 use Rattle.lists.specs.Links.{pick, Table, len_of, first_of, move_first, mailbox_of, hand_of, HAND}
 use Rattle.lists.specs.Family.{Good}
-use Rattle.actor.specs.declared.message.Caller.{Caller}
-use Rattle.actor.specs.declared.message.Caller.TheVariants as caller
 use Rattle.actor.specs.declared.question.Status.{Status}
 use Rattle.actor.specs.declared.question.Status.TheVariants as status
 use Rattle.actor.specs.declared.question.Outcome.{Outcome}
 use Rattle.actor.specs.declared.question.Outcome.TheVariants as outcome
 use Rattle.actor.specs.declared.question.Reply.{Reply}
-use Rattle.actor.specs.declared.question.YesIn.{YesIn}
-use Rattle.actor.specs.declared.question.YesIn.TheVariants as yes
-use Rattle.actor.specs.declared.question.ClockIn.{ClockIn}
-use Rattle.actor.specs.declared.question.ClockIn.TheVariants as clock
-use Rattle.actor.specs.declared.question.CountIn.{CountIn}
-use Rattle.actor.specs.declared.question.CountIn.TheVariants as count
-use Rattle.actor.specs.declared.question.RanIn.{RanIn}
-use Rattle.actor.specs.declared.question.RanIn.TheVariants as ran
 use Rattle.actor.specs.Questions.{yes_in, clock_in, count_in, ran_in, is_told}
 use Rattle.actor.specs.Actors.{actor_at, has_run, deadline_of}
 use Rattle.steps.specs.declared.fixed.FixedAsk.{FixedAsk}
@@ -96,9 +88,9 @@ module _ (t rows l : Table) (slot : ℕ) (good : Good t) where
   unfolding two.eval_tell
   tell_eval o = go (caller_first rows (first_of t HAND))
     where
-      go : (c : Caller) → EvalThrough t rows (two.eval_told (step_tables t rows l) slot o c)
-      go (caller.From id) = same_through t rows 128 good
-      go caller.Nobody = over_eval
+      go : (c : Option CallerId) → EvalThrough t rows (two.eval_told (step_tables t rows l) slot o c)
+      go (Some id) = same_through t rows 128 good
+      go None = over_eval
 
 module _ (t rows l : Table) (slot : ℕ) (good : Good t) (low : slot < 128) where
   -- a reply that does not fit, and one that only leads on, moves nothing
@@ -131,28 +123,28 @@ module _ (t rows l : Table) (slot : ℕ) (good : Good t) (low : slot < 128) wher
   unfolding two.eval_dispatched
   dispatched_eval n = pick_rule (EvalThrough t rows) (ltb 0 n) (λ e. quiet) (λ e. finish_eval outcome.StuckHostCall)
 
-  by_clock : (r : ClockIn) → EvalThrough t rows (two.eval_clock_by (step_tables t rows l) slot r)
-  by_clock (clock.Of ns) = clocked_eval ns
-  by_clock clock.Other = quiet
+  by_clock : (r : Option ℕ) → EvalThrough t rows (two.eval_clock_by (step_tables t rows l) slot r)
+  by_clock (Some ns) = clocked_eval ns
+  by_clock None = quiet
 
-  by_boot : (r : YesIn) → EvalThrough t rows (two.boot_by (step_tables t rows l) slot r)
+  by_boot : (r : Option Bool) → EvalThrough t rows (two.boot_by (step_tables t rows l) slot r)
   unfolding two.eval_booted
-  by_boot yes.Yes = quiet
-  by_boot yes.No = tell_eval t rows l slot good outcome.Unbooted
-  by_boot yes.Other = quiet
+  by_boot (Some true) = quiet
+  by_boot (Some false) = tell_eval t rows l slot good outcome.Unbooted
+  by_boot None = quiet
 
-  by_start : (limit : Limit) (r : ClockIn) → EvalThrough t rows (two.start_by t l slot limit r)
+  by_start : (limit : Limit) (r : Option ℕ) → EvalThrough t rows (two.start_by t l slot limit r)
   unfolding two.eval_started
-  by_start limit (clock.Of ns) = hand_to_held t rows slot good low
-  by_start limit clock.Other = quiet
+  by_start limit (Some ns) = hand_to_held t rows slot good low
+  by_start limit None = quiet
 
-  by_ran : (start : Bool) (r : RanIn) → EvalThrough t rows (two.eval_run_by (step_tables t rows l) slot start r)
-  by_ran start (ran.Of s) = ran_eval s
-  by_ran start ran.Other = quiet
+  by_ran : (start : Bool) (r : Option Status) → EvalThrough t rows (two.eval_run_by (step_tables t rows l) slot start r)
+  by_ran start (Some s) = ran_eval s
+  by_ran start None = quiet
 
-  by_dispatched : (r : CountIn) → EvalThrough t rows (two.eval_dispatch_by (step_tables t rows l) slot r)
-  by_dispatched (count.Of n) = dispatched_eval n
-  by_dispatched count.Other = quiet
+  by_dispatched : (r : Option ℕ) → EvalThrough t rows (two.eval_dispatch_by (step_tables t rows l) slot r)
+  by_dispatched (Some n) = dispatched_eval n
+  by_dispatched None = quiet
 
   pub eval_through : (limit : Limit) (a : EvalAsk) (r : Reply)
       → EvalThrough t rows (step_eval (step_tables t rows l) slot limit a r)
@@ -219,22 +211,22 @@ module _ (t rows l : Table) (q slot : ℕ) (sound : Sound t rows q) (slot_is : s
       pick_rule (λ (f : one.FixedLinks). FixedKeeps t rows (one.kept_fixed l q f)) (ltb 0 n)
       (λ e. record { keeps = same; full = omega arith }) (λ e. failed_keeps)
 
-  by_run : (start : Bool) (r : RanIn) → FixedKeeps t rows (one.kept_fixed l q (one.run_by t rows slot start r))
-  by_run start (ran.Of s) = ran_keeps s
-  by_run start ran.Other = record { keeps = same; full = omega arith }
+  by_run : (start : Bool) (r : Option Status) → FixedKeeps t rows (one.kept_fixed l q (one.run_by t rows slot start r))
+  by_run start (Some s) = ran_keeps s
+  by_run start None = record { keeps = same; full = omega arith }
 
-  by_drain : (r : CountIn) → FixedKeeps t rows (one.drain_by t l slot q r)
-  by_drain (count.Of n) = drained_keeps n
-  by_drain count.Other = record { keeps = same; full = omega arith }
+  by_drain : (r : Option ℕ) → FixedKeeps t rows (one.drain_by t l slot q r)
+  by_drain (Some n) = drained_keeps n
+  by_drain None = record { keeps = same; full = omega arith }
 
-  by_push : 0 < len_of t HAND → (r : YesIn) → FixedKeeps t rows (one.push_by t l slot q r)
-  by_push some yes.Yes = pushed_keeps some true
-  by_push some yes.No = pushed_keeps some false
-  by_push some yes.Other = record { keeps = same; full = some }
+  by_push : 0 < len_of t HAND → (r : Option Bool) → FixedKeeps t rows (one.push_by t l slot q r)
+  by_push some (Some true) = pushed_keeps some true
+  by_push some (Some false) = pushed_keeps some false
+  by_push some None = record { keeps = same; full = some }
 
-  by_dispatch : (r : CountIn) → FixedKeeps t rows (one.kept_fixed l q (one.dispatch_by t slot r))
-  by_dispatch (count.Of n) = dispatched_keeps n
-  by_dispatch count.Other = record { keeps = same; full = omega arith }
+  by_dispatch : (r : Option ℕ) → FixedKeeps t rows (one.kept_fixed l q (one.dispatch_by t slot r))
+  by_dispatch (Some n) = dispatched_keeps n
+  by_dispatch None = record { keeps = same; full = omega arith }
 
   pub fixed_keeps : (a : FixedAsk) → HandFull a t → (r : Reply)
       → FixedKeeps t rows (step_fixed (step_tables t rows l) slot q a r)

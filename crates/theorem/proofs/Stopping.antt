@@ -1,17 +1,16 @@
 -- A call stops where nothing runs (statement: specs/Stopping.antt). Assumes nothing.
+use Rattle.std.specs.Prelude.{Option, Some, None, Result, Ok, Err}
+use Rattle.answers.specs.declared.answer.Refusal.{Refusal}
+use Rattle.actor.specs.declared.message.CallerId.{CallerId}
+use Rattle.message_log.specs.declared.Order.{Order}
 use mathlib.Core.Path.{◌≡◌, refl, sym, ap, ◌∙◌}
 use mathlib.Core.Bool.{false, false≢true, ◌&&◌}
 use mathlib.Core.List.{List, [], ◌∷◌}
 use Prim.Native.Nat.{ℕ}
-use Rattle.message_log.specs.declared.Answer as of-log
-use Rattle.message_log.specs.declared.Answer.TheVariants as logged
-use Rattle.message_log.specs.declared.Due.{Due}
-use Rattle.message_log.specs.declared.Due.TheVariants as due
-use Rattle.message_log.specs.declared.AnsweredDue.{AnsweredDue}
+use Rattle.message_log.specs.declared.Refusal as of-log
+use Rattle.message_log.specs.Log.{AnsweredDue}
 use Rattle.message_log.specs.Log as log
 use Rattle.message_log.specs.Opened as opened
-use Rattle.actor.specs.declared.message.Caller.{Caller}
-use Rattle.actor.specs.declared.message.Caller.TheVariants as caller
 use Rattle.actor.specs.declared.question.Reply.{Reply}
 use Rattle.theorem.proofs.Steps.{pick_rule}
 use Rattle.points.specs.declared.at.At.{At}
@@ -23,8 +22,6 @@ use Rattle.turn.specs.State.{Pool, State, is_free, runs_at, running_of}
 use Rattle.turn.specs.Step.{advanced}
 use Rattle.turn.specs.Advance.{Stops}
 use Rattle.turn.proofs.Advance.{settled}
-use Rattle.answers.specs.declared.refusals.Check.{Check}
-use Rattle.answers.specs.declared.refusals.Check.TheVariants as check
 use Rattle.answers.specs.declared.answer.Answer.{Answer}
 use Rattle.answers.specs.declared.answer.Answer.TheVariants as answer
 use Rattle.answers.specs.Answers as answers
@@ -33,8 +30,8 @@ use Rattle.answers.specs.Refusals.{Lent, file_in, judged, by_table, in_turn, is_
 use Rattle.answers.specs.Refusals.{turn_refusals, reply_refusals, sync_refusals, close_refusals}
 use Rattle.pool.specs.Open as opens
 use Rattle.pool.specs.Admit.{recorded_in, recorded_by, admit_logged, admit_called, admit_effect, admit_of}
-use Rattle.pool.specs.declared.calls.StoredIn.{StoredIn}
-use Rattle.pool.specs.declared.calls.StoredIn.TheVariants as stored
+use Rattle.pool.specs.Stored.{StoredIn}
+use Rattle.pool.specs.Stored as stored
 use Rattle.pool.specs.Run.{answered_of, run_of}
 use Rattle.pool.specs.Calls.{freed, stored_of, failed_of, collect_send, resumed_of, stored_in, reply_by, reply_effect, turn_of}
 use Rattle.pool.specs.Calls.{reply_of, synced_in, synced_by, sync_effect, sync_of, close_of}
@@ -53,9 +50,9 @@ rest_stops disk.Free (at.Runs p) e = e
 rest_stops (disk.Waits o for) a e = refl
 rest_stops disk.Failed a e = refl
 
-by_table_lem : (s : State) (k : Check) (effect : answers.Did) → Stops s → Done effect → Done (by_table s k effect)
-by_table_lem s (check.Refuse r) effect stops does = stops
-by_table_lem s check.Fine effect stops does = does
+by_table_lem : (s : State) (k : Result Unit Refusal) (effect : answers.Did) → Stops s → Done effect → Done (by_table s k effect)
+by_table_lem s (Err r) effect stops does = stops
+by_table_lem s (Ok tt) effect stops does = does
 
 shown_stops : (s : State) → Stops s → Done (shown s)
 unfolding shown
@@ -84,24 +81,24 @@ reply_stops s r name body stored.Failed stops = shown_stops _ refl
 reply_stops s r name body stored.Other stops =
     pick_rule Done (is_message r) (λ e. shown_stops _ stops) (λ e. run_stops _)
 
-logged_stops : (s : State) (name body : List ℕ) (d : log.DidAppend) (a : of-log.Answer) → Stops s
+logged_stops : (s : State) (name body : List ℕ) (d : log.DidAppend) (a : Result Order of-log.Refusal) → Stops s
     → Done (recorded_in s name body d a)
 unfolding running_of
-logged_stops s name body d (logged.Ordered o) stops = shown_stops _ refl
-logged_stops s name body d (logged.Refused r) stops = stops
+logged_stops s name body d (Ok o) stops = shown_stops _ refl
+logged_stops s name body d (Err r) stops = stops
 
-admit_stops : (s : State) (name body : List ℕ) (who : Caller) → Stops s → Done (admit_effect s name body who)
+admit_stops : (s : State) (name body : List ℕ) (who : Option CallerId) → Stops s → Done (admit_effect s name body who)
 unfolding admit_logged recorded_by admit_called
-admit_stops s name body (caller.From who) stops = shown_stops _ stops
-admit_stops s name body caller.Nobody stops =
+admit_stops s name body (Some who) stops = shown_stops _ stops
+admit_stops s name body None stops =
     let d = log.append_of (record { bytes = s.bytes; table = s.records; counters = s.pool.turn.counters })
     name body in
     logged_stops s name body d d.answer stops
 
-synced_stops : (p : Pool) (d : AnsweredDue) (x : Due) → running_of p ≡ false → running_of (synced_in p d x) ≡ false
+synced_stops : (p : Pool) (d : AnsweredDue) (x : Option Order) → running_of p ≡ false → running_of (synced_in p d x) ≡ false
 unfolding running_of
-synced_stops p d (due.Ordered o) stops = refl
-synced_stops p d due.Nothing stops = stops
+synced_stops p d (Some o) stops = refl
+synced_stops p d None stops = stops
 
 call_stops : (s : State) (c : Call) → Stops s → Stops (call_of s c).state
 unfolding call_of admit_of turn_of reply_of reply_effect sync_of sync_effect synced_by close_of running_of
@@ -115,10 +112,10 @@ call_stops s sync stops =
     by_table_lem s (judged (sync_refusals s.pool)) _ stops (shown_stops _ (synced_stops s.pool d d.due stops))
 call_stops s close stops = by_table_lem s (judged (close_refusals s.pool)) _ stops (shown_stops _ stops)
 
-opened_stops : (l : Lent) (o : opened.Opened) (a : of-log.Answer) → Done (opens.opened_in l o a)
+opened_stops : (l : Lent) (o : opened.Opened) (a : Result Order of-log.Refusal) → Done (opens.opened_in l o a)
 unfolding opens.filled_by running_of
-opened_stops l o (logged.Ordered order) = refl
-opened_stops l o (logged.Refused r) = refl
+opened_stops l o (Ok order) = refl
+opened_stops l o (Err r) = refl
 
 open_stops : (l : Lent) → Done (opens.open_of l)
 unfolding opens.open_of opens.open_effect opens.opened_by running_of

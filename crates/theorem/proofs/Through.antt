@@ -1,4 +1,5 @@
 -- What a move of messages between two lists does to the places, whatever the lists' numbers. Assumes nothing.
+use Rattle.std.specs.Prelude.{Option, Some, None}
 use mathlib.Core.Path.{◌≡◌, refl, sym, ap, ◌∙◌}
 use mathlib.Core.Logic.{◌≢◌}
 use mathlib.Core.List.{List, [], ◌∷◌}
@@ -13,8 +14,6 @@ use Rattle.lists.proofs.Counts.{total_kept, put_two, count_append, count_other}
 use Rattle.lists.proofs.Family.{length_view, first_is, at_most_all, len_past}
 use Rattle.lists.proofs.Moves.{move_first_lem, move_all_lem, same_list, no_such_to, no_such_from}
 use Rattle.message_log.specs.declared.LogId.{LogId}
-use Rattle.actor.specs.declared.message.Logged.{Logged}
-use Rattle.actor.specs.declared.message.Logged.TheVariants as logged
 use Rattle.actor.specs.Messages.{message_at}
 use Rattle.steps.specs.Steps.{place_logged, place_over, over_first}
 use Rattle.steps.proofs.Times.{capped_fits}
@@ -65,7 +64,7 @@ pub record Through (t rows r : Table) (slot : ℕ) : Type 0 where
   pub good : Good r
   pub same : (x : ℕ) → stands x r rows ≡ stands x t rows
   pub others : (s : ℕ) → s < 128 → s ≢ slot → view r (6 + 2 * s) ≡ view t (6 + 2 * s)
-  pub busy : (e : ℕ) (id : LogId) → (message_at rows e).id ≡ logged.As id → count e (view t FREE) ≡ 0
+  pub busy : (e : ℕ) (id : LogId) → (message_at rows e).id ≡ Some id → count e (view t FREE) ≡ 0
       → count e (view r FREE) ≡ 0
 
 pub same_through : (t rows : Table) (slot : ℕ) → Good t → Through t rows t slot
@@ -300,7 +299,7 @@ module _ (t rows : Table) (good : Good t) (from slot : ℕ) (f : Aside slot from
       (λ pair. exchange_through rows slot (moved_all_exchange pair (move_all_lem pair)) f g)
 
   -- an entry with a log id is none of those that have none
-  unnamed : (e : ℕ) (id : LogId) → (message_at rows e).id ≡ logged.As id → (es : List ℕ) → id_count id.0 rows es ≡ 0
+  unnamed : (e : ℕ) (id : LogId) → (message_at rows e).id ≡ Some id → (es : List ℕ) → id_count id.0 rows es ≡ 0
       → count e es ≡ 0
   unfolding id_count count
   unnamed e id own [] none = refl
@@ -308,7 +307,7 @@ module _ (t rows : Table) (good : Good t) (from slot : ℕ) (f : Aside slot from
     where
       at : Dec (x ≡ e) → count e es ≡ 0 → count e (x ∷ es) ≡ 0
       at (yes is) later =
-          let here : (message_at rows x).id ≡ logged.As id = ap (λ k. (message_at rows k).id) is ∙ own in
+          let here : (message_at rows x).id ≡ Some id = ap (λ k. (message_at rows k).id) is ∙ own in
           absurd (omega (arith, rw (eq-eqb id.0 id.0 refl) at (rw here at none)))
       at (no other) later = count_other e x es other ∙ later
 
@@ -345,14 +344,14 @@ module _ (t rows : Table) (good : Good t) (from slot : ℕ) (f : Aside slot from
   unfolding over_first place_over
   over_through = rw (ap (place_over rows) (first_is t from)) (go (view t from) refl)
     where
-      by : (e : ℕ) (es : List ℕ) → view t from ≡ e ∷ es → (l : Logged) → (message_at rows e).id ≡ l
+      by : (e : ℕ) (es : List ℕ) → view t from ≡ e ∷ es → (l : Option LogId) → (message_at rows e).id ≡ l
           → Through t rows (move_first t from (place_logged l)) slot
-      by e es is (logged.As id) p = first_through OVER (record {
+      by e es is (Some id) p = first_through OVER (record {
         place = omega arith;
         no_mail = λ s s-is other z. omega
             arith;
       })
-      by e es is logged.Never p = free_through (λ x. rw (is, id_single x rows e, p))
+      by e es is None p = free_through (λ x. rw (is, id_single x rows e, p))
 
       go : (l : List ℕ) → view t from ≡ l → Through t rows (move_first t from (place_over rows (first_in l))) slot
       go [] is = free_through (λ x. rw is (id_none x rows))

@@ -1,5 +1,6 @@
 -- Waking, stepping, settling and crashing keep every message in a place, and where the turn stands then. Assumes
 -- nothing.
+use Rattle.std.specs.Prelude.{Option, Some, None, Bool, true, false}
 use mathlib.Core.Path.{◌≡◌, refl}
 use mathlib.Core.Bool.{Bool, true, false, ◌&&◌}
 use Prim.Native.Nat.{ℕ, ◌+◌, ◌-◌, ◌^◌, ◌≤◌, ◌<◌}
@@ -8,19 +9,11 @@ use native.Mathlib.Decide.{dec_lt}
 use borrow.Author.Tests.{eq-eqb, ltb-true, le-ltb}
 use lib.Dec.{eqb, ltb, leb}
 use lib.ListN.{set}
-use Rattle.lists.specs.declared.Found.{Found}
-use Rattle.lists.specs.declared.Found.TheVariants as found
-use Rattle.lists.specs.declared.keys.Key.{Key}
-use Rattle.lists.specs.declared.keys.Key.TheVariants as key
 use Rattle.lists.specs.Links.{LISTS, Table, len_of, capped, first_of, move_first, mailbox_of, hand_of, PENDING, HAND}
 use Rattle.lists.specs.KeyLists.{blank_row, keys_at, front_of, pop_front}
 use Rattle.lists.specs.Slabs.{next_key, contains_of}
 use Rattle.lists.proofs.Family.{len_past}
 use Rattle.actor.specs.declared.question.Reply.{Reply}
-use Rattle.actor.specs.declared.question.YesIn.{YesIn}
-use Rattle.actor.specs.declared.question.YesIn.TheVariants as yes
-use Rattle.actor.specs.declared.question.CountIn.{CountIn}
-use Rattle.actor.specs.declared.question.CountIn.TheVariants as count
 use Rattle.actor.specs.declared.state.Mode.{Mode}
 use Rattle.actor.specs.declared.state.Mode.TheVariants as mode
 use Rattle.actor.specs.Questions.{yes_in, count_in}
@@ -104,11 +97,11 @@ one_between keys actors g k clock left =
     (λ e. pick_rule WakedBetween (waking.polls_of (actor_at actors (slot_at g k))) (λ e. omega arith) (λ e. omega arith)))
     (λ e. omega arith)
 
-first_between : (keys actors : Table) (g clock left : ℕ) (k : Key)
+first_between : (keys actors : Table) (g clock left : ℕ) (k : Option ℕ)
     → BetweenSteps (waking.wake_first (keyed keys actors) g clock left k).at
-first_between keys actors g clock left (key.At k) =
+first_between keys actors g clock left (Some k) =
     one_between (set keys REST (pop_front (keys_at keys REST))) actors g k clock (left - 1)
-first_between keys actors g clock left key.Nothing = omega arith
+first_between keys actors g clock left None = omega arith
 
 pub wake_next_between : (keys actors : Table) (g clock left : ℕ)
     → BetweenSteps (wake_next (keyed keys actors) g clock left).at
@@ -117,10 +110,10 @@ wake_next_between keys actors g clock left =
     pick_rule WakedBetween (eqb left 0) (λ e. omega arith) (λ e. first_between keys actors g clock left
     (front_of (keys_at keys REST)))
 
-poll_between : (keys actors : Table) (g k clock left : ℕ) (n : CountIn)
+poll_between : (keys actors : Table) (g k clock left : ℕ) (n : Option ℕ)
     → BetweenSteps (waking.poll_by (keyed keys actors) (who_of g k) clock left n).at
-poll_between keys actors g k clock left (count.Of n) = omega arith
-poll_between keys actors g k clock left count.Other = omega arith
+poll_between keys actors g k clock left (Some n) = omega arith
+poll_between keys actors g k clock left None = omega arith
 
 pub poll_reply_between : (keys actors : Table) (g k clock left : ℕ) (r : Reply)
     → BetweenSteps (poll_reply (keyed keys actors) (who_of g k) clock left r).at
@@ -157,12 +150,12 @@ module _ (t : Table) (q : ℕ) (P : Table → Begun → Type 0)
       (λ e. begins (starting.unscheduled actors (slot_on c)) c (live_slot keys c.group c.key live)))
       (λ e. none (ready_after c) stepped (omega arith))
 
-  front_rule : (keys actors : Table) (stepped : Bool) (g clock pops : ℕ) (k : Key)
+  front_rule : (keys actors : Table) (stepped : Bool) (g clock pops : ℕ) (k : Option ℕ)
       → P (starting.ready_front (readying t keys actors q stepped) g clock pops k).links
       (starting.ready_front (readying t keys actors q stepped) g clock pops k).begun
-  front_rule keys actors stepped g clock pops (key.At k) = key_rule (starting.pop_ready keys g) actors
+  front_rule keys actors stepped g clock pops (Some k) = key_rule (starting.pop_ready keys g) actors
       (starting.cursor_at g k clock (pops - 1)) stepped
-  front_rule keys actors stepped g clock pops key.Nothing = none _ stepped (omega arith)
+  front_rule keys actors stepped g clock pops None = none _ stepped (omega arith)
 
   pub ready_rule : (keys actors : Table) (stepped : Bool) (g clock pops : ℕ)
       → P (ready_of (readying t keys actors q stepped) g clock pops).links
@@ -276,9 +269,7 @@ DyingKeeps t rows q d = Keeps t rows d.links d.rows q
 module _ (groups t rows : Table) (g q : ℕ) (sound : Sound t rows q) where
   -- one attempt more, up to the largest number, is no fewer
   more_tried : (a n : ℕ) → n < 2 ^ 64 → n ≤ a → n ≤ capped (a + 1)
-  unfolding capped
-  more_tried a n small most =
-      pick_rule (λ k. n ≤ k) (leb (a + 1) 18446744073709551615) (λ e. omega arith) (λ e. omega arith)
+  more_tried a n small most = omega arith
 
   entry_keeps : (from e dead : ℕ) → NotMailbox from
       → DyingKeeps t rows q (crashing.crashed_entry groups (dying t rows dead) g from e)
@@ -290,10 +281,10 @@ module _ (groups t rows : Table) (g q : ℕ) (sound : Sound t rows q) where
       refl (more_tried (message_at rows e).attempts)))
       (λ b. over_keeps t rows q sound from not-mailbox)
 
-  found_keeps : (from dead : ℕ) → NotMailbox from → (f : Found)
+  found_keeps : (from dead : ℕ) → NotMailbox from → (f : Option ℕ)
       → DyingKeeps t rows q (crashing.crashed_found groups (dying t rows dead) g from f)
-  found_keeps from dead not-mailbox (found.Entry e) = entry_keeps from e dead not-mailbox
-  found_keeps from dead not-mailbox found.Nothing = same_keeps t rows q sound
+  found_keeps from dead not-mailbox (Some e) = entry_keeps from e dead not-mailbox
+  found_keeps from dead not-mailbox None = same_keeps t rows q sound
 
   first_keeps : (from dead : ℕ) → NotMailbox from
       → DyingKeeps t rows q (crashing.handle_crash groups (dying t rows dead) g from)
@@ -321,27 +312,27 @@ crash_keeps groups t rows c l q sound = first_keeps groups t rows c.group q soun
 
 -- ---- Trap, and Trapped of each actor
 
-trapped_at_between : (c : Cursor) (k : Key) → BetweenSteps (crashing.trapped_at c k)
-trapped_at_between c (key.At k) = omega arith
-trapped_at_between c key.Nothing = omega arith
+trapped_at_between : (c : Cursor) (k : Option ℕ) → BetweenSteps (crashing.trapped_at c k)
+trapped_at_between c (Some k) = omega arith
+trapped_at_between c None = omega arith
 
 trapped_next_between : (keys : Table) (c : Cursor) (from : ℕ) → BetweenSteps (crashing.trapped_next keys c from)
 unfolding crashing.trapped_next
 trapped_next_between keys c from = trapped_at_between c (next_key (keys_at keys (slab_row c.group)) (16 - from) from)
 
-trap_between : (keys : Table) (c : Cursor) (y : YesIn) → BetweenSteps (crashing.trap_by keys c y).at
-trap_between keys c yes.Yes = trapped_next_between (set keys TRAPPED blank_row) c 0
-trap_between keys c yes.No = omega arith
-trap_between keys c yes.Other = omega arith
+trap_between : (keys : Table) (c : Cursor) (y : Option Bool) → BetweenSteps (crashing.trap_by keys c y).at
+trap_between keys c (Some true) = trapped_next_between (set keys TRAPPED blank_row) c 0
+trap_between keys c (Some false) = omega arith
+trap_between keys c None = omega arith
 
 pub trap_reply_between : (keys : Table) (c : Cursor) (r : Reply) → BetweenSteps (trap_reply keys c r).at
 unfolding trap_reply
 trap_reply_between keys c r = trap_between keys c (yes_in r)
 
-trapped_between : (keys : Table) (c : Cursor) (k : ℕ) (y : YesIn) → BetweenSteps (crashing.trapped_by keys c k y).at
-trapped_between keys c k yes.Yes = trapped_next_between (push_key keys TRAPPED k) c (crashing.next_asked k)
-trapped_between keys c k yes.No = trapped_next_between keys c (crashing.next_asked k)
-trapped_between keys c k yes.Other = omega arith
+trapped_between : (keys : Table) (c : Cursor) (k : ℕ) (y : Option Bool) → BetweenSteps (crashing.trapped_by keys c k y).at
+trapped_between keys c k (Some true) = trapped_next_between (push_key keys TRAPPED k) c (crashing.next_asked k)
+trapped_between keys c k (Some false) = trapped_next_between keys c (crashing.next_asked k)
+trapped_between keys c k None = omega arith
 
 pub trapped_reply_between : (keys : Table) (c : Cursor) (k : ℕ) (r : Reply)
     → BetweenSteps (trapped_reply keys c k r).at
@@ -362,12 +353,12 @@ module _ (groups t rows keys : Table) (c : Cursor) (left q : ℕ) (l : Losses) w
       then_keeps back (held_keeps groups (crashing.mail_back t (slot_at c.group k)) rows c.group _ back.sound
       (slot_at c.group k) l.dead)
 
-  crash_trapped_front_keeps : Sound t rows q → (k : Key)
+  crash_trapped_front_keeps : Sound t rows q → (k : Option ℕ)
       → CrashingKeeps t rows (crashing.crash_trapped_front groups (retiring t rows keys q l) c left k)
-  crash_trapped_front_keeps sound (key.At k) =
+  crash_trapped_front_keeps sound (Some k) =
       crash_trapped_key_keeps (set keys TRAPPED (pop_front (keys_at keys TRAPPED))) k (left - 1)
       sound
-  crash_trapped_front_keeps sound key.Nothing = same_keeps t rows q sound
+  crash_trapped_front_keeps sound None = same_keeps t rows q sound
 
   pub crash_trapped_keeps : Sound t rows q
       → Keeps t rows (crash_trapped groups (retiring t rows keys q l) c left).links
@@ -379,11 +370,11 @@ module _ (groups t rows keys : Table) (c : Cursor) (left q : ℕ) (l : Losses) w
       (λ e. crash_trapped_front_keeps sound
       (front_of (keys_at keys TRAPPED)))
 
-  crash_trapped_front_between : (k : Key)
+  crash_trapped_front_between : (k : Option ℕ)
       → BetweenSteps (crashing.crash_trapped_front groups (retiring t rows keys q l) c left k).crashed.at
   unfolding crashing.crash_trapped_key
-  crash_trapped_front_between (key.At k) = omega arith
-  crash_trapped_front_between key.Nothing = omega arith
+  crash_trapped_front_between (Some k) = omega arith
+  crash_trapped_front_between None = omega arith
 
   pub crash_trapped_between : BetweenSteps (crash_trapped groups (retiring t rows keys q l) c left).crashed.at
   unfolding crash_trapped

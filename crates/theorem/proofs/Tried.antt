@@ -1,5 +1,6 @@
 -- The attempts that the log has of a message are no more than the pool's: what moves, arrivals, marks and retries make
 -- of that. Assumes nothing.
+use Rattle.std.specs.Prelude.{Option, Some, None}
 use mathlib.Core.Path.{◌≡◌, refl, sym, ap, ◌∙◌}
 use mathlib.Core.Bool.{Bool, true, false}
 use mathlib.Core.List.{List, [], ◌∷◌, ◌++◌}
@@ -15,8 +16,6 @@ use Rattle.lists.proofs.Counts.{count_up_below}
 use Rattle.message_log.specs.declared.LogId.{LogId}
 use Rattle.message_log.specs.Opening.{remove, retried}
 use Rattle.message_log.specs.Stands.{Tries}
-use Rattle.actor.specs.declared.message.Logged.{Logged}
-use Rattle.actor.specs.declared.message.Logged.TheVariants as logged
 use Rattle.actor.specs.Messages.{logged_number, message_at}
 use Rattle.theorem.specs.Places.{Keeps, Comes, Goes}
 use Rattle.theorem.specs.Handing.{TriedAs, AllTried}
@@ -37,7 +36,7 @@ kept_tried keeps (m ∷ ms) few (here, later) = (
 )
 
 -- a message comes
-pub comes_tried : {t rows t' rows' : Table} {q : ℕ} {id : Logged} → Comes t rows t' rows' q id → (ms : List Message)
+pub comes_tried : {t rows t' rows' : Table} {q : ℕ} {id : Option LogId} → Comes t rows t' rows' q id → (ms : List Message)
     → AllTried t rows ms → AllTried t' rows' ms
 comes_tried came [] all = tt
 comes_tried came (m ∷ ms) (here, later) =
@@ -53,8 +52,8 @@ comes_tried came (m ∷ ms) (here, later) =
 
 -- a message goes whose id is none of theirs, or was taken off
 module _ {t rows t' : Table} {q : ℕ} where
-  other_tried : {id : Logged} → Goes t rows t' rows q id → (m : Message)
-      → (◌≡◌ {A = Logged} (logged.As (record { 0 = m.id })) id → ⊥) → TriedAs t rows m → TriedAs t' rows m
+  other_tried : {id : Option LogId} → Goes t rows t' rows q id → (m : Message)
+      → (◌≡◌ {A = (Option LogId)} (Some (record { 0 = m.id })) id → ⊥) → TriedAs t rows m → TriedAs t' rows m
   other_tried gone m other here = record {
     entry = here.entry;
     busy =
@@ -63,7 +62,7 @@ module _ {t rows t' : Table} {q : ℕ} where
     most = here.most;
   }
 
-  pub goes_tried : (id : LogId) → Goes t rows t' rows q (logged.As id) → (ms : List Message) → AllTried t rows ms
+  pub goes_tried : (id : LogId) → Goes t rows t' rows q (Some id) → (ms : List Message) → AllTried t rows ms
       → AllTried t' rows (remove id.0 ms)
   unfolding remove
   goes_tried id gone [] all = tt
@@ -76,7 +75,7 @@ module _ {t rows t' : Table} {q : ℕ} where
           rw (e, remove)
           (other_tried gone m (λ is. eqb-false m.id id.0 e (ap logged_number is)) here, rest)
 
-  pub never_tried : Goes t rows t' rows q logged.Never → (ms : List Message) → AllTried t rows ms → AllTried t' rows ms
+  pub never_tried : Goes t rows t' rows q None → (ms : List Message) → AllTried t rows ms → AllTried t' rows ms
   never_tried gone [] all = tt
   never_tried gone (m ∷ ms) (here, later) =
       (other_tried gone m (λ is. let z : ◌≡◌ {A = ℕ} 0 1 = cc in omega arith) here, never_tried gone ms later)
@@ -89,7 +88,7 @@ snoc_tried (x ∷ ms) m (here, later) last = (here, snoc_tried ms m later last)
 
 -- a retry, of an entry whose row says so
 pub again_tried : (t rows : Table) (id : LogId) (e n : ℕ) → count e (view t FREE) ≡ 0
-    → (message_at rows e).id ≡ logged.As id → n ≤ (message_at rows e).attempts → (ms : List Message) → AllTried t rows ms
+    → (message_at rows e).id ≡ Some id → n ≤ (message_at rows e).attempts → (ms : List Message) → AllTried t rows ms
     → AllTried t rows (retried id.0 n ms)
 unfolding retried
 again_tried t rows id e n busy own most [] all = tt
@@ -101,7 +100,7 @@ again_tried t rows id e n busy own most (m ∷ ms) (here, later) =
     at true c rest =
         let is : m.id ≡ id.0 = eqb-true m.id id.0 c in
         rw (c, retried) (
-          record { entry = e; busy = busy; own = own ∙ ap (λ k. logged.As (record { 0 = k })) (sym is); most = most },
+          record { entry = e; busy = busy; own = own ∙ ap (λ k. Some (record { 0 = k })) (sym is); most = most },
           rest,
         )
     at false c rest = rw (c, retried) (here, rest)

@@ -1,12 +1,11 @@
 -- Every point of a turn that runs, and every reply, keeps each message in its place or moves it to another one.
 -- Assumes nothing.
+use Rattle.std.specs.Prelude.{Option, Some, None, ℕ}
 use Prim.Native.Nat.{◌<◌}
 use native.Mathlib.Omega.{arith}
 use Rattle.lists.specs.Links.{Table}
 use Rattle.actor.specs.declared.question.Reply.{Reply}
 use Rattle.actor.specs.declared.question.Reply.TheVariants as reply
-use Rattle.actor.specs.declared.question.ClockIn.{ClockIn}
-use Rattle.actor.specs.declared.question.ClockIn.TheVariants as clock
 use Rattle.actor.specs.Questions.{clock_in}
 use Rattle.steps.specs.declared.step.Step.{Step}
 use Rattle.steps.specs.declared.fixed.FixedNext.{FixedNext}
@@ -101,9 +100,9 @@ go_keeps s (point.CrashTrapped c left) sound =
 -- ---- replies
 
 -- the clock begins no step of an actor, and nor does the end of what was sent
-clock_between : (c : ClockIn) → BetweenSteps (clock_by c)
-clock_between (clock.Of ns) = omega arith
-clock_between clock.Other = omega arith
+clock_between : (c : Option ℕ) → BetweenSteps (clock_by c)
+clock_between (Some ns) = omega arith
+clock_between None = omega arith
 
 pub clock_reply_between : (r : Reply) → BetweenSteps (clock_reply r)
 unfolding clock_reply

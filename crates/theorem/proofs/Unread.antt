@@ -1,5 +1,7 @@
 -- A mailbox that is emptied unread: what is logged stands at the end of over, in order, and the rest is free. Assumes
 -- nothing.
+use Rattle.std.specs.Prelude.{Option, Some, None}
+use Rattle.message_log.specs.declared.LogId.{LogId}
 use mathlib.Core.Path.{◌≡◌, refl, sym, ap, ◌∙◌}
 use mathlib.Core.Bool.{true, false}
 use mathlib.Core.Logic.{◌≢◌}
@@ -11,8 +13,6 @@ use Rattle.lists.specs.Links.{LISTS, Table, len_of, move_first, mailbox_of, FREE
 use Rattle.lists.specs.Family.{view, Good, Pair, Moved}
 use Rattle.lists.proofs.Family.{length_view, first_is}
 use Rattle.lists.proofs.Moves.{move_first_lem}
-use Rattle.actor.specs.declared.message.Logged.{Logged}
-use Rattle.actor.specs.declared.message.Logged.TheVariants as logged
 use Rattle.actor.specs.Messages.{message_at}
 use Rattle.steps.specs.Steps.{place_logged, place_over, over_first}
 use Rattle.group.specs.Roster.{over_all}
@@ -90,11 +90,11 @@ module _ (rows : Table) (from : ℕ) (above : 4 < from) (from_is : from < LISTS)
 
       by : ((k : ℕ) → k ≤ 4 → Overs rows from es (move_first t from k)
           (over_all (move_first t from k) rows from (length es)))
-          → (l : Logged) → (message_at rows e).id ≡ l
+          → (l : Option LogId) → (message_at rows e).id ≡ l
           → Overs rows from (e ∷ es) t (over_all (over_first t rows from) rows from (length es))
-      by rest (logged.As id) p = rw (goes t good e es is OVER (rw p)) (over_logged t good e es is _ (rest OVER
+      by rest (Some id) p = rw (goes t good e es is OVER (rw p)) (over_logged t good e es is _ (rest OVER
           (omega arith)) (rw p))
-      by rest logged.Never p = rw (goes t good e es is FREE (rw p)) (over_unlogged t good e es is _ (rest FREE
+      by rest None p = rw (goes t good e es is FREE (rw p)) (over_unlogged t good e es is _ (rest FREE
           (omega arith)) (rw p))
 
 pub unread : (slot : ℕ) → slot < 128 → (t rows : Table) → Good t

@@ -1,5 +1,6 @@
 -- Wrong pools, and the clause that refuses each, of `Holds` or of a law beside it. Whatever a pool makes of a call is
 -- an outcome (`Did`), and the world goes by outcomes; so these are laws of any outcome of any pool. Assumes nothing.
+use Rattle.std.specs.Prelude.{Option, Some, None}
 use mathlib.Core.Path.{◌≡◌, refl, sym, ap, ◌∙◌, subst}
 use mathlib.Core.Bool.{false, false≢true}
 use mathlib.Core.Logic.{inl, inr, ◌≢◌}
@@ -22,16 +23,12 @@ use Rattle.message_log.specs.Recovery as disk
 use Rattle.message_log.proofs.OpenLaws.{sized_true}
 use Rattle.theorem.specs.Places.{stands}
 use Rattle.theorem.specs.Living.{given}
-use Rattle.actor.specs.declared.message.Caller.{Caller}
-use Rattle.actor.specs.declared.message.Caller.TheVariants as caller
 use Rattle.actor.specs.declared.message.CallerId.{CallerId}
 use Rattle.actor.specs.declared.question.Question.TheVariants as ask
-use Rattle.actor.specs.declared.question.Asked.TheVariants as asked
 use Rattle.actor.specs.declared.question.Reply.TheVariants as say
-use Rattle.actor.specs.declared.message.Logged.TheVariants as logged
 use Rattle.actor.specs.Messages.{message_at}
-use Rattle.pool.specs.declared.calls.StoredIn.{StoredIn}
-use Rattle.pool.specs.declared.calls.StoredIn.TheVariants as stored
+use Rattle.pool.specs.Stored.{StoredIn}
+use Rattle.pool.specs.Stored as stored
 use Rattle.pool.specs.Calls.{stored_in}
 use Rattle.pool.specs.Open.{open_of}
 use Rattle.settings.specs.Tables as tables
@@ -101,7 +98,7 @@ answered_now j sync = refl
 answered_now j close = refl
 
 module _ (w : World) (c : Call) (s : State) (e : ℕ) (id : LogId) (busy : count e (view w.state.links FREE) ≡ 0)
-    (owns : (message_at w.state.rows e).id ≡ logged.As id) (changed : attempts_in s e ≢ attempts_in w.state e) where
+    (owns : (message_at w.state.rows e).id ≡ Some id) (changed : attempts_in s e ≢ attempts_in w.state e) where
   -- no pool counts further than a retry line can say
   pub over_refused : (a : Answer) → ATTEMPTS < attempts_in s e → DidRetries w c (record { state = s; answer = a }) → ⊥
   over_refused a over h = omega (arith, (h e id busy owns changed).0)
@@ -201,7 +198,7 @@ long_refused l w file long possible h = omega (arith, (h.safe file possible).fit
 abbrev begun : Lent → Did → World
 begun l d =
     let w = begin d (file_in l) in
-    step_did w (reply say.Stored [] []) (record { state = w.state; answer = answer.Open asked.Nothing })
+    step_did w (reply say.Stored [] []) (record { state = w.state; answer = answer.Open None })
 
 -- the state with these bytes in the log, and with messages in these lists and rows
 abbrev leaves : State → List ℕ → Table → Table → State
@@ -209,7 +206,7 @@ leaves s new t rows = with_rows (with_links (with_log s new s.records) t) rows
 
 -- an accepted call that shows the order to append the log's bytes a to b
 abbrev appends : State → ℕ → ℕ → Did
-appends s a b = record { state = s; answer = answer.Open (asked.Open (ask.Store (Append a b))) }
+appends s a b = record { state = s; answer = answer.Open (Some (ask.Store (Append a b))) }
 
 -- a message of no bytes, and its record, for ids below 10
 abbrev bare : ℕ → Message
@@ -225,14 +222,14 @@ empty = lent_with (replicate 16 0) 0
 empty_taken : Taken empty
 empty_taken = taken_with (replicate 16 0) 0 nothing_read (omega arith) (omega arith) (omega arith) nothing_left
 
-abbrev admitted : Caller → ℕ → Did → World
+abbrev admitted : Option CallerId → ℕ → Did → World
 admitted who digit d =
     let w = begun empty d in
     step_did w (admit [] [] who)
     (appends (leaves w.state (bare_line digit ++ replicate 12 0) w.state.links w.state.rows) 0 4)
 
 -- what a cut after it may leave
-cut : (who : Caller) (digit : ℕ)
+cut : (who : Option CallerId) (digit : ℕ)
     → disk.Possible (admitted who digit (opens_as_lem empty nothing_read)).journal.disk (bare_line digit)
 unfolding disk.issue disk.stored_order disk.confirm disk.sent Opening.image
 cut who digit = (4, refl)
@@ -267,23 +264,23 @@ longer : (ms a : List Message) → length a < length ms → ms ≡ a → ⊥
 longer ms a more e = omega (arith, ap length e)
 
 -- The cut after it: the record is on the disk. A pool that logs a message for which a caller waits: no moment has it.
-pub caller_refused : (who : CallerId) → Holds empty (admitted (caller.From who) 48 (open_of empty)) → ⊥
+pub caller_refused : (who : CallerId) → Holds empty (admitted (Some who) 48 (open_of empty)) → ⊥
 unfolding empty_taken taken_with disk.issue disk.stored_order disk.firm_moment disk.sent Format.split Format.all_but_last
     Format.lines Opening.read_lines Opening.read_file Opening.all_fit Opening.judge Opening.opening Opening.image
 caller_refused who =
-    subst (λ d. Holds empty (admitted (caller.From who) 48 d) → ⊥) (sym (opens_as empty empty_taken))
+    subst (λ d. Holds empty (admitted (Some who) 48 d) → ⊥) (sym (opens_as empty empty_taken))
     (unsafe_refused empty empty_taken (bare_line 48) (record { left = bare 0 ∷ []; next = 1 }) (omega arith) zero_reads
-    (admitted (caller.From who) 48 (opens_as_lem empty nothing_read)) (cut (caller.From who) 48)
+    (admitted (Some who) 48 (opens_as_lem empty nothing_read)) (cut (Some who) 48)
     (one_of_two (bare 0 ∷ []) [] [] (longer _ [] (omega arith)) (longer _ [] (omega arith))))
 
 -- A pool that leaves out an id: the moment after it has the next id, 0, and the file says 1.
-pub skipped_refused : Holds empty (admitted caller.Nobody 49 (open_of empty)) → ⊥
+pub skipped_refused : Holds empty (admitted None 49 (open_of empty)) → ⊥
 unfolding empty_taken taken_with disk.issue disk.stored_order disk.firm_moment disk.sent Format.split Format.all_but_last
     Format.lines Opening.read_lines Opening.read_file Opening.all_fit Opening.judge Opening.opening Opening.image
 skipped_refused =
-    subst (λ d. Holds empty (admitted caller.Nobody 49 d) → ⊥) (sym (opens_as empty empty_taken))
+    subst (λ d. Holds empty (admitted None 49 d) → ⊥) (sym (opens_as empty empty_taken))
     (unsafe_refused empty empty_taken (bare_line 49) (record { left = bare 1 ∷ []; next = 2 }) (omega arith) one_reads
-    (admitted caller.Nobody 49 (opens_as_lem empty nothing_read)) (cut caller.Nobody 49)
+    (admitted None 49 (opens_as_lem empty nothing_read)) (cut None 49)
     (one_of_two (bare 1 ∷ []) [] (bare 0 ∷ []) (longer _ [] (omega arith)) (λ e. omega (arith, ap first_id e))))
 
 -- ---- a pool that marks another message than the one that leaves: 0 leaves, and 1 is marked

@@ -1,12 +1,10 @@
 -- Examples of the operations on mailboxes, run by the definitions that the code equals. Each is a truth value;
 -- proofs/Examples.antt proves all of them as one conjunction.
-use Rattle.std.specs.Prelude.{Bool, List, [], ◌∷◌, ◌++◌, map, ℕ}
+use Rattle.std.specs.Prelude.{Bool, List, [], ◌∷◌, ◌++◌, map, ℕ, Option, Some, None}
+use Rattle.message_log.specs.declared.LogId.{LogId}
 use Rattle.message_log.specs.RowEnds.{same_bytes}
 use Rattle.lists.specs.Links.{LISTS, FREE, Table, start_from, move_first, PENDING, BATCH, OVER, HAND}
 use Rattle.lists.specs.Family.{up_from, view}
-use Rattle.actor.specs.declared.message.Caller.TheVariants as caller
-use Rattle.actor.specs.declared.message.Logged.{Logged}
-use Rattle.actor.specs.declared.message.Logged.TheVariants as logged
 use Rattle.actor.specs.declared.question.Reply.TheVariants as reply
 use Rattle.actor.specs.declared.state.Mode.TheVariants as mode
 use Rattle.actor.specs.Messages.{logged_number, message_cells, message_at}
@@ -86,11 +84,11 @@ then_end = (deliver (turn_tables front_of_none [] fresh 1) 0 0 1).links
 
 -- ---- three messages with the log ids 5, none and 6, which the actor never took
 
-abbrev row : Logged → List ℕ
-row id = message_cells (record { attempts = 0; name_len = 0; body_len = 0; caller = caller.Nobody; id = id })
+abbrev row : Option LogId → List ℕ
+row id = message_cells (record { attempts = 0; name_len = 0; body_len = 0; caller = None; id = id })
 
 abbrev rows : Table
-rows = row (logged.As (record { 0 = 5 })) ∷ row logged.Never ∷ row (logged.As (record { 0 = 6 })) ∷ []
+rows = row (Some (record { 0 = 5 })) ∷ row None ∷ row (Some (record { 0 = 6 })) ∷ []
 
 -- the lists once the actor left: 0 and 2, which are logged, are over, and 1 is the last of the free entries
 unfoldable pub unread : Table

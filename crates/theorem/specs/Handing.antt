@@ -1,13 +1,12 @@
 -- What an opening hands back: the messages in pending, with log id, group, body and attempts; and what holds of the
 -- lists and rows then.
-use Rattle.std.specs.Prelude.{◌≡◌, List, [], ◌∷◌, map, ℕ, ◌+◌, ◌*◌, ◌≤◌, length, replicate}
+use Rattle.std.specs.Prelude.{◌≡◌, List, [], ◌∷◌, map, ℕ, ◌+◌, ◌*◌, ◌≤◌, length, replicate, Some}
 use Rattle.text.specs.Format.{Message}
 use Rattle.text.specs.Bytes.{write, part}
 use Rattle.message_log.specs.Opened.{stored, left_row}
 use Rattle.message_log.specs.Opening.{RECORDS, NAME, ENTRY}
 use Rattle.lists.specs.Links.{Table, start_from, LISTS, FREE, PENDING}
 use Rattle.lists.specs.Family.{count, view}
-use Rattle.actor.specs.declared.message.Logged.TheVariants as logged
 use Rattle.actor.specs.Messages.{logged_number, message_at}
 use Rattle.theorem.specs.Places.{stands, Sound}
 use Rattle.settings.specs.Tables.{LeftPlaced, put_left}
@@ -34,7 +33,7 @@ ids_of ms = map (λ (m : Message). m.id) ms
 pub record TriedAs (t rows : Table) (m : Message) : Type 0 where
   pub entry : ℕ
   pub busy : count entry (view t FREE) ≡ 0
-  pub own : (message_at rows entry).id ≡ logged.As (record { 0 = m.id })
+  pub own : (message_at rows entry).id ≡ Some (record { 0 = m.id })
   pub most : m.attempts ≤ (message_at rows entry).attempts
 
 -- so it is with each of these messages

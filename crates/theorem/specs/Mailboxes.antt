@@ -2,11 +2,10 @@
 -- mailboxes; and what put at the end, put at the front, take and empty do to the order.
 -- specs/Operations.antt says where the pool does each of them. That `Chained` holds after every accepted opening and
 -- every list of calls is `MailboxesChained` (crates/theorem/specs/Rail).
-use Rattle.std.specs.Prelude.{◌≡◌, Bool, true, false, ◌≢◌, List, [], ◌∷◌, ◌++◌, map, ℕ, suc, ◌+◌, ◌-◌, ◌*◌, ◌<◌, length, get_or, take, drop}
+use Rattle.std.specs.Prelude.{◌≡◌, Bool, true, false, ◌≢◌, List, [], ◌∷◌, ◌++◌, map, ℕ, suc, ◌+◌, ◌-◌, ◌*◌, ◌<◌, length, get_or, take, drop, Option, Some, None}
+use Rattle.message_log.specs.declared.LogId.{LogId}
 use Rattle.lists.specs.Links.{pick, Table, FREE, OVER, ENTRIES, SLOTS}
 use Rattle.lists.specs.Family.{count, view, Good}
-use Rattle.actor.specs.declared.message.Logged.{Logged}
-use Rattle.actor.specs.declared.message.Logged.TheVariants as logged
 use Rattle.actor.specs.declared.message.Message.{Message}
 use Rattle.actor.specs.Messages.{message_at}
 use Rattle.actor.specs.Part.{bytes_in, part_at}
@@ -112,9 +111,9 @@ pub record Operated (op : Operation) (slot k : ℕ) (t r : Table) : Type 0 where
 -- ---- emptied unread: what is logged is over and waits for its mark, the other entries are free
 
 -- a message is logged, under whatever id
-abbrev pub has_log_id : Logged → Bool
-has_log_id (logged.As id) = true
-has_log_id logged.Never = false
+abbrev pub has_log_id : Option LogId → Bool
+has_log_id (Some id) = true
+has_log_id None = false
 
 -- of these entries, those whose messages are logged, in order ..
 unfoldable pub logged_in : Table → List ℕ → List ℕ

@@ -1,12 +1,10 @@
 -- The six places of a message: the lists 1 to 261 of the family (inbox, pending, batch, over, the step's hand, and
 -- for each actor's slot a mailbox and a hand); list 0 is what is free. How often a log id stands in them, how many
 -- messages are in mailboxes, and what every part of a turn keeps.
-use Rattle.std.specs.Prelude.{◌≡◌, Bool, false, ◌≢◌, List, [], ◌∷◌, ℕ, suc, ◌+◌, ◌*◌, ◌^◌, ◌≤◌, ◌<◌, eqb, length}
+use Rattle.std.specs.Prelude.{◌≡◌, Bool, false, ◌≢◌, List, [], ◌∷◌, ℕ, suc, ◌+◌, ◌*◌, ◌^◌, ◌≤◌, ◌<◌, eqb, length, Option, Some, None}
 use Rattle.lists.specs.Links.{pick, LISTS, FREE, Table, len_of, ENTRIES, HAND, SLOTS}
 use Rattle.lists.specs.Family.{count, total, view, Good}
 use Rattle.message_log.specs.declared.LogId.{LogId}
-use Rattle.actor.specs.declared.message.Logged.{Logged}
-use Rattle.actor.specs.declared.message.Logged.TheVariants as logged
 use Rattle.actor.specs.Messages.{message_at}
 use Rattle.steps.specs.declared.fixed.FixedAsk.{FixedAsk}
 use Rattle.steps.specs.declared.fixed.FixedAsk.TheVariants as fixed
@@ -14,9 +12,9 @@ use Rattle.steps.specs.declared.fixed.FixedNext.{FixedNext}
 use Rattle.steps.specs.declared.fixed.FixedNext.TheVariants as next
 
 -- a message is logged under id x
-abbrev pub is_id : ℕ → Logged → Bool
-is_id x (logged.As id) = eqb id.0 x
-is_id x logged.Never = false
+abbrev pub is_id : ℕ → Option LogId → Bool
+is_id x (Some id) = eqb id.0 x
+is_id x None = false
 
 -- how many entries of a list are logged under id x
 unfoldable pub id_count : ℕ → Table → List ℕ → ℕ
@@ -42,7 +40,7 @@ pub record Sound (t rows : Table) (queued : ℕ) : Type 0 where
 pub record Keeps (t rows t' rows' : Table) (queued' : ℕ) : Type 0 where
   pub sound : Sound t' rows' queued'
   pub same : (x : ℕ) → stands x t' rows' ≡ stands x t rows
-  pub busy : (e : ℕ) (id : LogId) → (message_at rows e).id ≡ logged.As id → count e (view t FREE) ≡ 0
+  pub busy : (e : ℕ) (id : LogId) → (message_at rows e).id ≡ Some id → count e (view t FREE) ≡ 0
       → count e (view t' FREE) ≡ 0
   pub named : (e : ℕ) → (message_at rows' e).id ≡ (message_at rows e).id
   pub tried : (e n : ℕ) → n < 2 ^ 64 → n ≤ (message_at rows e).attempts → n ≤ (message_at rows' e).attempts
@@ -55,7 +53,7 @@ pub record NotMailbox (k : ℕ) : Type 0 where
 
 -- a message comes from the free entries: sound after, and its log id stands once more, at an entry that is not free
 -- then; the rows of those that were not free are as they were
-pub record Comes (t rows t' rows' : Table) (queued' : ℕ) (id : Logged) : Type 0 where
+pub record Comes (t rows t' rows' : Table) (queued' : ℕ) (id : Option LogId) : Type 0 where
   pub sound : Sound t' rows' queued'
   pub more : (x : ℕ) → stands x t' rows' ≡ stands x t rows + pick (is_id x id) 1 0
   pub busy : (e : ℕ) → count e (view t FREE) ≡ 0 → count e (view t' FREE) ≡ 0
@@ -65,10 +63,10 @@ pub record Comes (t rows t' rows' : Table) (queued' : ℕ) (id : Logged) : Type 
   pub own : (message_at rows' entry).id ≡ id
 
 -- a message goes to the free entries: sound after, and its log id stands once less; no entry with another id goes
-pub record Goes (t rows t' rows' : Table) (queued' : ℕ) (id : Logged) : Type 0 where
+pub record Goes (t rows t' rows' : Table) (queued' : ℕ) (id : Option LogId) : Type 0 where
   pub sound : Sound t' rows' queued'
   pub less : (x : ℕ) → stands x t' rows' + pick (is_id x id) 1 0 ≡ stands x t rows
-  pub busy : (e : ℕ) (other : LogId) → (message_at rows e).id ≡ logged.As other → (message_at rows e).id ≢ id
+  pub busy : (e : ℕ) (other : LogId) → (message_at rows e).id ≡ Some other → (message_at rows e).id ≢ id
       → count e (view t FREE) ≡ 0 → count e (view t' FREE) ≡ 0
 
 -- while Push is open its message is in the step's hand

@@ -5,7 +5,8 @@
 -- The calls are defined in crates/pool/specs, disk and moments in crates/message_log/specs/Recovery
 -- (docs/RULES.md, 3), the places in specs/Places (docs/RULES.md, 7). The theorem is `whole_rail`, in
 -- proofs/Rail.antt; proofs/WrongPools.antt has pools that it rules out.
-use Rattle.std.specs.Prelude.{◌≡◌, Bool, true, false, ◌⊎◌, ℕ, ◌+◌, ◌*◌, ◌<◌, ◌≤◌, eqb, ltb, length, drop}
+use Rattle.std.specs.Prelude.{◌≡◌, Bool, true, false, ◌⊎◌, ℕ, ◌+◌, ◌*◌, ◌<◌, ◌≤◌, eqb, ltb, length, drop, Option, Some, None}
+use Rattle.actor.specs.declared.message.CallerId.{CallerId}
 use mathlib.Core.List.{List, [], ◌∷◌, ◌++◌, Memᴰ}
 use Rattle.group.specs.Roster.{ROWS}
 use Rattle.text.specs.Format.{ATTEMPTS, Message, untried}
@@ -15,19 +16,12 @@ use Rattle.message_log.specs.Log.{Wal}
 use Rattle.message_log.specs.declared.Order.{Order}
 use Rattle.message_log.specs.declared.Order.TheVariants.{Replace, Flush}
 use Rattle.message_log.specs.Recovery as disk
-use Rattle.lists.specs.declared.Found.{Found}
-use Rattle.lists.specs.declared.Found.TheVariants as found
 use Rattle.lists.specs.Links.{pick, Table, LISTS, ENTRIES, INBOX, PENDING, HAND, SLOTS, GROUPS, KEYS}
 use Rattle.lists.specs.Family.{count, view}
-use Rattle.actor.specs.declared.message.Caller.{Caller}
-use Rattle.actor.specs.declared.message.Caller.TheVariants as caller
-use Rattle.actor.specs.declared.message.Logged.TheVariants as logged
 use Rattle.actor.specs.Messages.{logged_number, message_at}
 use Rattle.actor.specs.declared.question.Reply.{Reply}
 use Rattle.actor.specs.declared.question.Question.{Question}
 use Rattle.actor.specs.declared.question.Question.TheVariants as ask
-use Rattle.actor.specs.declared.question.Asked.{Asked}
-use Rattle.actor.specs.declared.question.Asked.TheVariants as asked
 use Rattle.theorem.specs.Places.{stands, mail_total}
 use Rattle.theorem.specs.Mailboxes.{Chained}
 use Rattle.theorem.specs.Living.{given}
@@ -39,8 +33,8 @@ use Rattle.answers.specs.declared.answer.Answer.{Answer}
 use Rattle.answers.specs.declared.answer.Answer.TheVariants as answer
 use Rattle.answers.specs.Answers.{Did}
 use Rattle.answers.specs.Refusals.{Lent, file_in}
-use Rattle.pool.specs.declared.calls.StoredIn.{StoredIn}
-use Rattle.pool.specs.declared.calls.StoredIn.TheVariants as stored
+use Rattle.pool.specs.Stored.{StoredIn}
+use Rattle.pool.specs.Stored as stored
 use Rattle.pool.specs.Open.{open_of}
 use Rattle.pool.specs.Admit.{admit_of}
 use Rattle.pool.specs.Loaded.{Routes, LoadedAt}
@@ -51,7 +45,7 @@ use Rattle.pool.specs.Calls.{turn_of, stored_in, reply_of, sync_of, close_of}
 -- the five calls that may follow an opening, with what each is given
 pub data Call : Type 0 where
   -- a group's name, a body, and who waits for the outcome, if anybody
-  admit : List ℕ → List ℕ → Caller → Call
+  admit : List ℕ → List ℕ → Option CallerId → Call
   turn : Call
   -- with the name and body of a message that was sent
   reply : Reply → List ℕ → List ℕ → Call
@@ -95,9 +89,9 @@ order_asked (ask.Tell to outcome) = nothing
 order_asked (ask.Store o) = shows o
 
 -- the order in what is open: that of the open question; where nothing is open, none
-abbrev pub order_open : Asked → Shown
-order_open (asked.Open q) = order_asked q
-order_open asked.Nothing = nothing
+abbrev pub order_open : Option Question → Shown
+order_open (Some q) = order_asked q
+order_open None = nothing
 
 -- the order that an answer shows: the one that is open; a refusal and a turn's end show none
 abbrev pub order_shown : Answer → Shown
@@ -146,23 +140,23 @@ pub data Purpose : Type 0 where
 -- by the call that it came with: an admission for which no caller waits logs its message; what a turn or a reply
 -- orders is a mark or a retry; no other call logs, marks or retries
 abbrev pub purpose_of : Call → Purpose
-purpose_of (admit name body caller.Nobody) = of_record name body
-purpose_of (admit name body (caller.From who)) = of_neither
+purpose_of (admit name body None) = of_record name body
+purpose_of (admit name body (Some who)) = of_neither
 purpose_of turn = of_turn
 purpose_of (reply r name body) = of_turn
 purpose_of sync = of_neither
 purpose_of close = of_neither
 
 -- the last of some entries
-unfoldable pub last_in : List ℕ → Found
-last_in [] = found.Nothing
-last_in (e ∷ []) = found.Entry e
+unfoldable pub last_in : List ℕ → Option ℕ
+last_in [] = None
+last_in (e ∷ []) = Some e
 last_in (e ∷ f ∷ es) = last_in (f ∷ es)
 
 -- the messages with the attempts of an entry's row, where the entry's id is one of theirs
-abbrev pub tried_as : State → Found → List Message → List Message
-tried_as s (found.Entry e) now = retried (logged_number (message_at s.rows e).id) (message_at s.rows e).attempts now
-tried_as s found.Nothing now = now
+abbrev pub tried_as : State → Option ℕ → List Message → List Message
+tried_as s (Some e) now = retried (logged_number (message_at s.rows e).id) (message_at s.rows e).attempts now
+tried_as s None now = now
 
 -- a retry sets the attempts of the message that came to pending's end with it, to those that its row has now
 abbrev pub retried_last : State → List Message → List Message
@@ -461,9 +455,9 @@ pub record RefusedSame : Type 0 where
 -- the last message of pending is logged and not done, and its row says attempts that a retry line can say
 pub record LastTried (s : State) (now : List Message) : Type 0 where
   pub entry : ℕ
-  pub last : last_in (view s.links PENDING) ≡ found.Entry entry
+  pub last : last_in (view s.links PENDING) ≡ Some entry
   pub id : LogId
-  pub own : (message_at s.rows entry).id ≡ logged.As id
+  pub own : (message_at s.rows entry).id ≡ Some id
   pub among : 0 < count id.0 (ids_of now)
   pub told : 0 < (message_at s.rows entry).attempts
   pub most : (message_at s.rows entry).attempts ≤ ATTEMPTS
@@ -479,8 +473,8 @@ TurnFits s now o =
 -- What an accepted call orders. An admission for which no caller waits has an order: it is logged. One with a caller,
 -- and a close, have none. A turn or a reply has a mark, a retry or nothing. A sync has a flush or nothing.
 abbrev pub OrderFits : World → Call → State → Shown → Type 0
-OrderFits w (admit name body caller.Nobody) s o = orders_in o ≡ 1
-OrderFits w (admit name body (caller.From who)) s o = orders_in o ≡ 0
+OrderFits w (admit name body None) s o = orders_in o ≡ 1
+OrderFits w (admit name body (Some who)) s o = orders_in o ≡ 0
 OrderFits w turn s o = TurnFits s w.journal.now o
 OrderFits w (reply r name body) s o = TurnFits s w.journal.now o
 OrderFits w sync s o = (o ≡ nothing) ⊎ (o ≡ shows Flush)
@@ -505,13 +499,13 @@ pub record ComesLoaded (s s' : State) : Type 0 where
   pub loaded : LoadedAt s'.groups s'.pool.limits.groups s'.store s'.rows entry
 
 -- an admission of this name and body, for this caller or nobody, comes so if it is accepted
-abbrev pub AcceptsLoaded : State → List ℕ → List ℕ → Caller → Type 0
+abbrev pub AcceptsLoaded : State → List ℕ → List ℕ → Option CallerId → Type 0
 AcceptsLoaded s name body who =
     accepted (call_of s (admit name body who)).answer ≡ true → ComesLoaded s (call_of s (admit name body who)).state
 
 -- Refused with 17, it is for no such program: in whatever entry it were written, routing would find no group for it
 -- that may have an actor.
-abbrev pub RefusesUnloaded : State → List ℕ → List ℕ → Caller → Type 0
+abbrev pub RefusesUnloaded : State → List ℕ → List ℕ → Option CallerId → Type 0
 RefusesUnloaded s name body who =
     (call_of s (admit name body who)).answer ≡ answer.Refused NotLoaded
     → (e : ℕ) → e < ENTRIES
@@ -519,7 +513,7 @@ RefusesUnloaded s name body who =
 
 -- both hold of every admission after every list of calls, whatever its name, its body and who waits
 pub record AdmitsLoaded : Type 0 where
-  pub comes : (l : Lent) → Accepts l → (before : List Call) (name body : List ℕ) (who : Caller)
+  pub comes : (l : Lent) → Accepts l → (before : List Call) (name body : List ℕ) (who : Option CallerId)
       → AcceptsLoaded (after l before).state name body who
-  pub refused : (l : Lent) → Accepts l → (before : List Call) (name body : List ℕ) (who : Caller)
+  pub refused : (l : Lent) → Accepts l → (before : List Call) (name body : List ℕ) (who : Option CallerId)
       → RefusesUnloaded (after l before).state name body who

@@ -1,13 +1,12 @@
 -- A retry is written: what every call does with the attempts of a message that was logged. The proof is
 -- `retries_written`, in proofs/RetriesWritten.
-use Rattle.std.specs.Prelude.{◌≡◌, ◌⊎◌, ◌≢◌, ℕ, ◌<◌, ◌≤◌, length}
+use Rattle.std.specs.Prelude.{◌≡◌, ◌⊎◌, ◌≢◌, ℕ, ◌<◌, ◌≤◌, length, Some}
 use mathlib.Core.List.{List, Memᴰ}
 use Rattle.text.specs.Format.{ATTEMPTS, Message}
 use Rattle.lists.specs.Links.{FREE}
 use Rattle.lists.specs.Family.{count, view}
 use Rattle.message_log.specs.declared.LogId.{LogId}
 use Rattle.message_log.specs.Opening.{retried, image}
-use Rattle.actor.specs.declared.message.Logged.TheVariants as logged
 use Rattle.actor.specs.Messages.{message_at}
 use Rattle.turn.specs.State.{State}
 use Rattle.answers.specs.Answers.{Did}
@@ -37,7 +36,7 @@ Noted w now id tried = (tried ≤ ATTEMPTS) × (Says now id tried ⊎ NoRoom w i
 -- logged, in an entry that was not free, it wrote them, or there was no room.
 abbrev pub DidRetries : World → Call → Did → Type 0
 DidRetries w c d = (e : ℕ) (id : LogId) → count e (view w.state.links FREE) ≡ 0
-    → (message_at w.state.rows e).id ≡ logged.As id → attempts_in d.state e ≢ attempts_in w.state e
+    → (message_at w.state.rows e).id ≡ Some id → attempts_in d.state e ≢ attempts_in w.state e
     → Noted w (step_did w c d).journal.now id.0 (attempts_in d.state e)
 
 -- so it is with this pool's calls

@@ -1,17 +1,11 @@
 -- Crashed messages are tried again up to the group's retries, else dead; dead and crash counts are held at their
 -- largest. After a failure in a fixed group Trap is asked, and after yes Trapped of each actor left; those that
 -- answer yes are retired in key order: their mailboxes go back to pending, and what they had in their hands crashed.
-use Rattle.std.specs.Prelude.{ℕ, ◌+◌, ◌-◌, eqb, ltb, set}
-use Rattle.lists.specs.declared.Found.{Found}
-use Rattle.lists.specs.declared.Found.TheVariants as found
-use Rattle.lists.specs.declared.keys.Key.{Key}
-use Rattle.lists.specs.declared.keys.Key.TheVariants as key
+use Rattle.std.specs.Prelude.{ℕ, ◌+◌, ◌-◌, eqb, ltb, set, Option, Some, None, Bool, true, false}
 use Rattle.lists.specs.Links.{pick, Table, capped, first_of, move_first, move_all, mailbox_of, hand_of, PENDING, HAND, KEYS}
 use Rattle.lists.specs.KeyLists.{blank_row, keys_at, front_of, pop_front}
 use Rattle.lists.specs.Slabs.{next_key}
 use Rattle.actor.specs.declared.question.Reply.{Reply}
-use Rattle.actor.specs.declared.question.YesIn.{YesIn}
-use Rattle.actor.specs.declared.question.YesIn.TheVariants as yes
 use Rattle.actor.specs.Questions.{yes_in}
 use Rattle.actor.specs.Messages.{message_at, put_message, tried_of}
 use Rattle.steps.specs.Steps.{over_first}
@@ -82,18 +76,18 @@ crashed_entry groups x g from e =
     (dying (over_first x.links x.rows from) x.rows (capped (x.dead + 1)))
 
 -- the entry that was found has crashed; where none was found nothing changes
-abbrev pub crashed_found : Table → Dying → ℕ → ℕ → Found → Dying
-crashed_found groups x g from (found.Entry e) = crashed_entry groups x g from e
-crashed_found groups x g from found.Nothing = x
+abbrev pub crashed_found : Table → Dying → ℕ → ℕ → Option ℕ → Dying
+crashed_found groups x g from (Some e) = crashed_entry groups x g from e
+crashed_found groups x g from None = x
 
 -- the entry that was found is tried again if its message crashes: its attempts are below the group's retries
-abbrev pub again_found : Table → Table → ℕ → Found → Found
-again_found groups rows g (found.Entry e) =
-    pick (ltb (message_at rows e).attempts (group_at groups g).retry) (found.Entry e) found.Nothing
-again_found groups rows g found.Nothing = found.Nothing
+abbrev pub again_found : Table → Table → ℕ → Option ℕ → Option ℕ
+again_found groups rows g (Some e) =
+    pick (ltb (message_at rows e).attempts (group_at groups g).retry) (Some e) None
+again_found groups rows g None = None
 
 -- the first message of a list, if it is tried again when it crashes; where it would be dead, or there is none, nothing
-unfoldable pub again_first : Table → Table → Table → ℕ → ℕ → Found
+unfoldable pub again_first : Table → Table → Table → ℕ → ℕ → Option ℕ
 again_first groups t rows g from = again_found groups rows g (first_of t from)
 
 -- the first message of a list crashed, where there is one
@@ -112,9 +106,9 @@ crash_of groups t rows c l =
 -- ---- Trap, and Trapped of each actor in key order
 
 -- Trapped is asked of the actor with this key; with none left the trapped ones are retired, at most 16
-abbrev pub trapped_at : Cursor → Key → At
-trapped_at c (key.At k) = at.Asks (asks.Trapped c k)
-trapped_at c key.Nothing = at.Runs (point.CrashTrapped c KEYS)
+abbrev pub trapped_at : Cursor → Option ℕ → At
+trapped_at c (Some k) = at.Asks (asks.Trapped c k)
+trapped_at c None = at.Runs (point.CrashTrapped c KEYS)
 
 -- Trapped is asked of the group's first actor from this key on; with none left the trapped ones are retired
 unfoldable pub trapped_next : Table → Cursor → ℕ → At
@@ -126,10 +120,10 @@ listed_at keys a = record { keys = keys; at = a }
 
 -- yes: no key is trapped so far, and Trapped is asked from key 0 on; no: the ready list goes on; any other reply: Trap
 -- stays open
-abbrev pub trap_by : Table → Cursor → YesIn → Listed
-trap_by keys c yes.Yes = listed_at (set keys TRAPPED blank_row) (trapped_next (set keys TRAPPED blank_row) c 0)
-trap_by keys c yes.No = listed_at keys (ready_after c)
-trap_by keys c yes.Other = listed_at keys (at.Asks (asks.Trap c))
+abbrev pub trap_by : Table → Cursor → Option Bool → Listed
+trap_by keys c (Some true) = listed_at (set keys TRAPPED blank_row) (trapped_next (set keys TRAPPED blank_row) c 0)
+trap_by keys c (Some false) = listed_at keys (ready_after c)
+trap_by keys c None = listed_at keys (at.Asks (asks.Trap c))
 
 -- the reply to Trap: yes leads to Trapped of the group's actors, no to the ready list; one that does not fit changes
 -- nothing
@@ -142,10 +136,10 @@ next_asked k = pick (ltb k KEYS) (k + 1) KEYS
 
 -- yes: the key goes to the end of the trapped ones; after yes and after no the next actor is asked; any other reply:
 -- Trapped stays open
-abbrev pub trapped_by : Table → Cursor → ℕ → YesIn → Listed
-trapped_by keys c k yes.Yes = listed_at (push_key keys TRAPPED k) (trapped_next (push_key keys TRAPPED k) c (next_asked k))
-trapped_by keys c k yes.No = listed_at keys (trapped_next keys c (next_asked k))
-trapped_by keys c k yes.Other = listed_at keys (at.Asks (asks.Trapped c k))
+abbrev pub trapped_by : Table → Cursor → ℕ → Option Bool → Listed
+trapped_by keys c k (Some true) = listed_at (push_key keys TRAPPED k) (trapped_next (push_key keys TRAPPED k) c (next_asked k))
+trapped_by keys c k (Some false) = listed_at keys (trapped_next keys c (next_asked k))
+trapped_by keys c k None = listed_at keys (at.Asks (asks.Trapped c k))
 
 -- the reply to Trapped: who answers yes is kept to be retired, and the next actor is asked; one that does not fit
 -- changes nothing
@@ -196,9 +190,9 @@ trapped_popped x =
     retiring x.links x.rows (set x.keys TRAPPED (pop_front (keys_at x.keys TRAPPED))) x.queued x.losses
 
 -- the first trapped key is popped and its actor retired, with one less left; with no key the ready list goes on
-abbrev pub crash_trapped_front : Table → Retiring → Cursor → ℕ → Key → Crashing
-crash_trapped_front groups x c left (key.At k) = crash_trapped_key groups (trapped_popped x) c k (left - 1)
-crash_trapped_front groups x c left key.Nothing = crash_trapped_done x c
+abbrev pub crash_trapped_front : Table → Retiring → Cursor → ℕ → Option ℕ → Crashing
+crash_trapped_front groups x c left (Some k) = crash_trapped_key groups (trapped_popped x) c k (left - 1)
+crash_trapped_front groups x c left None = crash_trapped_done x c
 
 -- the next trapped actor is retired; with `left` 0 or no trapped key the ready list goes on
 unfoldable pub crash_trapped : Table → Retiring → Cursor → ℕ → Crashing

@@ -1,8 +1,6 @@
 -- A group's ready list is popped, and each actor that has work is stepped once: its step begins at a question, or has
 -- ended.
-use Rattle.std.specs.Prelude.{Bool, true, false, ◌&&◌, ℕ, ◌-◌, eqb, set}
-use Rattle.lists.specs.declared.keys.Key.{Key}
-use Rattle.lists.specs.declared.keys.Key.TheVariants as key
+use Rattle.std.specs.Prelude.{Bool, true, false, ◌&&◌, ℕ, ◌-◌, eqb, set, Option, Some, None}
 use Rattle.lists.specs.Links.{pick, Table, len_of, mailbox_of}
 use Rattle.lists.specs.KeyLists.{keys_at, front_of, pop_front}
 use Rattle.actor.specs.declared.state.Actor.{Actor}
@@ -153,10 +151,10 @@ abbrev pub ready_popped : Readying → ℕ → Readying
 ready_popped x g = readying x.links (pop_ready x.keys g) x.actors x.queued x.stepped
 
 -- the first key is popped, with one pop less left, and its actor may be stepped; with no key the next group is woken
-abbrev pub ready_front : Readying → ℕ → ℕ → ℕ → Key → Readied
-ready_front x g clock pops (key.At k) =
+abbrev pub ready_front : Readying → ℕ → ℕ → ℕ → Option ℕ → Readied
+ready_front x g clock pops (Some k) =
     readied_with (pop_ready x.keys g) (ready_key (ready_popped x g) (cursor_at g k clock (pops - 1)))
-ready_front x g clock pops key.Nothing = wake_after x g clock
+ready_front x g clock pops None = wake_after x g clock
 
 -- one pop of a group's ready list; with no pop left, or an empty list, the next group is woken
 unfoldable pub ready_of : Readying → ℕ → ℕ → ℕ → Readied

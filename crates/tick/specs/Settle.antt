@@ -1,10 +1,9 @@
 -- A step's end: Sends is asked of a fixed actor; then the actor is put into a list, or leaves its group. One that
 -- ended or raised sends its mailbox back to pending if it ever took a message, else its mail is over.
-use Rattle.std.specs.Prelude.{Bool, true, false, ℕ, set}
+use Rattle.std.specs.Prelude.{Bool, true, false, ℕ, set, Option}
 use Rattle.lists.specs.Links.{Table, len_of, move_all, mailbox_of, PENDING}
 use Rattle.lists.specs.KeyLists.{keys_at}
 use Rattle.lists.specs.Slabs.{remove_of}
-use Rattle.actor.specs.declared.state.Wake.{Wake}
 use Rattle.actor.specs.Actors.{actor_at, put_actor, blocked_to, yielded_as}
 use Rattle.steps.specs.declared.step.Parked.{Parked}
 use Rattle.steps.specs.declared.step.Parked.TheVariants as parked
@@ -77,7 +76,7 @@ release_of rows x c =
     (retire_key x.keys c.group c.key)
 
 -- blocked becomes yes and wake_at the deadline or none; the key goes to the waiting list's end
-unfoldable pub block_at : Table → Table → Cursor → Wake → Keyed
+unfoldable pub block_at : Table → Table → Cursor → Option ℕ → Keyed
 block_at keys actors c until =
     record {
       keys = push_key keys (waiting_row c.group) c.key;

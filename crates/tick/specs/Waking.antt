@@ -1,19 +1,13 @@
 -- Waiting actors past their deadline, and those whose Poll gives a count above 0, go to the ready list. Poll is asked
 -- only of an actor that is blocked, past no deadline and, if eval, has a run.
-use Rattle.std.specs.Prelude.{Bool, true, false, ◌&&◌, ℕ, ◌-◌, eqb, ltb, leb, set}
-use Rattle.lists.specs.declared.keys.Key.{Key}
-use Rattle.lists.specs.declared.keys.Key.TheVariants as key
+use Rattle.std.specs.Prelude.{Bool, true, false, ◌&&◌, ℕ, ◌-◌, eqb, ltb, leb, set, Option, Some, None}
 use Rattle.lists.specs.Links.{pick, Table, GROUPS}
 use Rattle.lists.specs.KeyLists.{blank_row, keys_at, count_of, front_of, pop_front, FULL}
 use Rattle.actor.specs.declared.question.Reply.{Reply}
-use Rattle.actor.specs.declared.question.CountIn.{CountIn}
 use Rattle.actor.specs.declared.question.Who.{Who}
-use Rattle.actor.specs.declared.question.CountIn.TheVariants as count
 use Rattle.actor.specs.declared.state.Actor.{Actor}
 use Rattle.actor.specs.declared.state.Mode.{Mode}
 use Rattle.actor.specs.declared.state.Mode.TheVariants as mode
-use Rattle.actor.specs.declared.state.Wake.{Wake}
-use Rattle.actor.specs.declared.state.Wake.TheVariants as wake
 use Rattle.actor.specs.Questions.{count_in}
 use Rattle.actor.specs.Actors.{actor_at, put_actor, woken_as, has_run}
 use Rattle.points.specs.declared.at.At.{At}
@@ -49,9 +43,9 @@ wake_of keys n g clock =
     }))
 
 -- its deadline has passed
-unfoldable pub late_at : Wake → ℕ → Bool
-late_at (wake.At ns) clock = leb ns clock
-late_at wake.Never clock = false
+unfoldable pub late_at : Option ℕ → ℕ → Bool
+late_at (Some ns) clock = leb ns clock
+late_at None clock = false
 
 -- a fixed actor is polled if it is blocked, an eval actor if it is blocked and has a run
 abbrev pub polls_by : Bool → Bool → Mode → Bool
@@ -91,10 +85,10 @@ ready_now x g clock =
     waked_to x (at.Runs (point.Ready g clock (at_most64 (count_of (keys_at x.keys (ready_row g))))))
 
 -- the first key of the rest is popped and its actor looked at, with one less left; with no key the ready list is next
-abbrev pub wake_first : Keyed → ℕ → ℕ → ℕ → Key → Waked
-wake_first x g clock left (key.At k) =
+abbrev pub wake_first : Keyed → ℕ → ℕ → ℕ → Option ℕ → Waked
+wake_first x g clock left (Some k) =
     wake_one (keyed (set x.keys REST (pop_front (keys_at x.keys REST))) x.actors) g k clock (left - 1)
-wake_first x g clock left key.Nothing = ready_now x g clock
+wake_first x g clock left None = ready_now x g clock
 
 -- one more key of the waiting list that was taken; with `left` 0 or no key the group's ready list is next
 unfoldable pub wake_next : Keyed → ℕ → ℕ → ℕ → Waked
@@ -102,11 +96,11 @@ wake_next x g clock left =
     pick (eqb left 0) (ready_now x g clock) (wake_first x g clock left (front_of (keys_at x.keys REST)))
 
 -- Poll: above 0 it is awake
-abbrev pub poll_by : Keyed → Who → ℕ → ℕ → CountIn → Waked
-poll_by x who clock left (count.Of n) =
+abbrev pub poll_by : Keyed → Who → ℕ → ℕ → Option ℕ → Waked
+poll_by x who clock left (Some n) =
     waked_to (woken_to x.keys x.actors who.group who.key (ltb 0 n))
     (at.Runs (point.WakeNext who.group clock left))
-poll_by x who clock left count.Other = waked_to x (at.Asks (asks.WakePoll who.group who.key clock left))
+poll_by x who clock left None = waked_to x (at.Asks (asks.WakePoll who.group who.key clock left))
 
 -- the reply to Poll: above 0 the actor is woken, at 0 it is not; one that does not fit changes nothing
 unfoldable pub poll_reply : Keyed → Who → ℕ → ℕ → Reply → Waked

@@ -1,10 +1,12 @@
 // Crashed messages are tried again or dead (`handle_crash` of the Rust), and actors of a trapped interpreter are
 // retired (`crash_trapped`).
-ghost use Rattle.std.specs.Prelude.{◌≡◌};
+ghost use Rattle.std.specs.Prelude.{◌≡◌, ◌+◌, ltb};
+ghost use Rattle.lists.specs.Links.{capped};
+ghost use Rattle.actor.specs.Messages.{message_at};
+ghost use Rattle.group.specs.Settings.{group_at};
 ghost use Rattle.points.specs.Words.{at_of};
 ghost use Rattle.tick.specs.Crash.{
   again_first,
-  crashed_entry,
   handle_crash,
   crash_of,
   trapped_next,
@@ -14,17 +16,19 @@ ghost use Rattle.tick.specs.Crash.{
   crash_trapped_key,
   crash_trapped,
   crashed_of,
+  retiring,
+  dying,
+  losing,
 };
-ghost use Rattle.tick.specs.Crash.{retiring, dying};
 
 use crate::settle;
 use actor::message::MessageRow;
-use actor::question::{Reply, YesIn};
+use actor::question::Reply;
 use actor::{message, question};
 use group::settings::GroupRow;
 use group::{roster, settings};
-use lists::keys::{Key, KeyRow};
-use lists::{Found, LinkRow, keys, slab};
+use lists::keys::KeyRow;
+use lists::{LinkRow, keys, slab};
 use points::at::Cursor;
 use points::words::Where;
 use points::{at, words};
@@ -45,56 +49,30 @@ pub struct Crashed {
     pub losses: Losses,
 }
 
+// Whether a message is tried again when it crashes.
+fn again(groups: &[GroupRow], rows: &[MessageRow], g: usize, entry: usize) -> bool
+    ensures { result ≡ ltb (message_at rows.now entry).attempts (group_at groups.now g).retry }
+{
+    message::attempts_at(rows, entry) < settings::group_at(groups, g).retry
+}
+
 // The first message of a list, if it is tried again when it crashes.
+#[tactic(auto, unfolding(crate::specs::Crash::again_first))]
 pub fn again_first(
     groups: &[GroupRow],
     links: &[LinkRow],
     rows: &[MessageRow],
     g: usize,
     from: usize,
-) -> Found
+) -> Option<usize>
     ensures { result ≡ again_first groups.now links.now rows.now g from }
 {
-    match lists::first(links, from) {
-        Found::Entry(e) => {
-            let s = settings::group_at(groups, g);
-            let attempts = message::attempts_at(rows, e);
-            if attempts < s.retry {
-                return Found::Entry(e);
-            }
-            Found::Nothing
-        }
-        Found::Nothing => Found::Nothing,
-    }
+    lists::first(links, from).filter(|e| again(groups, rows, g, *e))
 }
 
-// The first message of a list crashed: it is tried again up to the group's retries, else dead and over. The number of
-// the dead after it.
-fn crashed_entry(
-    groups: &[GroupRow],
-    links: &mut [LinkRow],
-    rows: &mut [MessageRow],
-    g: usize,
-    from: usize,
-    entry: usize,
-    dead: u64,
-) -> u64
-    ensures { record { links = links.new; rows = rows.new; dead = result }
-        ≡ crashed_entry groups.now (dying links.old rows.old dead) g from entry }
-{
-    let s = settings::group_at(groups, g);
-    let retry = s.retry;
-    let attempts = message::attempts_at(rows, entry);
-    if attempts < retry {
-        message::tried_at(rows, entry);
-        lists::move_first(links, from, lists::PENDING);
-        return dead;
-    }
-    step::over_first(links, rows, from);
-    lists::saturating_add(dead, 1)
-}
-
-// The same where the list may be empty.
+// The first message of a list crashed, if there is one: it is tried again up to the group's retries, else dead and
+// over. The number of the dead after it.
+#[tactic(auto, unfolding(crate::specs::Crash::handle_crash, crate::specs::Crash::crashed_entry))]
 fn handle_crash(
     groups: &[GroupRow],
     links: &mut [LinkRow],
@@ -106,13 +84,39 @@ fn handle_crash(
     ensures { record { links = links.new; rows = rows.new; dead = result }
         ≡ handle_crash groups.now (dying links.old rows.old dead) g from }
 {
-    match lists::first(links, from) {
-        Found::Entry(e) => crashed_entry(groups, links, rows, g, from, e, dead),
-        Found::Nothing => dead,
+    let Some(entry) = lists::first(links, from) else {
+        return dead;
+    };
+    if again(groups, rows, g, entry) {
+        message::tried_at(rows, entry);
+        lists::move_first(links, from, lists::PENDING);
+        return dead;
+    }
+    step::over_first(links, rows, from);
+    dead.saturating_add(1)
+}
+
+// An actor is gone, and the first message of a list crashed with it.
+fn lose(
+    groups: &[GroupRow],
+    links: &mut [LinkRow],
+    rows: &mut [MessageRow],
+    g: usize,
+    from: usize,
+    losses: Losses,
+) -> Losses
+    ensures { record { links = links.new; rows = rows.new; losses = result }
+        ≡ losing (handle_crash groups.now (dying links.old rows.old losses.dead) g from)
+        (capped (losses.crashes + 1)) }
+{
+    Losses {
+        dead: handle_crash(groups, links, rows, g, from, losses.dead),
+        crashes: losses.crashes.saturating_add(1),
     }
 }
 
 // A failed step's actor is gone: the message in the step's hand crashed.
+#[tactic(auto, unfolding(crate::specs::Crash::crash_of))]
 pub fn crash(
     groups: &[GroupRow],
     links: &mut [LinkRow],
@@ -123,37 +127,35 @@ pub fn crash(
     ensures { record { links = links.new; rows = rows.new; losses = result }
         ≡ crash_of groups.now links.old rows.old c losses }
 {
-    let crashes = lists::saturating_add(losses.crashes, 1);
-    let dead = handle_crash(groups, links, rows, c.group, lists::HAND, losses.dead);
-    Losses { dead, crashes }
+    lose(groups, links, rows, c.group, lists::HAND, losses)
 }
 
 // The most keys that may be trapped: those of a group.
 const KEYS: u64 = slab::KEYS as u64;
 
 // Trapped is asked of the next actor in key order; after the last those that were trapped are retired.
+#[tactic(auto, unfolding(crate::specs::Crash::trapped_next))]
 fn trapped_next(keys: &[KeyRow], c: Cursor, from: u8) -> Where
     ensures { at_of result ≡ trapped_next keys.now c from }
 {
-    let row = roster::slab_row(c.group);
-    match slab::next_key_at(keys, row, from) {
-        Key::At(key) => words::trapped(c, key),
-        Key::Nothing => words::crash_trapped(c, KEYS),
+    match slab::next_key_at(keys, roster::slab_row(c.group), from) {
+        Some(key) => words::trapped(c, key),
+        None => words::crash_trapped(c, KEYS),
     }
 }
 
 // The reply to Trap; one that does not fit changes nothing.
+#[tactic(auto, unfolding(crate::specs::Crash::trap_reply))]
 pub fn trap_reply(keys: &mut [KeyRow], c: Cursor, reply: Reply) -> Where
     ensures { record { keys = keys.new; at = at_of result } ≡ trap_reply keys.old c reply }
 {
-    let came = question::yes_in(reply);
-    match came {
-        YesIn::Yes => {
+    match question::yes_in(reply) {
+        Some(true) => {
             keys::clear_at(keys, roster::TRAPPED);
             trapped_next(keys, c, 0)
         }
-        YesIn::No => at::ready_after(c),
-        YesIn::Other => words::trap(c),
+        Some(false) => at::ready_after(c),
+        None => words::trap(c),
     }
 }
 
@@ -161,30 +163,25 @@ pub fn trap_reply(keys: &mut [KeyRow], c: Cursor, reply: Reply) -> Where
 fn next_asked(key: u8) -> u8
     ensures { result ≡ next_asked key }
 {
-    if key < slab::KEYS {
-        key + 1
-    } else {
-        slab::KEYS
-    }
+    key.saturating_add(1).min(slab::KEYS)
 }
 
 // The reply to Trapped; one that does not fit changes nothing.
+#[tactic(auto, unfolding(crate::specs::Crash::trapped_reply))]
 pub fn trapped_reply(keys: &mut [KeyRow], c: Cursor, key: u8, reply: Reply) -> Where
     ensures { record { keys = keys.new; at = at_of result } ≡ trapped_reply keys.old c key reply }
 {
-    let came = question::yes_in(reply);
-    let after = next_asked(key);
-    match came {
-        YesIn::Yes => {
-            roster::push_key(keys, roster::TRAPPED, key);
-            trapped_next(keys, c, after)
-        }
-        YesIn::No => trapped_next(keys, c, after),
-        YesIn::Other => words::trapped(c, key),
+    let Some(trapped) = question::yes_in(reply) else {
+        return words::trapped(c, key);
+    };
+    if trapped {
+        roster::push_key(keys, roster::TRAPPED, key);
     }
+    trapped_next(keys, c, next_asked(key))
 }
 
 // A trapped actor leaves its group: its mailbox goes back to pending, and what it had in its hands crashed.
+#[tactic(auto, unfolding(crate::specs::Crash::crash_trapped_key, crate::specs::Settle::leftover_of))]
 fn crash_trapped_key(
     groups: &[GroupRow],
     links: &mut [LinkRow],
@@ -202,24 +199,16 @@ fn crash_trapped_key(
 {
     let slot = roster::slot_at(c.group, key);
     settle::retire(keys, c.group, key);
-    let mailbox = lists::mailbox(slot);
-    let before = lists::length_of(links, mailbox);
-    lists::move_all(links, mailbox, lists::PENDING);
-    let after = lists::length_of(links, mailbox);
-    let more = lists::saturating_add(queued, after);
-    let fewer = lists::saturating_sub(more, before);
-    let crashes = lists::saturating_add(losses.crashes, 1);
-    let hand = lists::hand(slot);
-    let dead = handle_crash(groups, links, rows, c.group, hand, losses.dead);
-    let at = words::crash_trapped(c, left);
+    let queued = settle::leftover(links, rows, slot, true, queued);
     Crashed {
-        at,
-        queued: fewer,
-        losses: Losses { dead, crashes },
+        at: words::crash_trapped(c, left),
+        queued,
+        losses: lose(groups, links, rows, c.group, lists::hand(slot), losses),
     }
 }
 
 // The next of the trapped actors is retired, in key order.
+#[tactic(auto, unfolding(crate::specs::Crash::crash_trapped))]
 pub fn crash_trapped(
     groups: &[GroupRow],
     links: &mut [LinkRow],
@@ -234,22 +223,13 @@ pub fn crash_trapped(
         ≡ crash_trapped groups.now
         (retiring links.old rows.old keys.old queued losses) c left }
 {
-    let next = at::ready_after(c);
-    if left == 0 {
-        return Crashed {
-            at: next,
-            queued,
-            losses,
-        };
-    }
     match keys::front_at(keys, roster::TRAPPED) {
-        Key::At(key) => {
+        Some(key) if left != 0 => {
             keys::pop_at(keys, roster::TRAPPED);
-            let fewer = lists::saturating_sub(left, 1);
-            crash_trapped_key(groups, links, rows, keys, c, key, fewer, queued, losses)
+            crash_trapped_key(groups, links, rows, keys, c, key, left - 1, queued, losses)
         }
-        Key::Nothing => Crashed {
-            at: next,
+        _ => Crashed {
+            at: at::ready_after(c),
             queued,
             losses,
         },

@@ -2,13 +2,21 @@
 ghost use Rattle.std.specs.Prelude.{◌≡◌};
 ghost use Rattle.points.specs.Words.{at_of};
 ghost use Rattle.actor.specs.Actors.{actor_at};
-ghost use Rattle.tick.specs.Ready.{rests_of, begin_fixed, begin_eval, begin_step, ready_key, ready_of, begun_of};
-ghost use Rattle.tick.specs.Ready.{readying};
+ghost use Rattle.tick.specs.Ready.{
+  rests_of,
+  begin_fixed,
+  begin_eval,
+  begin_step,
+  ready_key,
+  ready_of,
+  begun_of,
+  readying,
+};
 
 use actor::state;
 use actor::state::{ActorRow, Mode};
 use group::roster;
-use lists::keys::{Key, KeyRow};
+use lists::keys::KeyRow;
 use lists::{LinkRow, keys};
 use points::at::Cursor;
 use points::words::Where;
@@ -24,27 +32,23 @@ pub struct Begun {
 }
 
 // Whether an actor has no work: an empty mailbox, and it ran and is not runnable.
+#[tactic(auto, unfolding(crate::specs::Ready::rests_of))]
 fn rests(actors: &[ActorRow], slot: usize, waiting: u64) -> bool
     ensures { result ≡ rests_of (actor_at actors.now slot) waiting }
 {
-    let ran = state::has_run_once(actors, slot);
-    let runnable = state::is_runnable(actors, slot);
-    if waiting == 0 {
-        if runnable { false } else { ran }
-    } else {
-        false
-    }
+    waiting == 0 && !state::is_runnable(actors, slot) && state::has_run_once(actors, slot)
 }
 
 // A step of a fixed actor begins.
+#[tactic(auto, unfolding(crate::specs::Ready::begin_fixed))]
 fn begin_fixed(actors: &mut [ActorRow], c: Cursor, slot: usize) -> Where
     ensures { record { actors = actors.new; at = at_of result } ≡ begin_fixed actors.old c slot }
 {
-    let ask = fixed::fixed_start(actors, slot);
-    words::fixed(c, ask)
+    words::fixed(c, fixed::fixed_start(actors, slot))
 }
 
 // A step of an eval actor begins; one with no run and no mail ends at once.
+#[tactic(auto, unfolding(crate::specs::Ready::begin_eval))]
 fn begin_eval(
     links: &mut [LinkRow],
     actors: &mut [ActorRow],
@@ -56,16 +60,15 @@ fn begin_eval(
         ≡ begin_eval links.old actors.old c slot queued }
 {
     let s = eval::eval_start(links, actors, slot, queued);
-    let next = s.next;
-    let at = at::eval_after(c, next);
     Begun {
-        at,
+        at: at::eval_after(c, s.next),
         queued: s.queued,
         stepped: true,
     }
 }
 
 // The actor of a slot is stepped.
+#[tactic(auto, unfolding(crate::specs::Ready::begin_step))]
 fn begin_step(
     links: &mut [LinkRow],
     actors: &mut [ActorRow],
@@ -79,19 +82,17 @@ fn begin_step(
     let mode = state::mode_at(actors, slot);
     state::began_at(actors, slot);
     match mode {
-        Mode::Fixed => {
-            let at = begin_fixed(actors, c, slot);
-            Begun {
-                at,
-                queued,
-                stepped: true,
-            }
-        }
+        Mode::Fixed => Begun {
+            at: begin_fixed(actors, c, slot),
+            queued,
+            stepped: true,
+        },
         Mode::Eval => begin_eval(links, actors, c, slot, queued),
     }
 }
 
 // A key of the ready list: its actor is scheduled no more, and stepped if it has work.
+#[tactic(auto, unfolding(crate::specs::Ready::ready_key))]
 fn ready_key(
     links: &mut [LinkRow],
     keys: &[KeyRow],
@@ -103,30 +104,23 @@ fn ready_key(
     ensures { record { links = links.new; actors = actors.new; begun = begun_of result }
         ≡ ready_key (readying links.old keys.now actors.old queued stepped) c }
 {
-    let next = at::ready_after(c);
-    let there = roster::live(keys, c.group, c.key);
-    if there {
+    if roster::live(keys, c.group, c.key) {
         let slot = roster::slot_at(c.group, c.key);
-        let waiting = lists::length_of(links, lists::mailbox(slot));
-        let done = rests(actors, slot, waiting);
+        let done = rests(actors, slot, lists::length_of(links, lists::mailbox(slot)));
         state::scheduled_at(actors, slot, false);
-        if done {
-            return Begun {
-                at: next,
-                queued,
-                stepped,
-            };
+        if !done {
+            return begin_step(links, actors, c, slot, queued);
         }
-        return begin_step(links, actors, c, slot, queued);
     }
     Begun {
-        at: next,
+        at: at::ready_after(c),
         queued,
         stepped,
     }
 }
 
 // The next key of the ready list, or the next group.
+#[tactic(auto, unfolding(crate::specs::Ready::ready_of))]
 pub fn ready(
     links: &mut [LinkRow],
     keys: &mut [KeyRow],
@@ -141,35 +135,22 @@ pub fn ready(
         ≡ ready_of (readying links.old keys.old actors.old queued stepped) g
         clock pops }
 {
-    let after = at::next_group(g);
-    if pops == 0 {
-        let at = words::wake(after, clock);
-        return Begun {
-            at,
-            queued,
-            stepped,
-        };
-    }
     let row = roster::ready_row(g);
     match keys::front_at(keys, row) {
-        Key::At(key) => {
+        Some(key) if pops != 0 => {
             keys::pop_at(keys, row);
-            let fewer = lists::saturating_sub(pops, 1);
             let c = Cursor {
                 group: g,
                 key,
                 now: clock,
-                pops: fewer,
+                pops: pops - 1,
             };
             ready_key(links, keys, actors, c, queued, stepped)
         }
-        Key::Nothing => {
-            let at = words::wake(after, clock);
-            Begun {
-                at,
-                queued,
-                stepped,
-            }
-        }
+        _ => Begun {
+            at: words::wake(at::next_group(g), clock),
+            queued,
+            stepped,
+        },
     }
 }

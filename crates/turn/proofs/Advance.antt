@@ -1,4 +1,6 @@
 -- Each step lowers the weight, so the steps end, and more fuel than the weight changes nothing. Assumes nothing.
+use Rattle.std.specs.Prelude.{Option, Some, None}
+use Rattle.message_log.specs.declared.LogId.{LogId}
 use mathlib.Core.Path.{◌≡◌, refl, sym, ◌∙◌, ap}
 use mathlib.Core.Bool.{Bool, true, false, false≢true, ◌&&◌}
 use mathlib.Core.List.{List}
@@ -7,14 +9,8 @@ use native.Mathlib.Omega.{arith}
 use lib.Dec.{eqb, ltb, leb}
 use lib.ListN.{set}
 use borrow.Author.Tests.{lt-ltb, ltb-true, leb-false, eqb-false}
-use Rattle.lists.specs.declared.Found.{Found}
-use Rattle.lists.specs.declared.Found.TheVariants as found
-use Rattle.lists.specs.declared.keys.Key.{Key}
-use Rattle.lists.specs.declared.keys.Key.TheVariants as key
 use Rattle.lists.specs.Links.{pick, Table, len_of, capped, mailbox_of, first_of, INBOX, PENDING, BATCH}
 use Rattle.lists.specs.KeyLists.{keys_at, count_of, front_of, pop_front}
-use Rattle.actor.specs.declared.message.Logged.{Logged}
-use Rattle.actor.specs.declared.message.Logged.TheVariants as logged
 use Rattle.actor.specs.declared.state.Mode.{Mode}
 use Rattle.actor.specs.declared.state.Mode.TheVariants as mode
 use Rattle.actor.specs.Messages.{message_at}
@@ -32,8 +28,6 @@ use Rattle.points.specs.declared.at.Ask.TheVariants as asks
 use Rattle.points.specs.declared.at.Point.{Point}
 use Rattle.points.specs.declared.at.Point.TheVariants as point
 use Rattle.points.specs.declared.at.Cursor.{Cursor}
-use Rattle.group.specs.declared.settings.Named.{Named}
-use Rattle.group.specs.declared.settings.Named.TheVariants as named
 use Rattle.points.specs.At.{next_group, eval_after}
 use Rattle.group.specs.Settings.{group_at, by_name}
 use Rattle.group.specs.Roster.{REST, TRAPPED, ready_row, waiting_row, slot_at, live_len, live_of, spawn_of, pop_idle_of}
@@ -114,21 +108,21 @@ module _ (left : ℕ) (some : 0 < left) where
   unfolding deliver weight_in weight_at
   deliver_less t keys actors g k queued = omega arith
 
-  key_less : (t rows keys actors : Table) (g : ℕ) (k : Key) (queued : ℕ)
+  key_less : (t rows keys actors : Table) (g : ℕ) (k : Option ℕ) (queued : ℕ)
       → Less (deliver_key rows (turn_tables t keys actors queued) g k left)
   unfolding deliver_key
-  key_less t rows keys actors g (key.At k) queued = deliver_less t keys actors g k queued
-  key_less t rows keys actors g key.Nothing queued = lost_less t rows
+  key_less t rows keys actors g (Some k) queued = deliver_less t keys actors g k queued
+  key_less t rows keys actors g None queued = lost_less t rows
 
   least_less : (t rows keys actors : Table) (g queued : ℕ)
       → Less (route_least rows (turn_tables t keys actors queued) g left)
   unfolding route_least
   least_less t rows keys actors g queued = key_less t rows keys actors g (least_of keys t g) queued
 
-  spawned_less : (t rows : Table) (g queued : ℕ) (keys actors : Table) (k : Key)
+  spawned_less : (t rows : Table) (g queued : ℕ) (keys actors : Table) (k : Option ℕ)
       → Less (spawned_sent rows (turn_tables t keys actors queued) g left k)
-  spawned_less t rows g queued keys actors (key.At k) = deliver_less t keys actors g k queued
-  spawned_less t rows g queued keys actors key.Nothing = least_less t rows keys actors g queued
+  spawned_less t rows g queued keys actors (Some k) = deliver_less t keys actors g k queued
+  spawned_less t rows g queued keys actors None = least_less t rows keys actors g queued
 
   spawn_less : (t rows keys actors : Table) (g : ℕ) (eval : Bool) (queued : ℕ)
       → Less (route_spawned rows (turn_tables t keys actors queued) g eval left)
@@ -145,11 +139,11 @@ module _ (left : ℕ) (some : 0 < left) where
       (λ v. omega arith))
       (λ e. least_less t rows keys actors g queued)
 
-  idle_less : (groups t rows actors : Table) (g queued : ℕ) (keys : Table) (k : Key)
+  idle_less : (groups t rows actors : Table) (g queued : ℕ) (keys : Table) (k : Option ℕ)
       → Less (idle_else (turn_tables t keys actors queued) g left k
       (route_new groups rows (turn_tables t keys actors queued) g left))
-  idle_less groups t rows actors g queued keys (key.At k) = deliver_less t keys actors g k queued
-  idle_less groups t rows actors g queued keys key.Nothing = new_less groups t rows keys actors g queued
+  idle_less groups t rows actors g queued keys (Some k) = deliver_less t keys actors g k queued
+  idle_less groups t rows actors g queued keys None = new_less groups t rows keys actors g queued
 
   to_less : (groups t rows keys actors : Table) (g queued : ℕ)
       → Less (pick_of groups rows (turn_tables t keys actors queued) g left)
@@ -157,17 +151,17 @@ module _ (left : ℕ) (some : 0 < left) where
   to_less groups t rows keys actors g queued = let p = pop_idle_of keys actors g in idle_less groups t rows actors g
       queued p.keys p.key
 
-  named_less : (groups t rows keys actors : Table) (queued : ℕ) (n : Named)
+  named_less : (groups t rows keys actors : Table) (queued : ℕ) (n : Option ℕ)
       → Less (route_named groups rows (turn_tables t keys actors queued) left n)
-  named_less groups t rows keys actors queued (named.Group g) = to_less groups t rows keys actors g queued
-  named_less groups t rows keys actors queued named.Nothing = lost_less t rows
+  named_less groups t rows keys actors queued (Some g) = to_less groups t rows keys actors g queued
+  named_less groups t rows keys actors queued None = lost_less t rows
 
-  first_less : (groups : Table) (count : ℕ) (store : List ℕ) (t rows keys actors : Table) (queued : ℕ) (f : Found)
+  first_less : (groups : Table) (count : ℕ) (store : List ℕ) (t rows keys actors : Table) (queued : ℕ) (f : Option ℕ)
       → Less (route_first (programs groups count store) rows (turn_tables t keys actors queued) left f)
   unfolding route_one weight_in weight_at
-  first_less groups count store t rows keys actors queued (found.Entry e) =
+  first_less groups count store t rows keys actors queued (Some e) =
       named_less groups t rows keys actors queued (by_name groups store e (message_at rows e).name_len count)
-  first_less groups count store t rows keys actors queued found.Nothing = omega arith
+  first_less groups count store t rows keys actors queued None = omega arith
 
 route_falls : (groups : Table) (count : ℕ) (store : List ℕ) (t rows keys actors : Table) (queued left : ℕ)
     → weight_in (route_of (programs groups count store) rows (turn_tables t keys actors queued) left).routed.at
@@ -210,12 +204,12 @@ ready_now_lem : (keys : Table) (g clock left : ℕ)
 unfolding weight_in weight_at
 ready_now_lem keys g clock left = omega (arith, at_most (count_of (keys_at keys (ready_row g))))
 
-front_falls : (keys actors : Table) (g clock left : ℕ) (k : Key) → 0 < left
+front_falls : (keys actors : Table) (g clock left : ℕ) (k : Option ℕ) → 0 < left
     → weight_in (wake_first (keyed keys actors) g clock left k).at < weight_in (at.Runs (point.WakeNext g clock left))
 unfolding weight_in weight_at
-front_falls keys actors g clock left (key.At k) some =
+front_falls keys actors g clock left (Some k) some =
     omega (arith, one_falls (set keys REST (pop_front (keys_at keys REST))) actors g k clock (left - 1))
-front_falls keys actors g clock left key.Nothing some = ready_now_lem keys g clock left
+front_falls keys actors g clock left None some = ready_now_lem keys g clock left
 
 next_falls : (keys actors : Table) (g clock left : ℕ)
     → weight_in (wake_next (keyed keys actors) g clock left).at < weight_in
@@ -259,13 +253,13 @@ wake_after_lem g clock pops =
     < weight_in (at.Runs (point.Ready g clock pops))) (ltb g 8) (λ e. omega arith)
     (λ e. omega arith)
 
-ready_front_lem : (t keys actors : Table) (queued : ℕ) (stepped : Bool) (g clock pops : ℕ) (k : Key) → 0 < pops
+ready_front_lem : (t keys actors : Table) (queued : ℕ) (stepped : Bool) (g clock pops : ℕ) (k : Option ℕ) → 0 < pops
     → weight_in (ready_front (readying t keys actors queued stepped) g clock pops k).begun.at
     < weight_in (at.Runs (point.Ready g clock pops))
 unfolding weight_in weight_at
-ready_front_lem t keys actors queued stepped g clock pops (key.At k) some =
+ready_front_lem t keys actors queued stepped g clock pops (Some k) some =
     omega (arith, key_begun t (pop_ready keys g) actors (cursor_at g k clock (pops - 1)) queued stepped)
-ready_front_lem t keys actors queued stepped g clock pops key.Nothing some = wake_after_lem g clock pops
+ready_front_lem t keys actors queued stepped g clock pops None some = wake_after_lem g clock pops
 
 ready_falls : (t keys actors : Table) (queued : ℕ) (stepped : Bool) (g clock pops : ℕ)
     → weight_in (ready_of (readying t keys actors queued stepped) g clock pops).begun.at
@@ -300,12 +294,12 @@ trap_falls : (c : Cursor) → weight_in (at.Asks (asks.Trap c)) < weight_in (at.
 unfolding weight_in weight_at
 trap_falls c = omega arith
 
-crash_trapped_front_lem : (groups t rows keys : Table) (c : Cursor) (left queued : ℕ) (l : Losses) (k : Key) → 0 < left
+crash_trapped_front_lem : (groups t rows keys : Table) (c : Cursor) (left queued : ℕ) (l : Losses) (k : Option ℕ) → 0 < left
     → weight_in (crash_trapped_front groups (retiring t rows keys queued l) c left k).crashed.at
     < weight_in (at.Runs (point.CrashTrapped c left))
 unfolding crash_trapped_key weight_in weight_at
-crash_trapped_front_lem groups t rows keys c left queued l (key.At k) some = omega arith
-crash_trapped_front_lem groups t rows keys c left queued l key.Nothing some = omega arith
+crash_trapped_front_lem groups t rows keys c left queued l (Some k) some = omega arith
+crash_trapped_front_lem groups t rows keys c left queued l None some = omega arith
 
 crash_trapped_falls : (groups t rows keys : Table) (c : Cursor) (left queued : ℕ) (l : Losses)
     → weight_in (crash_trapped groups (retiring t rows keys queued l) c left).crashed.at < weight_in
@@ -369,15 +363,15 @@ weight_free (disk.Waits o w) a m = absurd (false≢true m)
 weight_free disk.Failed a m = absurd (false≢true m)
 
 -- writing what was tried again leaves the turn where it stands
-retried_stands : (s : State) (l : Logged) (n : ℕ) → (retry_logged s l n).pool.turn.at ≡ s.pool.turn.at
+retried_stands : (s : State) (l : Option LogId) (n : ℕ) → (retry_logged s l n).pool.turn.at ≡ s.pool.turn.at
 unfolding retry_logged
-retried_stands s (logged.As id) n = refl
-retried_stands s logged.Never n = refl
+retried_stands s (Some id) n = refl
+retried_stands s None n = refl
 
-entry_stands : (s : State) (f : Found) → (retry_entry s f).pool.turn.at ≡ s.pool.turn.at
+entry_stands : (s : State) (f : Option ℕ) → (retry_entry s f).pool.turn.at ≡ s.pool.turn.at
 unfolding retry_entry
-entry_stands s (found.Entry e) = retried_stands s (message_at s.rows e).id (message_at s.rows e).attempts
-entry_stands s found.Nothing = refl
+entry_stands s (Some e) = retried_stands s (message_at s.rows e).id (message_at s.rows e).attempts
+entry_stands s None = refl
 
 pub ran_stands : (s : State) (p : Point) → (ran_of s p).pool.turn.at ≡ (go_of s p).pool.turn.at
 unfolding ran_of

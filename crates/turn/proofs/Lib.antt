@@ -1,4 +1,4 @@
 -- Laws of a turn.
 pub mod Advance
 pub mod StepLaws
-pub mod LoggedLaws
+pub mod CellLaws

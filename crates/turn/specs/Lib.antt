@@ -1,7 +1,6 @@
 -- Definitions and statements.
 pub mod State
 pub mod Words
-pub mod Logged
 pub mod Go
 pub mod Retry
 pub mod Weight
@@ -9,3 +8,4 @@ pub mod Step
 pub mod Advance
 pub mod Asks
 pub mod Resume
+pub mod Rail

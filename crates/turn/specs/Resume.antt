@@ -1,8 +1,7 @@
 -- A reply to the turn's question leads to the next point or question; one of another kind leaves it open.
+use Rattle.std.specs.Prelude.{Option, Some, None, ℕ}
 use Rattle.actor.specs.declared.question.Reply.{Reply}
 use Rattle.actor.specs.declared.question.Reply.TheVariants as reply
-use Rattle.actor.specs.declared.question.ClockIn.{ClockIn}
-use Rattle.actor.specs.declared.question.ClockIn.TheVariants as clock
 use Rattle.actor.specs.Questions.{clock_in}
 use Rattle.steps.specs.declared.step.Step.{Step}
 use Rattle.steps.specs.declared.eval.Limit.{Limit}
@@ -26,9 +25,9 @@ use Rattle.turn.specs.State.{State, with_pool, with_links, with_actors, stood_at
 use Rattle.turn.specs.Go.{seeded, routed, listed, waked, tables_of}
 
 -- the tick's clock: the waiting actors of the first group are looked at
-abbrev pub clock_by : ClockIn → At
-clock_by (clock.Of ns) = at.Runs (point.Wake 0 ns)
-clock_by clock.Other = at.Asks asks.TickClock
+abbrev pub clock_by : Option ℕ → At
+clock_by (Some ns) = at.Runs (point.Wake 0 ns)
+clock_by None = at.Asks asks.TickClock
 
 -- a clock wakes the first group with it; after any other reply Clock is still open
 unfoldable pub clock_reply : Reply → At

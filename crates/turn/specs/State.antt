@@ -1,5 +1,6 @@
 -- The state of a pool, as every definition of the pool has it: the pool's own state and the lent tables.
-use Rattle.std.specs.Prelude.{Bool, true, false, ◌&&◌, List, ℕ}
+use Rattle.std.specs.Prelude.{Bool, true, false, ◌&&◌, List, ℕ, Option, Some, None}
+use Rattle.message_log.specs.declared.Order.{Order}
 use Rattle.lists.specs.Links.{Table}
 use Rattle.message_log.specs.declared.Counters.{Counters}
 use Rattle.message_log.specs.Log.{Wal, DidMark}
@@ -8,8 +9,6 @@ use Rattle.points.specs.declared.at.At.TheVariants as at
 use Rattle.points.specs.declared.at.Point.{Point}
 use Rattle.points.specs.declared.at.Point.TheVariants as point
 use Rattle.tick.specs.declared.crash.Losses.{Losses}
-use Rattle.message_log.specs.declared.Due.{Due}
-use Rattle.message_log.specs.declared.Due.TheVariants as due
 use Rattle.turn.specs.declared.state.OrderFor.{OrderFor}
 use Rattle.turn.specs.declared.state.Disk.{Disk}
 use Rattle.turn.specs.declared.state.Disk.TheVariants as disk
@@ -163,9 +162,9 @@ abbrev pub with_disk : Pool → Counters → Disk → Pool
 with_disk p n d = with_turn p (record { at = p.turn.at; disk = d; counts = p.turn.counts; counters = n })
 
 -- what the log had due waits, for this
-abbrev pub disk_for : Due → OrderFor → Disk
-disk_for (due.Ordered o) w = disk.Waits o w
-disk_for due.Nothing w = disk.Free
+abbrev pub disk_for : Option Order → OrderFor → Disk
+disk_for (Some o) w = disk.Waits o w
+disk_for None w = disk.Free
 
 -- the log is as a mark or a retry left it, and its order waits, if one was due, for this; all else is as it was
 abbrev pub with_due : State → DidMark → OrderFor → State

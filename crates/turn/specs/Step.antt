@@ -1,12 +1,8 @@
 -- A step of a turn, and the turn as far as it runs by itself.
-use Rattle.std.specs.Prelude.{ℕ, zero, suc}
-use Rattle.lists.specs.declared.Found.{Found}
-use Rattle.lists.specs.declared.Found.TheVariants as found
+use Rattle.std.specs.Prelude.{ℕ, zero, suc, Option, Some, None}
 use Rattle.lists.specs.Links.{pick, FREE, first_of, move_first, OVER}
 use Rattle.message_log.specs.declared.LogId.{LogId}
 use Rattle.message_log.specs.Log.{DidMark, mark_of}
-use Rattle.actor.specs.declared.message.Logged.{Logged}
-use Rattle.actor.specs.declared.message.Logged.TheVariants as logged
 use Rattle.actor.specs.Messages.{message_at}
 use Rattle.points.specs.declared.at.At.{At}
 use Rattle.points.specs.declared.at.At.TheVariants as at
@@ -23,14 +19,14 @@ abbrev pub marked : State → LogId → DidMark → State
 marked s id d = with_due s d (orderFor.Mark id)
 
 -- a message that was logged gets its mark
-unfoldable pub mark_logged : State → Logged → State
-mark_logged s (logged.As id) = marked s id (mark_of s.pool.limits.compact_at (wal_of s) id.0)
-mark_logged s logged.Never = s
+unfoldable pub mark_logged : State → Option LogId → State
+mark_logged s (Some id) = marked s id (mark_of s.pool.limits.compact_at (wal_of s) id.0)
+mark_logged s None = s
 
 -- the entry found first in over is free again, and its message gets its mark if it was logged; else nothing changes
-abbrev pub mark_entry : State → Found → State
-mark_entry s (found.Entry e) = mark_logged (with_links s (move_first s.links OVER FREE)) (message_at s.rows e).id
-mark_entry s found.Nothing = s
+abbrev pub mark_entry : State → Option ℕ → State
+mark_entry s (Some e) = mark_logged (with_links s (move_first s.links OVER FREE)) (message_at s.rows e).id
+mark_entry s None = s
 
 -- the first message that is over: its entry is free, and its mark is ordered
 unfoldable pub mark_first : State → State

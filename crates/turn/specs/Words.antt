@@ -6,16 +6,15 @@ use Rattle.message_log.specs.declared.Counters.{Counters}
 use Rattle.message_log.specs.declared.Order.{Order}
 use Rattle.message_log.specs.declared.Order.TheVariants.{Append, Replace, Flush}
 use Rattle.points.specs.declared.words.Where.{Where}
-use Rattle.points.specs.Words.{at_of}
-use Rattle.message_log.specs.declared.Due.{Due}
-use Rattle.message_log.specs.declared.Due.TheVariants as due
-use Rattle.turn.specs.declared.state.OrderWords.{OrderWords}
+use Rattle.points.specs.Words.{key_of, place_of, at_of}
 use Rattle.turn.specs.declared.state.OrderFor.{OrderFor}
 use Rattle.turn.specs.declared.state.OrderFor.TheVariants as orderFor
 use Rattle.turn.specs.declared.state.Disk.{Disk}
 use Rattle.turn.specs.declared.state.Disk.TheVariants as disk
 use Rattle.turn.specs.declared.state.DiskKind.{DiskKind}
-use Rattle.turn.specs.declared.state.DiskKind.TheVariants as diskKind
+use Rattle.turn.specs.declared.state.DiskKind.TheVariants as kind
+use Rattle.turn.specs.declared.state.What.{What}
+use Rattle.turn.specs.declared.state.What.TheVariants as what
 use Rattle.turn.specs.declared.state.DiskWords.{DiskWords}
 use Rattle.turn.specs.declared.state.Limits.{Limits}
 use Rattle.turn.specs.State.{Counts, Turn, Pool}
@@ -26,67 +25,78 @@ use Rattle.turn.specs.State.{Counts, Turn, Pool}
 unfoldable pub is_yes : ℕ → Bool
 is_yes n = pick (eqb n 0) false true
 
--- ---- an order: 1 an append, 2 a replace, any other number a flush; 0 where none is due
+-- ---- the disk: 0 free, 4 failed; else an order waits: 1 an append, 2 a replace, any other number a flush
 
--- 1 is an append of bytes `from` to `to`, 2 a replace by the first `to` bytes, any other number a flush
-unfoldable pub order_of : OrderWords → Order
-order_of w =
-    pick (eqb w.order 1) (Append w.from w.to) (pick (eqb w.order 2) (Replace w.to) Flush)
-
--- with the number 0 no order is due, with any other one the order of these words
-unfoldable pub due_of : OrderWords → Due
-due_of w = pick (eqb w.order 0) due.Nothing (due.Ordered (order_of w))
-
--- an order is due
-unfoldable pub is_due : Due → Bool
-is_due due.Nothing = false
-is_due (due.Ordered o) = true
-
--- ---- the disk: 0 free, 4 failed; else an order waits
-
--- 0 is free, 4 failed, any other number an order that waits
+-- 0 is free, 1 an append that waits, 2 a replace, 4 failed, any other number a flush
 unfoldable pub disk_kind_of : ℕ → DiskKind
-disk_kind_of n = pick (eqb n 0) diskKind.Free (pick (eqb n 4) diskKind.Failed diskKind.Waits)
+disk_kind_of n =
+    pick (eqb n 0) kind.Free
+    (pick (eqb n 1) kind.Append
+    (pick (eqb n 2) kind.Replace
+    (pick (eqb n 4) kind.Failed kind.Flush)))
 
--- the order of a disk where one waits: its number is the disk's own
+-- what an order is for: 0 a record, 1 the mark of a message, 3 the retry of a message, any other number none of these
+unfoldable pub what_of : ℕ → What
+what_of n =
+    pick (eqb n 0) what.Record
+    (pick (eqb n 1) what.Mark
+    (pick (eqb n 3) what.Retry what.Nothing))
+
+-- the order of a disk where one waits: an append of bytes `from` to `to`, a replace by the first `to` bytes, or a flush
+abbrev pub order_by : DiskKind → DiskWords → Order
+order_by kind.Free w = Flush
+order_by kind.Append w = Append w.from w.to
+order_by kind.Replace w = Replace w.to
+order_by kind.Flush w = Flush
+order_by kind.Failed w = Flush
+
+-- the order that the words of a disk name
 abbrev pub order_in : DiskWords → Order
-order_in w = order_of (record { order = w.disk; from = w.from; to = w.to })
+order_in w = order_by w.disk w
 
--- what it is for: 0 a record, 1 the mark of a message, 3 the retry of a message, any other number none of these
-unfoldable pub order_for_of : ℕ → ℕ → OrderFor
-order_for_of n id =
-    pick (eqb n 0) orderFor.Record
-    (pick (eqb n 1) (orderFor.Mark (record { 0 = id }))
-    (pick (eqb n 3) (orderFor.Retry (record { 0 = id })) orderFor.Nothing))
+-- what it is for, with the message that a mark or a retry is for
+abbrev pub order_for_of : What → ℕ → OrderFor
+order_for_of what.Record id = orderFor.Record
+order_for_of what.Mark id = orderFor.Mark (record { 0 = id })
+order_for_of what.Nothing id = orderFor.Nothing
+order_for_of what.Retry id = orderFor.Retry (record { 0 = id })
 
 -- by the kind: free, failed, or the words' order waits, for what the words say it is for
 abbrev pub disk_by : DiskKind → DiskWords → Disk
-disk_by diskKind.Free w = disk.Free
-disk_by diskKind.Waits w = disk.Waits (order_in w) (order_for_of w.what w.id)
-disk_by diskKind.Failed w = disk.Failed
+disk_by kind.Free w = disk.Free
+disk_by kind.Append w = disk.Waits (order_in w) (order_for_of w.what w.id)
+disk_by kind.Replace w = disk.Waits (order_in w) (order_for_of w.what w.id)
+disk_by kind.Flush w = disk.Waits (order_in w) (order_for_of w.what w.id)
+disk_by kind.Failed w = disk.Failed
 
--- the disk that words mean: its number alone says that it is free or failed
+-- the disk that words mean: its kind alone says that it is free or failed
 unfoldable pub disk_of : DiskWords → Disk
-disk_of w = disk_by (disk_kind_of w.disk) w
+disk_of w = disk_by w.disk w
 
 -- ---- the cells
 
--- cells 0 to 6 are where the turn stands, as words; a cell that is not there is 0, here and below
+-- cells 0 to 6 are where the turn stands, as words: the place and the key by their numbers; a cell that is not there is
+-- 0, here and below
 abbrev pub where_in : List ℕ → Where
 where_in c = record {
-  place = get_or c 0 0;
+  place = place_of (get_or c 0 0);
   group = get_or c 1 0;
-  key = get_or c 2 0;
+  key = key_of (get_or c 2 0);
   now = get_or c 3 0;
   left = get_or c 4 0;
   step = get_or c 5 0;
   more = get_or c 6 0;
 }
 
--- cells 7 to 11 are the disk, as words
+-- cells 7 to 11 are the disk, as words: its kind and what the order is for by their numbers
 abbrev pub disk_in : List ℕ → DiskWords
-disk_in c =
-    record { disk = get_or c 7 0; from = get_or c 8 0; to = get_or c 9 0; what = get_or c 10 0; id = get_or c 11 0 }
+disk_in c = record {
+  disk = disk_kind_of (get_or c 7 0);
+  from = get_or c 8 0;
+  to = get_or c 9 0;
+  what = what_of (get_or c 10 0);
+  id = get_or c 11 0;
+}
 
 -- cell 12 is queued, 13 the dead messages, 14 the crashes, 15 whether an actor was stepped in this turn
 abbrev pub counts_in : List ℕ → Counts

@@ -11,69 +11,56 @@ ghost use Rattle.turn.specs.Asks.{asked_by, asked_in, wanted_by};
 
 use crate::state;
 use crate::state::{DiskKind, DiskWords};
-use actor::message::{Caller, MessageRow};
-use actor::question::{Asked, Outcome, Question, Who};
+use actor::message::{CallerId, MessageRow};
+use actor::question::{Outcome, Question, Who};
 use lists::LinkRow;
-use points::words::{AskKind, AtKind, Where};
+use points::words::{Place, Where};
 use points::{at, words};
 use steps::eval::EvalKind;
 use steps::fixed::FixedKind;
 use steps::{eval, fixed, step};
 
 // The turn's question.
-fn asked_by(w: Where, links: &[LinkRow], rows: &[MessageRow]) -> Asked
+#[tactic(auto, unfolding(crate::specs::Asks::asked_by))]
+fn asked_by(w: Where, links: &[LinkRow], rows: &[MessageRow]) -> Option<Question>
     ensures { result ≡ asked_by (ask_of w) links.now rows.now }
 {
-    let ask = words::ask_kind(w.place);
-    let c = words::cursor_of(w);
-    let who = at::who_of(c.group, c.key);
-    match ask {
-        AskKind::SeedBoot => Asked::Open(Question::Boot(c.group)),
-        AskKind::RouteBoot => Asked::Open(Question::Boot(c.group)),
-        AskKind::TickClock => Asked::Open(Question::Clock),
-        AskKind::WakePoll => Asked::Open(Question::Poll(who)),
-        AskKind::Fixed => {
-            let step = fixed::kind_of(w.step);
-            fixed::fixed_asks(links, who, step)
+    let who = at::who_of(w.group, w.key);
+    match w.place {
+        Place::SeedBoot | Place::RouteBoot => Some(Question::Boot(w.group)),
+        Place::TickClock => Some(Question::Clock),
+        Place::WakePoll => Some(Question::Poll(who)),
+        Place::Fixed => fixed::fixed_asks(links, who, FixedKind::from(w.step)),
+        Place::Eval => {
+            let outcome = Outcome::from(w.more);
+            eval::eval_asks(links, rows, who, EvalKind::from(w.step), outcome)
         }
-        AskKind::Eval => {
-            let step = eval::kind_of(w.step);
-            let outcome = eval::outcome_of(w.more);
-            eval::eval_asks(links, rows, who, step, outcome)
-        }
-        AskKind::Sends => Asked::Open(Question::Sends(who)),
-        AskKind::Trap => Asked::Open(Question::Trap(c.group)),
-        AskKind::Trapped => {
-            let key = words::key_of(w.more);
-            let other = at::who_of(c.group, key);
-            Asked::Open(Question::Trapped(other))
-        }
+        Place::Sends => Some(Question::Sends(who)),
+        Place::Trap => Some(Question::Trap(w.group)),
+        // `Trapped`, and what is no question is read as it
+        _ => Some(Question::Trapped(at::who_of(w.group, words::key_of(w.more)))),
     }
 }
 
 // The order that waits, else the turn's question; after a failed order nothing.
-pub fn asked_in(disk: DiskWords, at: Where, links: &[LinkRow], rows: &[MessageRow]) -> Asked
+#[tactic(auto, unfolding(crate::specs::Asks::asked_in, crate::specs::Words::disk_of, points::specs::Words::at_of))]
+pub fn asked_in(
+    disk: DiskWords,
+    at: Where,
+    links: &[LinkRow],
+    rows: &[MessageRow],
+) -> Option<Question>
     ensures { result ≡ asked_in (disk_of disk) (at_of at) links.now rows.now }
 {
-    let state_kind = state::disk_kind(disk.disk);
-    match state_kind {
-        DiskKind::Free => {
-            let kind = words::at_kind(at.place);
-            match kind {
-                AtKind::Rest => Asked::Nothing,
-                AtKind::Asks => asked_by(at, links, rows),
-                AtKind::Runs => Asked::Nothing,
-            }
-        }
-        DiskKind::Waits => {
-            let order = state::order_in(disk);
-            Asked::Open(Question::Store(order))
-        }
-        DiskKind::Failed => Asked::Nothing,
+    match disk.disk {
+        DiskKind::Free if at.place.asks() => asked_by(at, links, rows),
+        DiskKind::Free | DiskKind::Failed => None,
+        _ => Some(Question::Store(state::order_in(disk))),
     }
 }
 
 // The kinds of reply: yes or no, a clock, a count, a status, a message or the end, told, stored or failed.
+// Kept: numbers, since the definitions `kind_of` and `wanted_by` number the kinds (actor::question says more).
 const YES_OR_NO: u64 = 1;
 
 const CLOCK: u64 = 2;
@@ -92,6 +79,8 @@ const STORED: u64 = 7;
 const NO_REPLY: u64 = 8;
 
 // The kind of reply that a question of a fixed actor's step wants.
+// Kept, here and below: no `From`, as a kind of reply is not what a question means; and a switch on the question,
+// since it lies in the pool's cells, as a number, where no closure can lie.
 fn fixed_wants(ask: FixedKind) -> u64
     ensures { (links : Table) (who : Who) → result ≡ wanted_by (fixed_asks links who (fixed_ask_of ask)) }
 {
@@ -105,12 +94,12 @@ fn fixed_wants(ask: FixedKind) -> u64
 }
 
 // Tell is asked where the message has a caller.
-fn tell_wants(caller: Caller) -> u64
+fn tell_wants(caller: Option<CallerId>) -> u64
     ensures { (o : Outcome) → result ≡ wanted_by (ask_tell caller o) }
 {
     match caller {
-        Caller::From(_) => TOLD,
-        Caller::Nobody => NO_REPLY,
+        Some(_) => TOLD,
+        None => NO_REPLY,
     }
 }
 
@@ -135,44 +124,29 @@ fn eval_wants(ask: EvalKind, links: &[LinkRow], rows: &[MessageRow]) -> u64
 }
 
 // The kind of reply that the turn's question wants.
+#[tactic(auto, unfolding(crate::specs::Asks::asked_by, crate::specs::Asks::wanted_by))]
 fn wanted_by(w: Where, links: &[LinkRow], rows: &[MessageRow]) -> u64
     ensures { result ≡ wanted_by (asked_by (ask_of w) links.now rows.now) }
 {
-    let ask = words::ask_kind(w.place);
-    match ask {
-        AskKind::SeedBoot => YES_OR_NO,
-        AskKind::RouteBoot => YES_OR_NO,
-        AskKind::TickClock => CLOCK,
-        AskKind::WakePoll => COUNT,
-        AskKind::Fixed => {
-            let step = fixed::kind_of(w.step);
-            fixed_wants(step)
-        }
-        AskKind::Eval => {
-            let step = eval::kind_of(w.step);
-            eval_wants(step, links, rows)
-        }
-        AskKind::Sends => SENT,
-        AskKind::Trap => YES_OR_NO,
-        AskKind::Trapped => YES_OR_NO,
+    match w.place {
+        Place::TickClock => CLOCK,
+        Place::WakePoll => COUNT,
+        Place::Fixed => fixed_wants(FixedKind::from(w.step)),
+        Place::Eval => eval_wants(EvalKind::from(w.step), links, rows),
+        Place::Sends => SENT,
+        // `SeedBoot`, `RouteBoot`, `Trap` and `Trapped`; what is no question is read as `Trapped`
+        _ => YES_OR_NO,
     }
 }
 
 // The kind of reply that is wanted: the order's, else the turn's.
+#[tactic(auto, unfolding(crate::specs::Asks::asked_in, crate::specs::Asks::wanted_by, crate::specs::Words::disk_of, points::specs::Words::at_of))]
 pub fn wanted_in(disk: DiskWords, at: Where, links: &[LinkRow], rows: &[MessageRow]) -> u64
     ensures { result ≡ wanted_by (asked_in (disk_of disk) (at_of at) links.now rows.now) }
 {
-    let state_kind = state::disk_kind(disk.disk);
-    match state_kind {
-        DiskKind::Free => {
-            let kind = words::at_kind(at.place);
-            match kind {
-                AtKind::Rest => NO_REPLY,
-                AtKind::Asks => wanted_by(at, links, rows),
-                AtKind::Runs => NO_REPLY,
-            }
-        }
-        DiskKind::Waits => STORED,
-        DiskKind::Failed => NO_REPLY,
+    match disk.disk {
+        DiskKind::Free if at.place.asks() => wanted_by(at, links, rows),
+        DiskKind::Free | DiskKind::Failed => NO_REPLY,
+        _ => STORED,
     }
 }

@@ -4,21 +4,20 @@ ghost use Rattle.lists.specs.Links.{Table};
 ghost use Rattle.points.specs.Words.{point_of};
 ghost use Rattle.points.specs.declared.at.Point.TheVariants as Point;
 ghost use Rattle.turn.specs.State.{Pool};
-ghost use Rattle.turn.specs.Words.{pool_of};
+ghost use Rattle.turn.specs.Rail.{state_in, RailKept};
 ghost use Rattle.turn.specs.Go.{go_of};
 ghost use Rattle.turn.specs.Retry.{again_at};
 
 use crate::state;
-use crate::state::PoolCells;
+use crate::state::Rail;
 use actor::message::MessageRow;
-use actor::state::ActorRow;
 use group::roster;
 use group::settings::GroupRow;
-use lists::keys::{Key, KeyRow};
-use lists::{Found, LinkRow, keys};
+use lists::keys::KeyRow;
+use lists::{LinkRow, keys};
 use points::at::Cursor;
 use points::words;
-use points::words::{PointKind, Where};
+use points::words::{Place, Where};
 use route::{batch, intake, seed};
 use tick::{crash, ready, settle, waking};
 
@@ -30,7 +29,7 @@ fn again_trapped(
     keys: &[KeyRow],
     c: Cursor,
     left: u64,
-) -> Found
+) -> Option<usize>
     ensures { (pool : Pool) (bytes : List ℕ) (records : Table) (store : List ℕ) (actors : Table) →
         result
         ≡ again_at
@@ -48,26 +47,27 @@ fn again_trapped(
         (Point.CrashTrapped c left) }
 {
     if left == 0 {
-        return Found::Nothing;
+        return None;
     }
     match keys::front_at(keys, roster::TRAPPED) {
-        Key::At(key) => {
+        Some(key) => {
             let slot = roster::slot_at(c.group, key);
             let hand = lists::hand(slot);
             crash::again_first(groups, links, rows, c.group, hand)
         }
-        Key::Nothing => Found::Nothing,
+        None => None,
     }
 }
 
 // The message that a point tries again, if any, whatever the pool, the log and the actors are.
+#[tactic(auto, unfolding(crate::specs::Retry::again_at))]
 pub(crate) fn again_at(
     groups: &[GroupRow],
     links: &[LinkRow],
     rows: &[MessageRow],
     keys: &[KeyRow],
     w: Where,
-) -> Found
+) -> Option<usize>
     ensures { (pool : Pool) (bytes : List ℕ) (records : Table) (store : List ℕ) (actors : Table) →
         result
         ≡ again_at
@@ -84,128 +84,97 @@ pub(crate) fn again_at(
         })
         (point_of w) }
 {
-    let point = words::point_kind(w.place);
-    match point {
-        PointKind::Seed => Found::Nothing,
-        PointKind::Intake => Found::Nothing,
-        PointKind::Route => Found::Nothing,
-        PointKind::Wake => Found::Nothing,
-        PointKind::WakeNext => Found::Nothing,
-        PointKind::Ready => Found::Nothing,
-        PointKind::FixedEnd => Found::Nothing,
-        PointKind::EvalEnd => Found::Nothing,
-        PointKind::Settle => Found::Nothing,
-        PointKind::Crash => {
-            let c = words::cursor_of(w);
-            crash::again_first(groups, links, rows, c.group, lists::HAND)
-        }
-        PointKind::AskTrap => Found::Nothing,
-        PointKind::CrashTrapped => {
-            let c = words::cursor_of(w);
-            again_trapped(groups, links, rows, keys, c, w.more)
-        }
+    match w.place {
+        Place::Crash => crash::again_first(groups, links, rows, w.group, lists::HAND),
+        Place::Seed
+        | Place::Intake
+        | Place::Route
+        | Place::Wake
+        | Place::WakeNext
+        | Place::Ready
+        | Place::FixedEnd
+        | Place::EvalEnd
+        | Place::Settle
+        | Place::AskTrap => None,
+        // `CrashTrapped`, and what is no point is read as it
+        _ => again_trapped(groups, links, rows, keys, words::cursor_of(w), w.more),
     }
 }
 
 // A point of a turn that runs, whatever the log is.
-pub(crate) fn go(
-    pool: &mut PoolCells,
-    store: &[u8],
-    groups: &[GroupRow],
-    links: &mut [LinkRow],
-    rows: &mut [MessageRow],
-    keys: &mut [KeyRow],
-    actors: &mut [ActorRow],
-    w: Where,
-)
-    ensures { (bytes : List ℕ) (records : Table) →
-        record {
-          pool = pool_of pool.new;
-          bytes = bytes;
-          records = records;
-          store = store.now;
-          groups = groups.now;
-          links = links.new;
-          rows = rows.new;
-          keys = keys.new;
-          actors = actors.new;
-        }
-        ≡ go_of
-        (record {
-          pool = pool_of pool.old;
-          bytes = bytes;
-          records = records;
-          store = store.now;
-          groups = groups.now;
-          links = links.old;
-          rows = rows.old;
-          keys = keys.old;
-          actors = actors.old;
-        })
-        (point_of w) }
+pub(crate) fn go(t: &mut Rail, w: Where)
+    ensures kept { RailKept t.old t.new }
+    ensures went { state_in t.new ≡ go_of (state_in t.old) (point_of w) }
 {
+    let pool = &mut *t.pool;
+    let store = t.store;
+    let groups = t.groups;
+    let links = &mut *t.links;
+    let rows = &mut *t.rows;
+    let keys = &mut *t.keys;
+    let actors = &mut *t.actors;
     let count = state::groups(pool);
     let queued = state::queued(pool);
-    let point = words::point_kind(w.place);
     let c = words::cursor_of(w);
-    match point {
-        PointKind::Seed => {
+    match w.place {
+        Place::Seed => {
             let next = seed::seed(groups, count, keys, actors, c.group);
             state::stand_at(pool, next);
         }
-        PointKind::Intake => {
+        Place::Intake => {
             let backlog = state::backlog(pool);
             let next = intake::intake(links, queued, backlog, w.left);
             state::stand_at(pool, next);
         }
-        PointKind::Route => {
+        Place::Route => {
             let s = batch::route(
                 groups, count, store, links, rows, keys, actors, queued, w.left,
             );
             let next = s.at;
             state::queue_at(pool, next, s.queued);
         }
-        PointKind::Wake => {
+        Place::Wake => {
             let next = waking::wake(keys, count, c.group, c.now);
             state::stand_at(pool, next);
         }
-        PointKind::WakeNext => {
+        Place::WakeNext => {
             let next = waking::wake_next(keys, actors, c.group, c.now, w.left);
             state::stand_at(pool, next);
         }
-        PointKind::Ready => {
+        Place::Ready => {
             let stepped = state::stepped(pool);
             let s = ready::ready(links, keys, actors, queued, stepped, c.group, c.now, w.left);
             let next = s.at;
             state::step_at(pool, next, s.queued, s.stepped);
         }
-        PointKind::FixedEnd => {
+        Place::FixedEnd => {
             let step = words::end_of(w);
             let next = settle::fixed_end(c, step);
             state::stand_at(pool, next);
         }
-        PointKind::EvalEnd => {
+        Place::EvalEnd => {
             let step = words::end_of(w);
             let next = settle::eval_end(c, step);
             state::stand_at(pool, next);
         }
-        PointKind::Settle => {
+        Place::Settle => {
             let step = words::end_of(w);
             let s = settle::settle(links, rows, keys, actors, c, step, queued);
             let next = s.at;
             state::queue_at(pool, next, s.queued);
         }
-        PointKind::Crash => {
+        Place::Crash => {
             let losses = state::losses(pool);
             let more = crash::crash(groups, links, rows, c, losses);
             let next = words::ask_trap(c);
             state::lose_at(pool, next, queued, more);
         }
-        PointKind::AskTrap => {
+        Place::AskTrap => {
             let next = words::trap(c);
             state::stand_at(pool, next);
         }
-        PointKind::CrashTrapped => {
+        // `CrashTrapped`, and what is no point is read as it
+        _ => {
             let losses = state::losses(pool);
             let s = crash::crash_trapped(groups, links, rows, keys, c, w.more, queued, losses);
             let next = s.at;

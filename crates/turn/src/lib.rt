@@ -5,7 +5,6 @@
 #![tactic(auto)]
 
 pub mod state; // the pool's own state, in cells
-pub mod logged; // the log's calls, on the pool's counters
 pub mod go; // one running point
 pub mod step; // marks first, then the point; the loop
 pub mod asks; // the open question

@@ -11,17 +11,18 @@ use crate::state;
 use crate::state::PoolCells;
 use actor::message::MessageRow;
 use actor::question;
-use actor::question::{ClockIn, Reply};
+use actor::question::{Outcome, Reply};
 use actor::state::ActorRow;
 use group::settings::GroupRow;
 use group::{roster, settings};
 use lists::LinkRow;
 use lists::keys::KeyRow;
 use points::at::Cursor;
-use points::words::{AskKind, Where};
+use points::words::{Place, Where};
 use points::{at, words};
 use route::{batch, seed};
-use steps::eval::Limit;
+use steps::eval::{EvalKind, Limit};
+use steps::fixed::FixedKind;
 use steps::step::StepWords;
 use steps::{eval, fixed};
 use tick::{crash, waking};
@@ -32,26 +33,19 @@ fn clock_reply(reply: Reply) -> Where
 {
     let came = question::clock_in(reply);
     match came {
-        ClockIn::Of(ns) => words::wake(0, ns),
-        ClockIn::Other => words::tick_clock(),
+        Some(ns) => words::wake(0, ns),
+        None => words::tick_clock(),
     }
 }
 
 // No more was sent: the step is settled.
+#[tactic(auto, unfolding(crate::specs::Resume::sends_reply))]
 fn sends_reply(c: Cursor, step: StepWords, reply: Reply) -> Where
     ensures { at_of result ≡ sends_reply c (step_of step) reply }
 {
     match reply {
-        Reply::Yes => words::sends(c, step),
-        Reply::No => words::sends(c, step),
-        Reply::Clock(_) => words::sends(c, step),
-        Reply::Count(_) => words::sends(c, step),
-        Reply::Ran(_) => words::sends(c, step),
-        Reply::Message => words::sends(c, step),
         Reply::End => words::settle(c, step),
-        Reply::Told => words::sends(c, step),
-        Reply::Stored => words::sends(c, step),
-        Reply::Failed => words::sends(c, step),
+        _ => words::sends(c, step),
     }
 }
 
@@ -93,37 +87,36 @@ pub fn resume(
         (ask_of w) reply }
 {
     let queued = state::queued(pool);
-    let ask = words::ask_kind(w.place);
     let c = words::cursor_of(w);
-    match ask {
-        AskKind::SeedBoot => {
+    match w.place {
+        Place::SeedBoot => {
             let next = seed::seed_reply(keys, actors, c.group, reply);
             state::stand_at(pool, next);
         }
-        AskKind::RouteBoot => {
+        Place::RouteBoot => {
             let s = batch::route_reply(links, rows, keys, actors, c.group, queued, w.left, reply);
             let next = s.at;
             state::queue_at(pool, next, s.queued);
         }
-        AskKind::TickClock => {
+        Place::TickClock => {
             let next = clock_reply(reply);
             state::stand_at(pool, next);
         }
-        AskKind::WakePoll => {
+        Place::WakePoll => {
             let next = waking::poll_reply(keys, actors, c.group, c.key, c.now, w.left, reply);
             state::stand_at(pool, next);
         }
-        AskKind::Fixed => {
-            let step = fixed::kind_of(w.step);
+        Place::Fixed => {
+            let step = FixedKind::from(w.step);
             let slot = roster::slot_at(c.group, c.key);
             let s = fixed::step_fixed(links, rows, actors, slot, queued, step, reply);
             let after = s.next;
             let next = at::fixed_after(c, after);
             state::queue_at(pool, next, s.queued);
         }
-        AskKind::Eval => {
-            let step = eval::kind_of(w.step);
-            let outcome = eval::outcome_of(w.more);
+        Place::Eval => {
+            let step = EvalKind::from(w.step);
+            let outcome = Outcome::from(w.more);
             let group = settings::group_at(groups, c.group);
             let tick = state::tick(pool);
             let limit = Limit {
@@ -135,16 +128,17 @@ pub fn resume(
             let next = at::eval_after(c, after);
             state::stand_at(pool, next);
         }
-        AskKind::Sends => {
+        Place::Sends => {
             let step = words::end_of(w);
             let next = sends_reply(c, step, reply);
             state::stand_at(pool, next);
         }
-        AskKind::Trap => {
+        Place::Trap => {
             let next = crash::trap_reply(keys, c, reply);
             state::stand_at(pool, next);
         }
-        AskKind::Trapped => {
+        // `Trapped`, and what is no question is read as it
+        _ => {
             let other = words::key_of(w.more);
             let next = crash::trapped_reply(keys, c, other, reply);
             state::stand_at(pool, next);

@@ -2,17 +2,23 @@
 // log's counters, and the settings that a turn looks at. A call changes them in place. What the cells mean is `pool_of`
 // (specs/Words); any cells mean some pool. Beside them are the lent tables; all together are the `State` of
 // specs/State.
+#![tactic(auto, unfolding(crate::specs::Words::pool_of, crate::specs::Words::is_yes, crate::specs::Words::disk_of))]
+
 ghost use Rattle.std.specs.Prelude.{◌≡◌};
 ghost use Rattle.points.specs.Words.{at_of, point_of};
-ghost use Rattle.turn.specs.Words.{is_yes, order_of, due_of, is_due, disk_kind_of};
-ghost use Rattle.turn.specs.Words.{order_in, order_for_of, disk_of, pool_of};
+ghost use Rattle.turn.specs.Words.{is_yes, disk_kind_of, what_of, order_in, order_for_of, disk_of, pool_of};
 ghost use Rattle.turn.specs.State.{disk_for, with_disk, stood_at, queued_at, stepped_at, lost_at, begun_at};
 ghost use Rattle.turn.specs.State.{closed_pool, new_pool};
 ghost use Rattle.turn.specs.State.{is_free, marks_at, running_of};
 
-use message_log::{Counters, Due, LogId, Order};
+use actor::message::MessageRow;
+use actor::state::ActorRow;
+use group::settings::GroupRow;
+use lists::LinkRow;
+use lists::keys::KeyRow;
+use message_log::{Counters, LogId, Order, RecordRow};
 use points::words;
-use points::words::{AtKind, PointKind, Where};
+use points::words::{Place, Where};
 use tick::crash::Losses;
 
 // What an order is for: a new record, the mark of a message, the retry of a message, or none of these.
@@ -32,57 +38,86 @@ pub enum Disk {
     Failed,
 }
 
-// The kind of a `Disk`.
-#[derive(Drop)]
+// The kind of a `Disk`: free, failed, or the kind of the order that waits.
+#[derive(Clone, Copy, PartialEq, Eq)]
 pub enum DiskKind {
     Free,
-    Waits,
+    Append,
+    Replace,
+    Flush,
     Failed,
 }
 
-// An order as a number, and where none is due.
-const NONE: u64 = 0;
+// The kind of a number, as `as u64` tells it; any other number is read as a flush.
+// Kept: an arm for each number, here and for `What`, as in the `From<u64>` of the other enums.
+impl From<u64> for DiskKind {
+    ghost from_gives = { λ n kind. kind ≡ disk_kind_of n };
 
-const APPEND: u64 = 1;
+    #[tactic(auto, unfolding(crate::specs::Words::disk_kind_of))]
+    fn from(n: u64) -> DiskKind {
+        match n {
+            0 => DiskKind::Free,
+            1 => DiskKind::Append,
+            2 => DiskKind::Replace,
+            4 => DiskKind::Failed,
+            _ => DiskKind::Flush,
+        }
+    }
+}
 
-const REPLACE: u64 = 2;
+// The number of a kind.
+impl From<DiskKind> for u64 {
+    ghost from_gives = { λ kind n. disk_kind_of n ≡ kind };
 
-const FLUSH: u64 = 3;
+    #[tactic(auto, unfolding(crate::specs::Words::disk_kind_of))]
+    fn from(kind: DiskKind) -> u64 {
+        kind as u64
+    }
+}
 
-// The disk as a number: free, failed, else the number of the order that waits.
-const FREE: u64 = 0;
+// The kind of an `OrderFor`.
+#[derive(Clone, Copy, PartialEq, Eq)]
+pub enum What {
+    Record,
+    Mark,
+    Nothing,
+    Retry,
+}
 
-const FAILED: u64 = 4;
+// The kind of a number, as `as u64` tells it; any other number is read as `Nothing`.
+impl From<u64> for What {
+    ghost from_gives = { λ n what. what ≡ what_of n };
 
-// What an order is for, as a number.
-pub const RECORD: u64 = 0;
+    #[tactic(auto, unfolding(crate::specs::Words::what_of))]
+    fn from(n: u64) -> What {
+        match n {
+            0 => What::Record,
+            1 => What::Mark,
+            3 => What::Retry,
+            _ => What::Nothing,
+        }
+    }
+}
 
-pub const MARK: u64 = 1;
+// The number of a kind.
+impl From<What> for u64 {
+    ghost from_gives = { λ what n. what_of n ≡ what };
 
-pub const NOTHING: u64 = 2;
-
-pub const RETRY: u64 = 3;
-
-// An order that may be due, as words.
-#[derive(Clone, Copy)]
-pub struct OrderWords {
-    // one of the numbers above
-    pub order: u64,
-    // of an append: from this byte of the log to that one; of a replace: the first bytes up to that one
-    pub from: usize,
-    pub to: usize,
+    #[tactic(auto, unfolding(crate::specs::Words::what_of))]
+    fn from(what: What) -> u64 {
+        what as u64
+    }
 }
 
 // The disk as words.
 #[derive(Clone, Copy)]
 pub struct DiskWords {
-    // one of the numbers above
-    pub disk: u64,
-    // as in `OrderWords`
+    pub disk: DiskKind,
+    // of an append: from this byte of the log to that one; of a replace: the first bytes up to that one
     pub from: usize,
     pub to: usize,
     // what the order is for, and the message that a mark or a retry is for
-    pub what: u64,
+    pub what: What,
     pub id: u64,
 }
 
@@ -100,21 +135,35 @@ pub struct Limits {
 // The cells: 0 to 6 where the turn stands (`Where`), 7 to 11 the disk (`DiskWords`), 12 how many messages are in
 // mailboxes, 13 and 14 the dead messages and the crashes, 15 whether an actor was stepped in this turn, 16 to 20 the
 // log's counters, 21 to 25 the limits, 26 whether no more is admitted, 27 whether the first turn was taken. Yes is 1,
-// no is 0.
+// no is 0. Kept as cells: the host lends them as plain numbers (crates/drive exports calls that take them).
 pub type PoolCells = [u64; 28];
 
-// Yes or no as a cell.
+// What a call is lent: the pool, the log, the body store, and the pool's tables.
+#[derive(Drop)]
+pub struct Rail<'a> {
+    pub pool: &'a mut PoolCells,
+    pub log: &'a mut [u8],
+    pub records: &'a mut [RecordRow],
+    pub store: &'a [u8],
+    pub groups: &'a [GroupRow],
+    pub links: &'a mut [LinkRow],
+    pub rows: &'a mut [MessageRow],
+    pub keys: &'a mut [KeyRow],
+    pub actors: &'a mut [ActorRow],
+}
+
+// Yes or no as a cell. Kept, as is `bool_of`, for its contract: by `is_yes` any number but 0 is yes.
 pub fn flag_cell(b: bool) -> u64
     ensures { is_yes result ≡ b }
 {
-    if b { 1 } else { 0 }
+    u64::from(b)
 }
 
 // Yes or no of a cell.
 pub fn bool_of(n: u64) -> bool
     ensures { result ≡ is_yes n }
 {
-    if n == 0 { false } else { true }
+    n != 0
 }
 
 // The disk takes orders, and has none.
@@ -122,10 +171,10 @@ pub fn free() -> DiskWords
     ensures { disk_of result ≡ Disk.Free }
 {
     DiskWords {
-        disk: FREE,
+        disk: DiskKind::Free,
         from: 0,
         to: 0,
-        what: NOTHING,
+        what: What::Nothing,
         id: 0,
     }
 }
@@ -135,35 +184,32 @@ pub fn failed() -> DiskWords
     ensures { disk_of result ≡ Disk.Failed }
 {
     DiskWords {
-        disk: FAILED,
-        from: 0,
-        to: 0,
-        what: NOTHING,
-        id: 0,
+        disk: DiskKind::Failed,
+        ..free()
     }
 }
 
 // An order waits.
-pub fn waits(order: Order, what: u64, id: u64) -> DiskWords
+pub fn waits(order: Order, what: What, id: u64) -> DiskWords
     ensures { disk_of result ≡ Disk.Waits order (order_for_of what id) }
 {
     match order {
         Order::Append(from, to) => DiskWords {
-            disk: APPEND,
+            disk: DiskKind::Append,
             from,
             to,
             what,
             id,
         },
         Order::Replace(n) => DiskWords {
-            disk: REPLACE,
+            disk: DiskKind::Replace,
             from: 0,
             to: n,
             what,
             id,
         },
         Order::Flush => DiskWords {
-            disk: FLUSH,
+            disk: DiskKind::Flush,
             from: 0,
             to: 0,
             what,
@@ -172,95 +218,25 @@ pub fn waits(order: Order, what: u64, id: u64) -> DiskWords
     }
 }
 
-// Whether the disk is free, has an order that waits, or failed.
-pub fn disk_kind(disk: u64) -> DiskKind
-    ensures { result ≡ disk_kind_of disk }
-{
-    if disk == FREE {
-        return DiskKind::Free;
-    }
-    if disk == FAILED {
-        return DiskKind::Failed;
-    }
-    DiskKind::Waits
-}
-
-// No order is due.
-pub(crate) fn no_order() -> OrderWords
-    ensures { due_of result ≡ Due.Nothing }
-{
-    OrderWords {
-        order: NONE,
-        from: 0,
-        to: 0,
-    }
-}
-
-// An order as words.
-pub(crate) fn order_words(order: Order) -> OrderWords
-    ensures { due_of result ≡ Due.Ordered order }
-{
-    match order {
-        Order::Append(from, to) => OrderWords {
-            order: APPEND,
-            from,
-            to,
-        },
-        Order::Replace(n) => OrderWords {
-            order: REPLACE,
-            from: 0,
-            to: n,
-        },
-        Order::Flush => OrderWords {
-            order: FLUSH,
-            from: 0,
-            to: 0,
-        },
-    }
-}
-
-// The order of words, where one is due.
-fn order_of(words: OrderWords) -> Order
-    ensures { result ≡ order_of words }
-{
-    let kind = words.order;
-    if kind == APPEND {
-        return Order::Append(words.from, words.to);
-    }
-    if kind == REPLACE {
-        return Order::Replace(words.to);
-    }
-    Order::Flush
-}
-
-// Whether an order is due.
-pub fn is_due(words: OrderWords) -> bool
-    ensures { result ≡ is_due (due_of words) }
-{
-    if words.order == NONE { false } else { true }
-}
-
 // What is due waits, for this.
-pub fn waiting(due: OrderWords, what: u64, id: u64) -> DiskWords
-    ensures { disk_of result ≡ disk_for (due_of due) (order_for_of what id) }
+pub fn waiting(due: Option<Order>, what: What, id: u64) -> DiskWords
+    ensures { disk_of result ≡ disk_for due (order_for_of what id) }
 {
-    if due.order == NONE {
-        return free();
+    match due {
+        Some(order) => waits(order, what, id),
+        None => free(),
     }
-    let order = order_of(due);
-    waits(order, what, id)
 }
 
 // The order that waits, where one does.
 pub(crate) fn order_in(disk: DiskWords) -> Order
     ensures { result ≡ order_in disk }
 {
-    let words = OrderWords {
-        order: disk.disk,
-        from: disk.from,
-        to: disk.to,
-    };
-    order_of(words)
+    match disk.disk {
+        DiskKind::Append => Order::Append(disk.from, disk.to),
+        DiskKind::Replace => Order::Replace(disk.to),
+        _ => Order::Flush,
+    }
 }
 
 // Where the turn stands.
@@ -268,9 +244,9 @@ pub fn where_in(pool: &PoolCells) -> Where
     ensures { (pool_of pool.now).turn.at ≡ at_of result }
 {
     Where {
-        place: pool[0],
+        place: Place::from(pool[0]),
         group: pool[1] as usize,
-        key: pool[2],
+        key: words::key_of(pool[2]),
         now: pool[3],
         left: pool[4],
         step: pool[5],
@@ -283,10 +259,10 @@ pub fn disk_in(pool: &PoolCells) -> DiskWords
     ensures { (pool_of pool.now).turn.disk ≡ disk_of result }
 {
     DiskWords {
-        disk: pool[7],
+        disk: DiskKind::from(pool[7]),
         from: pool[8] as usize,
         to: pool[9] as usize,
-        what: pool[10],
+        what: What::from(pool[10]),
         id: pool[11],
     }
 }
@@ -319,12 +295,11 @@ pub fn stepped(pool: &PoolCells) -> bool
 pub fn counters(pool: &PoolCells) -> Counters
     ensures { result ≡ (pool_of pool.now).turn.counters }
 {
-    let dirty = bool_of(pool[19]);
     Counters {
         next: pool[16],
         live: pool[17] as usize,
         size: pool[18] as usize,
-        dirty,
+        dirty: bool_of(pool[19]),
         count: pool[20] as usize,
     }
 }
@@ -379,284 +354,96 @@ pub fn set_disk(pool: &mut PoolCells, disk: DiskWords)
     ensures { pool_of pool.new
         ≡ with_disk (pool_of pool.old) (pool_of pool.old).turn.counters (disk_of disk) }
 {
-    *pool = [
-        pool[0],
-        pool[1],
-        pool[2],
-        pool[3],
-        pool[4],
-        pool[5],
-        pool[6],
-        disk.disk,
-        disk.from as u64,
-        disk.to as u64,
-        disk.what,
-        disk.id,
-        pool[12],
-        pool[13],
-        pool[14],
-        pool[15],
-        pool[16],
-        pool[17],
-        pool[18],
-        pool[19],
-        pool[20],
-        pool[21],
-        pool[22],
-        pool[23],
-        pool[24],
-        pool[25],
-        pool[26],
-        pool[27],
-    ];
+    pool[7] = u64::from(disk.disk);
+    pool[8] = disk.from as u64;
+    pool[9] = disk.to as u64;
+    pool[10] = u64::from(disk.what);
+    pool[11] = disk.id;
 }
 
 // The log's counters and the disk are these.
 pub fn set_log(pool: &mut PoolCells, counters: Counters, disk: DiskWords)
     ensures { pool_of pool.new ≡ with_disk (pool_of pool.old) counters (disk_of disk) }
 {
-    let dirty = flag_cell(counters.dirty);
-    *pool = [
-        pool[0],
-        pool[1],
-        pool[2],
-        pool[3],
-        pool[4],
-        pool[5],
-        pool[6],
-        disk.disk,
-        disk.from as u64,
-        disk.to as u64,
-        disk.what,
-        disk.id,
-        pool[12],
-        pool[13],
-        pool[14],
-        pool[15],
-        counters.next,
-        counters.live as u64,
-        counters.size as u64,
-        dirty,
-        counters.count as u64,
-        pool[21],
-        pool[22],
-        pool[23],
-        pool[24],
-        pool[25],
-        pool[26],
-        pool[27],
-    ];
+    pool[16] = counters.next;
+    pool[17] = counters.live as u64;
+    pool[18] = counters.size as u64;
+    pool[19] = flag_cell(counters.dirty);
+    pool[20] = counters.count as u64;
+    set_disk(pool, disk);
 }
 
 // The turn stands there.
 pub(crate) fn stand_at(pool: &mut PoolCells, at: Where)
     ensures { pool_of pool.new ≡ stood_at (pool_of pool.old) (at_of at) }
 {
-    *pool = [
-        at.place,
-        at.group as u64,
-        at.key,
-        at.now,
-        at.left,
-        at.step,
-        at.more,
-        pool[7],
-        pool[8],
-        pool[9],
-        pool[10],
-        pool[11],
-        pool[12],
-        pool[13],
-        pool[14],
-        pool[15],
-        pool[16],
-        pool[17],
-        pool[18],
-        pool[19],
-        pool[20],
-        pool[21],
-        pool[22],
-        pool[23],
-        pool[24],
-        pool[25],
-        pool[26],
-        pool[27],
-    ];
+    pool[0] = u64::from(at.place);
+    pool[1] = at.group as u64;
+    pool[2] = words::key_word(at.key);
+    pool[3] = at.now;
+    pool[4] = at.left;
+    pool[5] = at.step;
+    pool[6] = at.more;
 }
 
 // The turn stands there, with so many messages in mailboxes.
 pub(crate) fn queue_at(pool: &mut PoolCells, at: Where, queued: u64)
     ensures { pool_of pool.new ≡ queued_at (pool_of pool.old) (at_of at) queued }
 {
-    *pool = [
-        at.place,
-        at.group as u64,
-        at.key,
-        at.now,
-        at.left,
-        at.step,
-        at.more,
-        pool[7],
-        pool[8],
-        pool[9],
-        pool[10],
-        pool[11],
-        queued,
-        pool[13],
-        pool[14],
-        pool[15],
-        pool[16],
-        pool[17],
-        pool[18],
-        pool[19],
-        pool[20],
-        pool[21],
-        pool[22],
-        pool[23],
-        pool[24],
-        pool[25],
-        pool[26],
-        pool[27],
-    ];
+    stand_at(pool, at);
+    pool[12] = queued;
 }
 
 // The turn stands there, with so many messages in mailboxes, and whether an actor was stepped.
 pub(crate) fn step_at(pool: &mut PoolCells, at: Where, queued: u64, stepped: bool)
     ensures { pool_of pool.new ≡ stepped_at (pool_of pool.old) (at_of at) queued stepped }
 {
-    let flag = flag_cell(stepped);
-    *pool = [
-        at.place,
-        at.group as u64,
-        at.key,
-        at.now,
-        at.left,
-        at.step,
-        at.more,
-        pool[7],
-        pool[8],
-        pool[9],
-        pool[10],
-        pool[11],
-        queued,
-        pool[13],
-        pool[14],
-        flag,
-        pool[16],
-        pool[17],
-        pool[18],
-        pool[19],
-        pool[20],
-        pool[21],
-        pool[22],
-        pool[23],
-        pool[24],
-        pool[25],
-        pool[26],
-        pool[27],
-    ];
+    queue_at(pool, at, queued);
+    pool[15] = flag_cell(stepped);
 }
 
 // The turn stands there, with so many messages in mailboxes, and these losses.
 pub(crate) fn lose_at(pool: &mut PoolCells, at: Where, queued: u64, losses: Losses)
     ensures { pool_of pool.new ≡ lost_at (pool_of pool.old) (at_of at) queued losses }
 {
-    *pool = [
-        at.place,
-        at.group as u64,
-        at.key,
-        at.now,
-        at.left,
-        at.step,
-        at.more,
-        pool[7],
-        pool[8],
-        pool[9],
-        pool[10],
-        pool[11],
-        queued,
-        losses.dead,
-        losses.crashes,
-        pool[15],
-        pool[16],
-        pool[17],
-        pool[18],
-        pool[19],
-        pool[20],
-        pool[21],
-        pool[22],
-        pool[23],
-        pool[24],
-        pool[25],
-        pool[26],
-        pool[27],
-    ];
+    pool[13] = losses.dead;
+    pool[14] = losses.crashes;
+    queue_at(pool, at, queued);
 }
 
 // A turn begins there: no actor was stepped in it yet, and the first turn was taken.
 pub fn begin_at(pool: &mut PoolCells, at: Where)
     ensures { pool_of pool.new ≡ begun_at (pool_of pool.old) (at_of at) }
 {
-    *pool = [
-        at.place,
-        at.group as u64,
-        at.key,
-        at.now,
-        at.left,
-        at.step,
-        at.more,
-        pool[7],
-        pool[8],
-        pool[9],
-        pool[10],
-        pool[11],
-        pool[12],
-        pool[13],
-        pool[14],
-        0,
-        pool[16],
-        pool[17],
-        pool[18],
-        pool[19],
-        pool[20],
-        pool[21],
-        pool[22],
-        pool[23],
-        pool[24],
-        pool[25],
-        pool[26],
-        1,
-    ];
+    pool[15] = 0;
+    pool[27] = 1;
+    stand_at(pool, at);
 }
 
 // No more is admitted.
 pub fn close(pool: &mut PoolCells)
     ensures { pool_of pool.new ≡ closed_pool (pool_of pool.old) }
 {
-    *pool = [
-        pool[0], pool[1], pool[2], pool[3], pool[4], pool[5], pool[6], pool[7], pool[8], pool[9],
-        pool[10], pool[11], pool[12], pool[13], pool[14], pool[15], pool[16], pool[17], pool[18],
-        pool[19], pool[20], pool[21], pool[22], pool[23], pool[24], pool[25], 1, pool[27],
-    ];
+    pool[26] = 1;
 }
 
 // A new pool, at rest.
+#[tactic(auto, unfolding(crate::specs::Words::pool_of, crate::specs::Words::is_yes, points::specs::Words::at_of))]
 pub fn start(pool: &mut PoolCells, limits: Limits, counters: Counters, disk: DiskWords)
     ensures { pool_of pool.new ≡ new_pool limits counters (disk_of disk) }
 {
-    let dirty = flag_cell(counters.dirty);
     *pool = [
-        words::REST,
+        u64::from(Place::Rest),
         0,
         0,
         0,
         0,
         0,
         0,
-        disk.disk,
+        u64::from(disk.disk),
         disk.from as u64,
         disk.to as u64,
-        disk.what,
+        u64::from(disk.what),
         disk.id,
         0,
         0,
@@ -665,7 +452,7 @@ pub fn start(pool: &mut PoolCells, limits: Limits, counters: Counters, disk: Dis
         counters.next,
         counters.live as u64,
         counters.size as u64,
-        dirty,
+        flag_cell(counters.dirty),
         counters.count as u64,
         limits.groups as u64,
         limits.inbox,
@@ -678,51 +465,27 @@ pub fn start(pool: &mut PoolCells, limits: Limits, counters: Counters, disk: Dis
 }
 
 // Whether what is over gets its mark before the point runs.
+#[tactic(auto, unfolding(crate::specs::State::marks_at))]
 pub(crate) fn marks_at(w: Where) -> bool
     ensures { result ≡ marks_at (point_of w) }
 {
-    let point = words::point_kind(w.place);
-    match point {
-        PointKind::Seed => false,
-        PointKind::Intake => false,
-        PointKind::Route => true,
-        PointKind::Wake => false,
-        PointKind::WakeNext => false,
-        PointKind::Ready => true,
-        PointKind::FixedEnd => true,
-        PointKind::EvalEnd => true,
-        PointKind::Settle => false,
-        PointKind::Crash => true,
-        PointKind::AskTrap => true,
-        PointKind::CrashTrapped => true,
-    }
+    !matches!(
+        w.place,
+        Place::Seed | Place::Intake | Place::Wake | Place::WakeNext | Place::Settle
+    )
 }
 
 // Whether no order waits and none failed.
 pub(crate) fn disk_free(pool: &PoolCells) -> bool
     ensures { result ≡ is_free (pool_of pool.now).turn.disk }
 {
-    let kind = disk_kind(pool[7]);
-    match kind {
-        DiskKind::Free => true,
-        DiskKind::Waits => false,
-        DiskKind::Failed => false,
-    }
+    DiskKind::from(pool[7]) == DiskKind::Free
 }
 
 // Whether the turn runs on by itself: no order waits, and it is between questions.
+#[tactic(auto, unfolding(crate::specs::State::running_of, crate::specs::Words::pool_of, points::specs::Words::at_of))]
 pub(crate) fn running(pool: &PoolCells) -> bool
     ensures { result ≡ running_of (pool_of pool.now) }
 {
-    let free = disk_free(pool);
-    if free {
-        let kind = words::at_kind(pool[0]);
-        match kind {
-            AtKind::Rest => false,
-            AtKind::Asks => false,
-            AtKind::Runs => true,
-        }
-    } else {
-        false
-    }
+    disk_free(pool) && Place::from(pool[0]).runs()
 }

@@ -1,370 +1,132 @@
 // A step of a turn: at some points what is over gets its mark first, one order at a time; then the point runs. The
 // loop stops at a question, an order, or the turn's end.
-ghost use Rattle.std.specs.Prelude.{◌≡◌, List, ℕ};
-ghost use Rattle.lists.specs.Links.{Table};
+ghost use Rattle.std.specs.Prelude.{◌≡◌};
 ghost use Rattle.points.specs.Words.{point_of};
-ghost use Rattle.turn.specs.Words.{pool_of};
 ghost use Rattle.turn.specs.Retry.{retry_logged, retry_entry, ran_of};
+ghost use Rattle.turn.specs.Rail.{state_in, RailKept};
 ghost use Rattle.turn.specs.Step.{mark_logged, mark_first, mark_at, turn_step, advanced};
 
-use crate::state::PoolCells;
-use crate::{go, logged, state};
+use crate::state::{Rail, What};
+use crate::{go, state};
 use actor::message;
-use actor::message::{Logged, MessageRow};
-use actor::state::ActorRow;
-use group::settings::GroupRow;
-use lists::keys::KeyRow;
-use lists::{Found, LinkRow};
-use message_log::{LogId, RecordRow};
-use points::words;
-use points::words::{AtKind, Where};
+use message_log::{LogId, wal};
+use points::words::Where;
 
 // A message that was logged as `id` gets its mark.
-fn mark_logged(pool: &mut PoolCells, log: &mut [u8], records: &mut [RecordRow], id: LogId)
-    ensures { (store : List ℕ) (groups links rows keys actors : Table) →
-        record {
-          pool = pool_of pool.new;
-          bytes = log.new;
-          records = records.new;
-          store = store;
-          groups = groups;
-          links = links;
-          rows = rows;
-          keys = keys;
-          actors = actors;
-        }
-        ≡ mark_logged
-        (record {
-          pool = pool_of pool.old;
-          bytes = log.old;
-          records = records.old;
-          store = store;
-          groups = groups;
-          links = links;
-          rows = rows;
-          keys = keys;
-          actors = actors;
-        })
-        (Logged.As id) }
+#[tactic(auto, unfolding(crate::specs::Step::mark_logged))]
+fn mark_logged(t: &mut Rail, id: LogId)
+    ensures kept { RailKept t.old t.new }
+    ensures marked { state_in t.new ≡ mark_logged (state_in t.old) (Some id) }
 {
-    let before = state::counters(pool);
+    let pool = &mut *t.pool;
+    let mut counters = state::counters(pool);
     let limit = state::compact_at(pool);
-    let s = logged::mark(log, records, before, limit, id);
-    let counters = s.counters;
-    let due = s.due;
-    let disk = state::waiting(due, state::MARK, id.0);
-    state::set_log(pool, counters, disk);
+    let due = wal::mark(&mut counters, t.log, t.records, limit, id);
+    state::set_log(pool, counters, state::waiting(due, What::Mark, id.0));
 }
 
 // The first message that is over: its entry is free, and its mark is ordered.
-fn mark_first(
-    pool: &mut PoolCells,
-    log: &mut [u8],
-    records: &mut [RecordRow],
-    links: &mut [LinkRow],
-    rows: &[MessageRow],
-)
-    ensures { (store : List ℕ) (groups keys actors : Table) →
-        record {
-          pool = pool_of pool.new;
-          bytes = log.new;
-          records = records.new;
-          store = store;
-          groups = groups;
-          links = links.new;
-          rows = rows.now;
-          keys = keys;
-          actors = actors;
-        }
-        ≡ mark_first
-        (record {
-          pool = pool_of pool.old;
-          bytes = log.old;
-          records = records.old;
-          store = store;
-          groups = groups;
-          links = links.old;
-          rows = rows.now;
-          keys = keys;
-          actors = actors;
-        }) }
+#[tactic(auto, unfolding(crate::specs::Step::mark_first, crate::specs::Step::mark_logged))]
+fn mark_first(t: &mut Rail)
+    ensures kept { RailKept t.old t.new }
+    ensures marked { state_in t.new ≡ mark_first (state_in t.old) }
 {
+    let links = &mut *t.links;
+    let rows = &mut *t.rows;
     match lists::first(links, lists::OVER) {
-        Found::Entry(e) => {
+        Some(e) => {
             let id = message::id_at(rows, e);
             lists::move_first(links, lists::OVER, lists::FREE);
             match id {
-                Logged::As(number) => mark_logged(pool, log, records, number),
-                Logged::Never => {}
+                Some(number) => mark_logged(t, number),
+                None => {}
             }
         }
-        Found::Nothing => {}
+        None => {}
     }
 }
 
 // What is over gets its mark first, at the points that say so.
-fn mark_at(
-    pool: &mut PoolCells,
-    log: &mut [u8],
-    records: &mut [RecordRow],
-    links: &mut [LinkRow],
-    rows: &[MessageRow],
-    w: Where,
-)
-    ensures { (store : List ℕ) (groups keys actors : Table) →
-        record {
-          pool = pool_of pool.new;
-          bytes = log.new;
-          records = records.new;
-          store = store;
-          groups = groups;
-          links = links.new;
-          rows = rows.now;
-          keys = keys;
-          actors = actors;
-        }
-        ≡ mark_at
-        (record {
-          pool = pool_of pool.old;
-          bytes = log.old;
-          records = records.old;
-          store = store;
-          groups = groups;
-          links = links.old;
-          rows = rows.now;
-          keys = keys;
-          actors = actors;
-        })
-        (point_of w) }
+fn mark_at(t: &mut Rail, w: Where)
+    ensures kept { RailKept t.old t.new }
+    ensures marked { state_in t.new ≡ mark_at (state_in t.old) (point_of w) }
 {
-    let marks = state::marks_at(w);
-    if marks {
-        mark_first(pool, log, records, links, rows);
+    if state::marks_at(w) {
+        mark_first(t);
     }
 }
 
 // The attempts of a message that was logged as `id` are written.
-fn retry_logged(
-    pool: &mut PoolCells,
-    log: &mut [u8],
-    records: &mut [RecordRow],
-    id: LogId,
-    attempts: u64,
-)
-    ensures { (store : List ℕ) (groups links rows keys actors : Table) →
-        record {
-          pool = pool_of pool.new;
-          bytes = log.new;
-          records = records.new;
-          store = store;
-          groups = groups;
-          links = links;
-          rows = rows;
-          keys = keys;
-          actors = actors;
-        }
-        ≡ retry_logged
-        (record {
-          pool = pool_of pool.old;
-          bytes = log.old;
-          records = records.old;
-          store = store;
-          groups = groups;
-          links = links;
-          rows = rows;
-          keys = keys;
-          actors = actors;
-        })
-        (Logged.As id) attempts }
+#[tactic(auto, unfolding(crate::specs::Retry::retry_logged))]
+fn retry_logged(t: &mut Rail, id: LogId, attempts: u64)
+    ensures kept { RailKept t.old t.new }
+    ensures wrote { state_in t.new ≡ retry_logged (state_in t.old) (Some id) attempts }
 {
-    let before = state::counters(pool);
-    let s = logged::retry(log, records, before, id, attempts);
-    let counters = s.counters;
-    let due = s.due;
-    let disk = state::waiting(due, state::RETRY, id.0);
-    state::set_log(pool, counters, disk);
+    let pool = &mut *t.pool;
+    let mut counters = state::counters(pool);
+    let due = wal::retry(&mut counters, t.log, t.records, id, attempts);
+    state::set_log(pool, counters, state::waiting(due, What::Retry, id.0));
 }
 
 // The attempts of the message that a point tried again are written, if it was logged.
-fn retry_entry(
-    pool: &mut PoolCells,
-    log: &mut [u8],
-    records: &mut [RecordRow],
-    rows: &[MessageRow],
-    again: Found,
-)
-    ensures { (store : List ℕ) (groups links keys actors : Table) →
-        record {
-          pool = pool_of pool.new;
-          bytes = log.new;
-          records = records.new;
-          store = store;
-          groups = groups;
-          links = links;
-          rows = rows.now;
-          keys = keys;
-          actors = actors;
-        }
-        ≡ retry_entry
-        (record {
-          pool = pool_of pool.old;
-          bytes = log.old;
-          records = records.old;
-          store = store;
-          groups = groups;
-          links = links;
-          rows = rows.now;
-          keys = keys;
-          actors = actors;
-        })
-        again }
+#[tactic(auto, unfolding(crate::specs::Retry::retry_entry, crate::specs::Retry::retry_logged))]
+fn retry_entry(t: &mut Rail, again: Option<usize>)
+    ensures kept { RailKept t.old t.new }
+    ensures wrote { state_in t.new ≡ retry_entry (state_in t.old) again }
 {
+    let rows = &mut *t.rows;
     match again {
-        Found::Entry(e) => {
+        Some(e) => {
             let id = message::id_at(rows, e);
             let attempts = message::attempts_at(rows, e);
             match id {
-                Logged::As(number) => retry_logged(pool, log, records, number, attempts),
-                Logged::Never => {}
+                Some(number) => retry_logged(t, number, attempts),
+                None => {}
             }
         }
-        Found::Nothing => {}
+        None => {}
     }
 }
 
 // The point runs, and what it tried again is written.
-fn run_point(
-    pool: &mut PoolCells,
-    store: &[u8],
-    groups: &[GroupRow],
-    log: &mut [u8],
-    records: &mut [RecordRow],
-    links: &mut [LinkRow],
-    rows: &mut [MessageRow],
-    keys: &mut [KeyRow],
-    actors: &mut [ActorRow],
-    w: Where,
-)
-    ensures { record {
-      pool = pool_of pool.new;
-      bytes = log.new;
-      records = records.new;
-      store = store.now;
-      groups = groups.now;
-      links = links.new;
-      rows = rows.new;
-      keys = keys.new;
-      actors = actors.new;
-    }
-        ≡ ran_of
-        (record {
-          pool = pool_of pool.old;
-          bytes = log.old;
-          records = records.old;
-          store = store.now;
-          groups = groups.now;
-          links = links.old;
-          rows = rows.old;
-          keys = keys.old;
-          actors = actors.old;
-        })
-        (point_of w) }
+#[tactic(auto, unfolding(crate::specs::Retry::ran_of))]
+fn run_point(t: &mut Rail, w: Where)
+    ensures kept { RailKept t.old t.new }
+    ensures ran { state_in t.new ≡ ran_of (state_in t.old) (point_of w) }
 {
-    let again = go::again_at(groups, links, rows, keys, w);
-    go::go(pool, store, groups, links, rows, keys, actors, w);
-    retry_entry(pool, log, records, rows, again);
+    let links = &mut *t.links;
+    let rows = &mut *t.rows;
+    let keys = &mut *t.keys;
+    let again = go::again_at(t.groups, links, rows, keys, w);
+    go::go(t, w);
+    retry_entry(t, again);
 }
 
 // One step of the turn, where it runs: the marks first; then the point, unless an order waits.
-fn step(
-    pool: &mut PoolCells,
-    store: &[u8],
-    groups: &[GroupRow],
-    log: &mut [u8],
-    records: &mut [RecordRow],
-    links: &mut [LinkRow],
-    rows: &mut [MessageRow],
-    keys: &mut [KeyRow],
-    actors: &mut [ActorRow],
-)
-    ensures { record {
-      pool = pool_of pool.new;
-      bytes = log.new;
-      records = records.new;
-      store = store.now;
-      groups = groups.now;
-      links = links.new;
-      rows = rows.new;
-      keys = keys.new;
-      actors = actors.new;
-    }
-        ≡ turn_step
-        (record {
-          pool = pool_of pool.old;
-          bytes = log.old;
-          records = records.old;
-          store = store.now;
-          groups = groups.now;
-          links = links.old;
-          rows = rows.old;
-          keys = keys.old;
-          actors = actors.old;
-        }) }
+#[tactic(auto, using(points::proofs::WordLaws::at_runs, crate::proofs::StepLaws::step_stays), unfolding(crate::specs::Step::turn_step))]
+fn step(t: &mut Rail)
+    ensures kept { RailKept t.old t.new }
+    ensures stepped { state_in t.new ≡ turn_step (state_in t.old) }
 {
+    let pool = &mut *t.pool;
     let w = state::where_in(pool);
-    let kind = words::at_kind(w.place);
-    match kind {
-        AtKind::Rest => {}
-        AtKind::Asks => {}
-        AtKind::Runs => {
-            mark_at(pool, log, records, links, rows, w);
-            let free = state::disk_free(pool);
-            if free {
-                run_point(
-                    pool, store, groups, log, records, links, rows, keys, actors, w,
-                );
-            }
+    if w.place.runs() {
+        mark_at(t, w);
+        let pool = &mut *t.pool;
+        let free = state::disk_free(pool);
+        if free {
+            run_point(t, w);
         }
     }
 }
 
 // Runs until a question, an order or the end.
-pub fn advance(
-    pool: &mut PoolCells,
-    store: &[u8],
-    groups: &[GroupRow],
-    log: &mut [u8],
-    records: &mut [RecordRow],
-    links: &mut [LinkRow],
-    rows: &mut [MessageRow],
-    keys: &mut [KeyRow],
-    actors: &mut [ActorRow],
-)
-    ensures { record {
-      pool = pool_of pool.new;
-      bytes = log.new;
-      records = records.new;
-      store = store.now;
-      groups = groups.now;
-      links = links.new;
-      rows = rows.new;
-      keys = keys.new;
-      actors = actors.new;
-    }
-        ≡ advanced
-        (record {
-          pool = pool_of pool.old;
-          bytes = log.old;
-          records = records.old;
-          store = store.now;
-          groups = groups.now;
-          links = links.old;
-          rows = rows.old;
-          keys = keys.old;
-          actors = actors.old;
-        }) }
+// Kept: a `while`, since it counts nothing: whether it goes on is read of the pool.
+pub fn advance(t: &mut Rail)
+    ensures kept { RailKept t.old t.new }
+    ensures advanced { state_in t.new ≡ advanced (state_in t.old) }
 {
-    while state::running(pool) {
-        step(pool, store, groups, log, records, links, rows, keys, actors);
+    while state::running(t.pool) {
+        step(t);
     }
 }

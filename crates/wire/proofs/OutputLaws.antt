@@ -7,7 +7,8 @@ use native.Mathlib.Numerals.{add-one}
 use lib.Dec.{leb}
 use lib.ListN.{length, drop, get_or, drop_of_length-le}
 use lib.Seq.{drop-cons}
-use borrow.Author.Tests.{eq-eqb, ne_eqb}
+use borrow.Author.Tests.{eq-eqb, ne_eqb, leb-true}
+use Rattle.std.proofs.lemmas.List.{get_or_default}
 use Rattle.text.specs.Bytes.{Wrote}
 use Rattle.lists.specs.Links.{Table}
 use Rattle.wire.specs.Number.{numbers}
@@ -37,11 +38,12 @@ module _ (t : Table) (i : ℕ) where
   more inside = rw add-one (drop-cons t i [] inside)
 
   module _ (d : Output) {d' whole : Output} (inside : i < length t) where
-    pub rows_more : d' ≡ output d (numbers (get_or t i [])) → output_rows d (drop i t) ≡ whole
-        → output_rows d' (drop (i + 1) t)
-        ≡ whole
+    pub rows_more : (row : List ℕ) → row ≡ get_or t i row → d' ≡ output d (numbers row)
+        → output_rows d (drop i t) ≡ whole → output_rows d' (drop (i + 1) t) ≡ whole
     unfolding output_rows
-    rows_more e h = rw e (sym (ap (output_rows d) (more inside)) ∙ h)
+    rows_more row r e h =
+        let there : row ≡ get_or t i [] = r ∙ get_or_default t i row [] inside in
+        rw e (rw there (sym (ap (output_rows d) (more inside)) ∙ h))
 
     pub keys_more : d' ≡ output d (get_or t i []) → output_keys d (drop i t) ≡ whole
         → output_keys d' (drop (i + 1) t) ≡ whole
@@ -56,3 +58,6 @@ module _ (t : Table) (i : ℕ) where
     pub keys_end : output_keys d (drop i t) ≡ whole → d ≡ whole
     unfolding output_keys
     keys_end h = sym (ap (output_keys d) (drop_of_length-le t out)) ∙ h
+
+-- what becomes of one text, as the code tests it
+pub ruleset outputs = (output_full, output_over, leb-true)

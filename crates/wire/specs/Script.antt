@@ -1,20 +1,15 @@
 -- A script's bytes (docs/PROTOCOL.md): a header with settings and lent lengths, the groups, the file, then calls. A
 -- script that is cut short, or has a number that stands for nothing, is malformed.
-use Rattle.std.specs.Prelude.{List, [], ◌∷◌, ℕ, zero, suc, ◌+◌, ◌-◌, ◌*◌, ◌≤◌, ◌<◌, eqb, ltb, length}
+use Rattle.std.specs.Prelude.{List, [], ◌∷◌, ℕ, zero, suc, ◌+◌, ◌-◌, ◌*◌, ◌≤◌, ◌<◌, eqb, ltb, length, Option, Some, None}
+use Rattle.wire.specs.declared.script.CallAt.{CallAt}
+use Rattle.wire.specs.declared.script.Kind.{Kind}
 use Rattle.lists.specs.Links.{pick, Table}
-use Rattle.actor.specs.declared.message.Caller.TheVariants as caller
 use Rattle.actor.specs.declared.question.Reply.{Reply}
 use Rattle.actor.specs.declared.question.Reply.TheVariants as reply
 use Rattle.actor.specs.declared.question.Status.TheVariants as status
 use Rattle.wire.specs.Number.{number_at, numbers_at}
 use Rattle.wire.specs.declared.script.Header.{Header}
-use Rattle.wire.specs.declared.script.HeaderRead.{HeaderRead}
-use Rattle.wire.specs.declared.script.HeaderRead.TheVariants as header
 use Rattle.wire.specs.declared.script.Kind.TheVariants as kind
-use Rattle.wire.specs.declared.script.KindRead.{KindRead}
-use Rattle.wire.specs.declared.script.KindRead.TheVariants as known
-use Rattle.wire.specs.declared.script.CallRead.{CallRead}
-use Rattle.wire.specs.declared.script.CallRead.TheVariants.{Malformed, Next}
 
 -- ---- the header: 11 numbers
 
@@ -41,21 +36,21 @@ fields_of s groups = record {
 }
 
 -- version 1, show 0 to 3, at most 16 groups, and the groups and the file lie in the script
-unfoldable pub header_of : List ℕ → HeaderRead
+unfoldable pub header_of : List ℕ → Option Header
 header_of s =
-    pick (ltb (length s) 88) header.Malformed
+    pick (ltb (length s) 88) None
     (pick (eqb (number_at s 0) 1)
-    (pick (ltb 3 (number_at s 8)) header.Malformed
-    (pick (ltb 16 (number_at s 80)) header.Malformed
-    (pick (ltb (length s) (file_at (number_at s 80))) header.Malformed
-    (pick (ltb (length s - file_at (number_at s 80)) (number_at s 32)) header.Malformed
-    (header.Fields (fields_of s (number_at s 80)))))))
-    header.Malformed)
+    (pick (ltb 3 (number_at s 8)) None
+    (pick (ltb 16 (number_at s 80)) None
+    (pick (ltb (length s) (file_at (number_at s 80))) None
+    (pick (ltb (length s - file_at (number_at s 80)) (number_at s 32)) None
+    (Some (fields_of s (number_at s 80)))))))
+    None)
 
 -- the groups and the file lie in the script
-abbrev pub HasFile : List ℕ → HeaderRead → Type 0
-HasFile s header.Malformed = Unit
-HasFile s (header.Fields h) = (h.groups ≤ 16) × (h.file + h.n ≤ length s)
+abbrev pub HasFile : List ℕ → Option Header → Type 0
+HasFile s None = Unit
+HasFile s (Some h) = (h.groups ≤ 16) × (h.file + h.n ≤ length s)
 
 -- the rows of so many groups, from p on, over those of a table
 unfoldable pub groups_into : ℕ → List ℕ → ℕ → Table → Table
@@ -66,16 +61,16 @@ groups_into (suc k) s p (old ∷ olds) = numbers_at 37 s p ∷ groups_into k s (
 -- ---- a call: 5 numbers (which, kind, value, and the lengths of name and body), then the name, then the body
 
 -- 0 nobody, 1 a caller
-unfoldable pub caller_in : ℕ → ℕ → KindRead
-caller_in k v = pick (eqb k 0) (known.Known (kind.Admit caller.Nobody))
-    (pick (eqb k 1) (known.Known (kind.Admit (caller.From (record { 0 = v })))) known.Unknown)
+unfoldable pub caller_in : ℕ → ℕ → Option Kind
+caller_in k v = pick (eqb k 0) (Some (kind.Admit None))
+    (pick (eqb k 1) (Some (kind.Admit (Some (record { 0 = v })))) None)
 
 -- a kind of call that is known: this reply
-abbrev pub replied_by : Reply → KindRead
-replied_by r = known.Known (kind.Reply r)
+abbrev pub replied_by : Reply → Option Kind
+replied_by r = Some (kind.Reply r)
 
 -- the value of a reply ran: 0 done, 1 exit, 2 preempted, 3 event, 4 host call, 5 error, 6 broke; any other is unknown
-unfoldable pub status_in : ℕ → KindRead
+unfoldable pub status_in : ℕ → Option Kind
 status_in v =
     pick (eqb v 0) (replied_by (reply.Ran status.Done))
     (pick (eqb v 1) (replied_by (reply.Ran status.Exit))
@@ -83,10 +78,10 @@ status_in v =
     (pick (eqb v 3) (replied_by (reply.Ran status.Event))
     (pick (eqb v 4) (replied_by (reply.Ran status.HostCall))
     (pick (eqb v 5) (replied_by (reply.Ran status.Error)) (pick (eqb v 6) (replied_by (reply.Ran status.Broke))
-    known.Unknown))))))
+    None))))))
 
 -- 0 no, 1 yes, 2 clock, 3 count, 4 ran, 5 message, 6 end, 7 told, 8 stored, 9 failed
-unfoldable pub reply_in : ℕ → ℕ → KindRead
+unfoldable pub reply_in : ℕ → ℕ → Option Kind
 reply_in k v =
     pick (eqb k 0) (replied_by reply.No)
     (pick (eqb k 1) (replied_by reply.Yes)
@@ -96,31 +91,31 @@ reply_in k v =
     (pick (eqb k 5) (replied_by reply.Message)
     (pick (eqb k 6) (replied_by reply.End)
     (pick (eqb k 7) (replied_by reply.Told)
-    (pick (eqb k 8) (replied_by reply.Stored) (pick (eqb k 9) (replied_by reply.Failed) known.Unknown)))))))))
+    (pick (eqb k 8) (replied_by reply.Stored) (pick (eqb k 9) (replied_by reply.Failed) None)))))))))
 
 -- 1 admit, 2 turn, 3 reply, 4 sync, 5 close
-unfoldable pub kind_in : ℕ → ℕ → ℕ → KindRead
+unfoldable pub kind_in : ℕ → ℕ → ℕ → Option Kind
 kind_in tag k v =
     pick (eqb tag 1) (caller_in k v)
-    (pick (eqb tag 2) (known.Known kind.Turn)
-    (pick (eqb tag 3) (reply_in k v) (pick (eqb tag 4) (known.Known kind.Sync)
-    (pick (eqb tag 5) (known.Known kind.Close) known.Unknown))))
+    (pick (eqb tag 2) (Some kind.Turn)
+    (pick (eqb tag 3) (reply_in k v) (pick (eqb tag 4) (Some kind.Sync)
+    (pick (eqb tag 5) (Some kind.Close) None))))
 
 -- a call of a known kind, whose name begins at `name`, its body at `body`, and ends at `end`
-abbrev pub read_as : ℕ → ℕ → ℕ → KindRead → CallRead
-read_as name body end known.Unknown = Malformed
-read_as name body end (known.Known k) = Next (record { kind = k; name = name; body = body; end = end })
+abbrev pub read_as : ℕ → ℕ → ℕ → Option Kind → Option CallAt
+read_as name body end None = None
+read_as name body end (Some k) = Some (record { kind = k; name = name; body = body; end = end })
 
 -- the call that begins at p
-unfoldable pub call_at : List ℕ → ℕ → CallRead
+unfoldable pub call_at : List ℕ → ℕ → Option CallAt
 call_at s p =
-    pick (ltb (length s - p) 40) Malformed
-    (pick (ltb (length s - (p + 40)) (number_at s (p + 24))) Malformed
-    (pick (ltb (length s - (p + 40 + number_at s (p + 24))) (number_at s (p + 32))) Malformed
+    pick (ltb (length s - p) 40) None
+    (pick (ltb (length s - (p + 40)) (number_at s (p + 24))) None
+    (pick (ltb (length s - (p + 40 + number_at s (p + 24))) (number_at s (p + 32))) None
     (read_as (p + 40) (p + 40 + number_at s (p + 24)) (p + 40 + number_at s (p + 24) + number_at s (p + 32))
     (kind_in (number_at s p) (number_at s (p + 8)) (number_at s (p + 16))))))
 
 -- a call that was read lies behind p, in the script
-abbrev pub InScript : List ℕ → ℕ → CallRead → Type 0
-InScript s p Malformed = Unit
-InScript s p (Next c) = (p < c.end) × (c.name ≤ c.body) × (c.body ≤ c.end) × (c.end ≤ length s)
+abbrev pub InScript : List ℕ → ℕ → Option CallAt → Type 0
+InScript s p None = Unit
+InScript s p (Some c) = (p < c.end) × (c.name ≤ c.body) × (c.body ≤ c.end) × (c.end ≤ length s)

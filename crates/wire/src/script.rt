@@ -2,10 +2,10 @@
 ghost use Rattle.std.specs.Prelude.{◌≡◌, ◌+◌, ◌≤◌, ◌<◌};
 ghost use Rattle.wire.specs.Number.{numbers_at};
 ghost use Rattle.wire.specs.Script.{file_at, fields_of, header_of, HasFile, groups_into, caller_in, replied_by};
-ghost use Rattle.wire.specs.Script.{status_in, reply_in, kind_in, read_as, call_at, InScript};
+ghost use Rattle.wire.specs.Script.{status_in, reply_in, kind_in, call_at, InScript};
 
 use crate::number::number_at;
-use actor::message::{Caller, CallerId};
+use actor::message::CallerId;
 use actor::question::{Reply, Status};
 use group::settings::GroupRow;
 use settings::ranges::Settings;
@@ -13,6 +13,8 @@ use settings::ranges::Settings;
 #[derive(Drop)]
 pub struct Header {
     // what an entry shows: 0 the answer and the counters, 1 the log too, 2 the tables too, 3 the store too
+    // Kept: this is a level, and each part of an entry compares it with its own by `<`; an enum of four levels would be
+    // made from the number, and be compared as the number is.
     pub show: u64,
     // the lengths of the lent log and store, and of the file
     pub long: usize,
@@ -24,26 +26,14 @@ pub struct Header {
     pub groups: usize,
 }
 
-#[derive(Drop)]
-pub enum HeaderRead {
-    Malformed,
-    Fields(Header),
-}
-
 // Which call.
 #[derive(Drop)]
 pub enum Kind {
-    Admit(Caller),
+    Admit(Option<CallerId>),
     Turn,
     Reply(Reply),
     Sync,
     Close,
-}
-
-#[derive(Drop)]
-pub enum KindRead {
-    Unknown,
-    Known(Kind),
 }
 
 // A call: its name begins at `name`, its body at `body`, and ends at `end`.
@@ -55,13 +45,8 @@ pub struct CallAt {
     pub end: usize,
 }
 
-#[derive(Drop)]
-pub enum CallRead {
-    Malformed,
-    Next(CallAt),
-}
-
 // Where the file begins.
+#[tactic(auto, unfolding(crate::specs::Script::file_at))]
 fn file_at(groups: usize) -> usize
     requires { groups ≤ 16 }
     ensures { result ≡ file_at groups }
@@ -91,33 +76,23 @@ fn fields_of(s: &[u8], groups: usize) -> Header
     }
 }
 
-pub fn read_header(s: &[u8]) -> HeaderRead
+#[tactic(auto, unfolding(crate::specs::Script::header_of))]
+pub fn read_header(s: &[u8]) -> Option<Header>
     ensures says { result ≡ header_of s.now }
     ensures inside { HasFile s.now result }
 {
-    if s.len() < 88 {
-        return HeaderRead::Malformed;
+    if s.len() < 88 || number_at(s, 0) != 1 || 3 < number_at(s, 8) {
+        return None;
     }
-    if number_at(s, 0) == 1 {
-        if 3 < number_at(s, 8) {
-            return HeaderRead::Malformed;
-        }
-        let groups = number_at(s, 80) as usize;
-        if 16 < groups {
-            return HeaderRead::Malformed;
-        }
-        let from = file_at(groups);
-        if s.len() < from {
-            return HeaderRead::Malformed;
-        }
-        let n = number_at(s, 32) as usize;
-        if s.len() - from < n {
-            return HeaderRead::Malformed;
-        }
-        let h = fields_of(s, groups);
-        return HeaderRead::Fields(h);
+    let groups = number_at(s, 80) as usize;
+    if 16 < groups {
+        return None;
     }
-    HeaderRead::Malformed
+    let from = file_at(groups);
+    if s.len() < from || s.len() - from < number_at(s, 32) as usize {
+        return None;
+    }
+    Some(fields_of(s, groups))
 }
 
 // The row of a group.
@@ -126,11 +101,8 @@ fn group_at(s: &[u8], from: usize) -> GroupRow
     ensures { result ≡ numbers_at 37 s.now from }
 {
     let mut row = [0u64; 37];
-    let mut i: usize = 0;
-    while i < 37 {
-        let n = number_at(s, from + 8 * i);
-        row[i] = n;
-        i += 1;
+    for i in 0..37 {
+        row[i] = number_at(s, from + 8 * i);
     }
     row
 }
@@ -139,161 +111,102 @@ fn group_at(s: &[u8], from: usize) -> GroupRow
 pub fn read_groups(s: &[u8], groups: usize, given: &mut [GroupRow])
     ensures { given.new ≡ groups_into groups s.now 88 given.old }
 {
-    let mut g: usize = 0;
-    while g < groups {
-        if given.len() <= g {
-            return;
-        }
-        let row = group_at(s, 88 + 296 * g);
-        given[g] = row;
-        g += 1;
+    for g in 0..groups.min(given.len()) {
+        given[g] = group_at(s, 88 + 296 * g);
     }
 }
 
-fn caller_in(kind: u64, value: u64) -> KindRead
+// Kept, here and below: a switch on a number of the script (docs/PROTOCOL.md).
+#[tactic(auto, unfolding(crate::specs::Script::caller_in))]
+fn caller_in(kind: u64, value: u64) -> Option<Kind>
     ensures { result ≡ caller_in kind value }
 {
-    if kind == 0 {
-        let k = Kind::Admit(Caller::Nobody);
-        return KindRead::Known(k);
+    match kind {
+        0 => Some(Kind::Admit(None)),
+        1 => Some(Kind::Admit(Some(CallerId(value)))),
+        _ => None,
     }
-    if kind == 1 {
-        let k = Kind::Admit(Caller::From(CallerId(value)));
-        return KindRead::Known(k);
-    }
-    KindRead::Unknown
 }
 
-fn replied(r: Reply) -> KindRead
+fn replied(r: Reply) -> Option<Kind>
     ensures { result ≡ replied_by r }
 {
-    let k = Kind::Reply(r);
-    KindRead::Known(k)
+    Some(Kind::Reply(r))
 }
 
-fn status_in(value: u64) -> KindRead
+#[tactic(auto, unfolding(crate::specs::Script::status_in))]
+fn status_in(value: u64) -> Option<Kind>
     ensures { result ≡ status_in value }
 {
-    if value == 0 {
-        return replied(Reply::Ran(Status::Done));
+    match value {
+        0 => replied(Reply::Ran(Status::Done)),
+        1 => replied(Reply::Ran(Status::Exit)),
+        2 => replied(Reply::Ran(Status::Preempted)),
+        3 => replied(Reply::Ran(Status::Event)),
+        4 => replied(Reply::Ran(Status::HostCall)),
+        5 => replied(Reply::Ran(Status::Error)),
+        6 => replied(Reply::Ran(Status::Broke)),
+        _ => None,
     }
-    if value == 1 {
-        return replied(Reply::Ran(Status::Exit));
-    }
-    if value == 2 {
-        return replied(Reply::Ran(Status::Preempted));
-    }
-    if value == 3 {
-        return replied(Reply::Ran(Status::Event));
-    }
-    if value == 4 {
-        return replied(Reply::Ran(Status::HostCall));
-    }
-    if value == 5 {
-        return replied(Reply::Ran(Status::Error));
-    }
-    if value == 6 {
-        return replied(Reply::Ran(Status::Broke));
-    }
-    KindRead::Unknown
 }
 
-fn reply_in(kind: u64, value: u64) -> KindRead
+#[tactic(auto, unfolding(crate::specs::Script::reply_in))]
+fn reply_in(kind: u64, value: u64) -> Option<Kind>
     ensures { result ≡ reply_in kind value }
 {
-    if kind == 0 {
-        return replied(Reply::No);
+    match kind {
+        0 => replied(Reply::No),
+        1 => replied(Reply::Yes),
+        2 => replied(Reply::Clock(value)),
+        3 => replied(Reply::Count(value)),
+        4 => status_in(value),
+        5 => replied(Reply::Message),
+        6 => replied(Reply::End),
+        7 => replied(Reply::Told),
+        8 => replied(Reply::Stored),
+        9 => replied(Reply::Failed),
+        _ => None,
     }
-    if kind == 1 {
-        return replied(Reply::Yes);
-    }
-    if kind == 2 {
-        return replied(Reply::Clock(value));
-    }
-    if kind == 3 {
-        return replied(Reply::Count(value));
-    }
-    if kind == 4 {
-        return status_in(value);
-    }
-    if kind == 5 {
-        return replied(Reply::Message);
-    }
-    if kind == 6 {
-        return replied(Reply::End);
-    }
-    if kind == 7 {
-        return replied(Reply::Told);
-    }
-    if kind == 8 {
-        return replied(Reply::Stored);
-    }
-    if kind == 9 {
-        return replied(Reply::Failed);
-    }
-    KindRead::Unknown
 }
 
-fn kind_in(tag: u64, kind: u64, value: u64) -> KindRead
+#[tactic(auto, unfolding(crate::specs::Script::kind_in))]
+fn kind_in(tag: u64, kind: u64, value: u64) -> Option<Kind>
     ensures { result ≡ kind_in tag kind value }
 {
-    if tag == 1 {
-        return caller_in(kind, value);
-    }
-    if tag == 2 {
-        return KindRead::Known(Kind::Turn);
-    }
-    if tag == 3 {
-        return reply_in(kind, value);
-    }
-    if tag == 4 {
-        return KindRead::Known(Kind::Sync);
-    }
-    if tag == 5 {
-        return KindRead::Known(Kind::Close);
-    }
-    KindRead::Unknown
-}
-
-fn read_as(name: usize, body: usize, end: usize, k: KindRead) -> CallRead
-    ensures { result ≡ read_as name body end k }
-{
-    match k {
-        KindRead::Unknown => CallRead::Malformed,
-        KindRead::Known(kind) => {
-            let c = CallAt {
-                kind,
-                name,
-                body,
-                end,
-            };
-            CallRead::Next(c)
-        }
+    match tag {
+        1 => caller_in(kind, value),
+        2 => Some(Kind::Turn),
+        3 => reply_in(kind, value),
+        4 => Some(Kind::Sync),
+        5 => Some(Kind::Close),
+        _ => None,
     }
 }
 
 // The call that begins at p.
-pub fn read_call(s: &[u8], p: usize) -> CallRead
+#[tactic(auto, unfolding(crate::specs::Script::call_at))]
+pub fn read_call(s: &[u8], p: usize) -> Option<CallAt>
     ensures says { result ≡ call_at s.now p }
     ensures inside { InScript s.now p result }
 {
-    if s.len() < p {
-        return CallRead::Malformed;
-    }
-    if s.len() - p < 40 {
-        return CallRead::Malformed;
+    if s.len() < p || s.len() - p < 40 {
+        return None;
     }
     let name = p + 40;
     let a = number_at(s, p + 24) as usize;
     if s.len() - name < a {
-        return CallRead::Malformed;
+        return None;
     }
     let body = name + a;
     let b = number_at(s, p + 32) as usize;
     if s.len() - body < b {
-        return CallRead::Malformed;
+        return None;
     }
-    let end = body + b;
-    let k = kind_in(number_at(s, p), number_at(s, p + 8), number_at(s, p + 16));
-    read_as(name, body, end, k)
+    let kind = kind_in(number_at(s, p), number_at(s, p + 8), number_at(s, p + 16))?;
+    Some(CallAt {
+        kind,
+        name,
+        body,
+        end: body + b,
+    })
 }

@@ -4,7 +4,4 @@ use Rattle.drive.specs.Drive.{driven}
 use Rattle.drive.proofs.drive_admit.Goals as goal
 
 pub returns : goal.returns
-returns c keys actors =
-    let e1 = c.show.ensures in
-    let e2 = simp c.caller_in-caller.ensures at (c.admit-called.ensures keys actors) in
-    simp (e1) (ap driven e2)
+returns c keys actors = simp c.show.ensures (ap driven (simp c.caller_in.ensures at (c.admit-called.ensures keys actors)))

@@ -4,7 +4,4 @@ use Rattle.drive.specs.Drive.{driven}
 use Rattle.drive.proofs.drive_open.Goals as goal
 
 pub returns : goal.returns
-returns c =
-    let e1 = c.show.ensures in
-    let e2 = simp c.settings_in-s.ensures at c.open-called.ensures in
-    simp (e1) (ap driven e2)
+returns c = simp c.show.ensures (ap driven (simp c.settings_in.ensures at c.open-called.ensures))

@@ -4,6 +4,4 @@ use Rattle.drive.specs.Drive.{driven}
 use Rattle.drive.proofs.drive_turn.Goals as goal
 
 pub returns : goal.returns
-returns c =
-    let e1 = c.show.ensures in
-    simp (e1) (ap driven c.turn-called.ensures)
+returns c = simp c.show.ensures (ap driven c.turn-called.ensures)

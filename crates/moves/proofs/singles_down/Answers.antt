@@ -1,61 +1,19 @@
 -- The loop keeps that the single steps left give the whole (`GoingDown`).
-use Prim.Native.Nat.{◌+◌}
-use native.Mathlib.Omega.{arith}
-use Rattle.moves.proofs.MoveLaws.{going_down, down_inside, down_one_more, down_ends, single_is}
-use borrow.Author.Rules.{rules}
+use Rattle.std.proofs.Common.{◌+◌, arith}
+use Rattle.moves.proofs.MoveLaws.{down_inside, down_one_more, down_ends, single_is}
 use Rattle.moves.proofs.singles_down.Goals as goal
 
-pub loop-count-init : goal.loop-count-init
-loop-count-init c =
-    let args = c.args in
-    let pre = c.requires in
-    going_down 1 args.n args.bytes.now args.from args.to pre.0 (omega (arith, pre.1))
+pub loop-k-preserved : goal.loop-k-preserved
+loop-k-preserved c =
+    let going = c.loop-k.invariant.going in
+    let from = c.args.from + c.loop-k.k in
+    let to = c.args.to + c.loop-k.k in
+    let inside = down_inside going c.loop-k-test.true in
+    record {
+      counted = omega arith;
+      going = down_one_more going from to _ c.loop-k-test.true (omega arith) (omega arith) (single_is c.loop-k.bytes
+          from to (omega arith) (omega arith));
+    }
 
-pub overflow_add-b : goal.overflow_add-b
-overflow_add-b c =
-    let loop = c.loop-count in
-    let loop-test = c.loop-count-test in
-    let inside = down_inside loop.invariant loop-test.true in
-    search rules
-
-pub bounds-bytes-from : goal.bounds-bytes-from
-bounds-bytes-from c =
-    let loop = c.loop-count in
-    let loop-test = c.loop-count-test in
-    let inside = down_inside loop.invariant loop-test.true in
-    omega (arith, inside.0)
-
-pub overflow_add-bytes : goal.overflow_add-bytes
-overflow_add-bytes c =
-    let loop = c.loop-count in
-    let loop-test = c.loop-count-test in
-    let inside = down_inside loop.invariant loop-test.true in
-    search rules
-
-pub bounds-bytes-to : goal.bounds-bytes-to
-bounds-bytes-to c =
-    let loop = c.loop-count in
-    let loop-test = c.loop-count-test in
-    let inside = down_inside loop.invariant loop-test.true in
-    omega (arith, inside.1)
-
-pub loop-count-preserved : goal.loop-count-preserved
-loop-count-preserved c =
-    let args = c.args in
-    let loop = c.loop-count in
-    let loop-test = c.loop-count-test in
-    let inside = down_inside loop.invariant loop-test.true in
-    down_one_more loop.invariant (args.from + loop.count) (args.to + loop.count) _ loop-test.true (omega arith)
-    (omega arith) (single_is loop.bytes (args.from + loop.count) (args.to + loop.count) (omega (
-      arith,
-      inside.0,
-    )) (omega (arith, inside.1)))
-
-pub shape_of-bytes : goal.shape_of-bytes
-shape_of-bytes c = c.loop-count.invariant.long
-
-pub returns : goal.returns
-returns c =
-    let loop = c.loop-count in
-    let loop-test = c.loop-count-test in
-    record { bytes = down_ends loop.invariant loop-test.false; count = omega (arith, loop.invariant.few, loop-test.false) }
+pub returns-clause-bytes : goal.returns-clause-bytes
+returns-clause-bytes c = down_ends c.loop-k.invariant.going c.loop-k-test.false

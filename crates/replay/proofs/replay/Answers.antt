@@ -11,8 +11,8 @@ pub play-done-requires : goal.play-done-requires
 unfolding blank
 play-done-requires c = (refl, refl, refl, refl, refl, refl, refl)
 
-pub overflow_sub-count : goal.overflow_sub-count
-overflow_sub-count c = count_room _ _ _ _ c.play-done.ensures
+pub overflow_sub-done : goal.overflow_sub-done
+overflow_sub-done c = count_room _ _ _ _ c.play-done.ensures
 
 pub returns : goal.returns
 returns c =

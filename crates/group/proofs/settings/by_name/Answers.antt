@@ -1,28 +1,11 @@
--- `settings::by_name` meets its contract: the groups below `g` give what all of them do. The measure is `g`. Assumes nothing.
-use mathlib.Core.Path.{refl, sym, ◌∙◌}
-use native.Mathlib.Omega.{arith}
-use Rattle.group.proofs.Loops.{for_more, for_end}
+-- By the closure's test.
+use Rattle.std.proofs.Common.{[], get_or, ◌∙◌, rules}
+use Rattle.group.specs.Settings.{named}
+use Rattle.group.proofs.Loops.{by_name_last}
 use Rattle.group.proofs.settings.by_name.Goals as goal
-
-pub loop-g-init : goal.loop-g-init
-loop-g-init c = refl
-
-pub returns-then-found : goal.returns-then-found
-returns-then-found c =
-    let l = c.loop-g in
-    let is = sym c.is_for-found.ensures ∙ c.if-found.true in
-    sym (l.invariant ∙ (for_more _ _ _ _ l.g (omega arith) ∙ rw is))
-
-pub loop-g-smaller : goal.loop-g-smaller
-loop-g-smaller c = omega arith
-
-pub loop-g-preserved : goal.loop-g-preserved
-loop-g-preserved c =
-    let l = c.loop-g in
-    let other = sym c.is_for-found.ensures ∙ c.if-found.false in
-    l.invariant ∙ (for_more _ _ _ _ l.g (omega arith) ∙ rw other)
 
 pub returns : goal.returns
 returns c =
-    let l = c.loop-g in
-    sym (l.invariant ∙ for_end _ _ _ _ l.g (omega arith))
+    let a = c.args in
+    c.last_where.ensures (λ g. named (get_or a.groups.now g []) a.store.now a.entry a.len) (λ g b l h. search rules)
+    ∙ by_name_last _ _ _ _ _

@@ -7,17 +7,12 @@ use Rattle.message_log.proofs.opening.copy_row.Goals as goal
 pub returns : goal.returns
 returns c =
     let args = c.args in
-    let pre = c.requires in
-    let line = c.line_at-line in
-    let name-field = c.name_field in
-    let copy-field = c.copy_field in
-    let len_of = c.len_of-name in
-    let body-field = c.body_field in
-    let copy-field2 = c.copy_field-2 in
-    let len-of2 = c.len_of-body in
     let file = args.file.now in
     let l = line_at file args.at in
-    let all = both_fields args.store.now _ _ args.base (name_of l) (body_of l) _ _ _ _ _ _ len_of.result len-of2.result pre.0 (fit_name l pre.1) (fit_body l pre.1)
-    (name_at file _ _ args.at line.ensures name-field.ensures) (body_at file _ _ args.at line.ensures body-field.ensures)
-    refl copy-field.ensures refl copy-field2.ensures len_of.ensures len-of2.ensures in
+    let all = both_fields args.store.now _ _ args.base (name_of l)
+    (body_of l) _ _ _ _ _ _ c.unwrap_or-name.result c.unwrap_or-body.result c.requires.0
+    (fit_name l c.requires.1) (fit_body l c.requires.1)
+    (name_at file _ _ args.at c.line_at-line.ensures c.name_field.ensures)
+    (body_at file _ _ args.at c.line_at-line.ensures c.body_field.ensures)
+    refl c.copy_field.ensures refl c.copy_field-2.ensures c.unwrap_or-name.ensures c.unwrap_or-body.ensures in
     record { lengths = all.0; copied = all.1 }

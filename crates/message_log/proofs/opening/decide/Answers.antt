@@ -1,50 +1,18 @@
 -- One law for each answer of the reader.
--- One law for each answer of the reader.
--- One law for each answer of the reader.
-use mathlib.Core.Path.{sym, ◌∙◌}
-use native.Mathlib.Omega.{arith}
-use Rattle.message_log.proofs.DecisionLaws.{left_no_next, left_many, all_rows, rows_too_long, rows_accepted}
+use Rattle.std.proofs.Common.{arith}
+use Rattle.std.proofs.lemmas.Result.{err_from_is_err_and}
+use Rattle.message_log.proofs.DecisionLaws.{left_refused, rows_too_long, rows_accepted}
 use Rattle.message_log.proofs.opening.decide.Goals as goal
 
-pub rows_fit-requires : goal.rows_fit-requires
-rows_fit-requires c =
-    let args = c.args in
-    let pre = c.requires in
-    let left-rows = c.left_rows in
-    let count = c.in-Rows in
-    let all = all_rows args.file.now _ _ count.count count.next count.is left-rows.ensures in
-    omega (arith, all.few, left-rows.auto.rows, pre)
+pub returns-in_err-kept : goal.returns-in_err-kept
+returns-in_err-kept c =
+    let p = err_from_is_err_and c.from_residual.result c.from_residual.ensures.1 in
+    rw (p.1, p.2) (left_refused c.args.file.now c.left_rows.new.rows _ c.in_err-kept.ensures)
 
-pub returns-then-rows_fit : goal.returns-then-rows_fit
-returns-then-rows_fit c =
-    let args = c.args in
-    let left-rows = c.left_rows in
-    let count = c.in-Rows in
-    let rows_fit_lem = c.rows_fit in
-    let if1 = c.if-rows_fit in
-    let all = all_rows args.file.now _ _ count.count count.next count.is left-rows.ensures in
-    rows_accepted args.file.now _ count.count count.next (omega arith) all (sym if1.true ∙ rows_fit_lem.ensures)
+pub returns-then-not-rows_fit : goal.returns-then-not-rows_fit
+returns-then-not-rows_fit c =
+    rows_too_long c.args.file.now _ c.in_ok-kept.kept (omega arith) c.in_ok-kept.ensures c.if-not-rows_fit.ensures
 
-pub returns-in-NoNext : goal.returns-in-NoNext
-returns-in-NoNext c =
-    let args = c.args in
-    let left-rows = c.left_rows in
-    let enum_told = c.in-NoNext in
-    left_no_next args.file.now _ _ enum_told.is left-rows.ensures
-
-pub returns-in-Many : goal.returns-in-Many
-returns-in-Many c =
-    let args = c.args in
-    let left-rows = c.left_rows in
-    let enum-told2 = c.in-Many in
-    left_many args.file.now _ _ enum-told2.is left-rows.ensures
-
-pub returns-else-rows_fit : goal.returns-else-rows_fit
-returns-else-rows_fit c =
-    let args = c.args in
-    let left-rows = c.left_rows in
-    let count = c.in-Rows in
-    let rows_fit_lem = c.rows_fit in
-    let if1 = c.if-rows_fit in
-    let all = all_rows args.file.now _ _ count.count count.next count.is left-rows.ensures in
-    rows_too_long args.file.now _ count.count count.next (omega arith) all (sym if1.false ∙ rows_fit_lem.ensures)
+pub returns : goal.returns
+returns c =
+    rows_accepted c.args.file.now _ c.in_ok-kept.kept (omega arith) c.in_ok-kept.ensures c.if-not-rows_fit.ensures

@@ -16,17 +16,20 @@ returns-then-field_fits c =
     let body-field = c.body_field in
     let field-fits2 = c.field_fits-then-field_fits in
     let l = line_at args.file.now args.at in
-    let name = field-fits.ensures ∙ ap (λ x. leb (length x) 32) (name_at args.file.now _ _ args.at line.ensures name-field.ensures) in
-    let body = field-fits2.ensures ∙ ap (λ x. leb (length x) 128) (body_at args.file.now _ _ args.at line.ensures body-field.ensures) in
+    let name = field-fits.ensures ∙ ap (λ x. leb (length x) 32)
+    (name_at args.file.now _ _ args.at line.ensures name-field.ensures) in
+    let body = field-fits2.ensures ∙ ap (λ x. leb (length x) 128)
+    (body_at args.file.now _ _ args.at line.ensures body-field.ensures) in
     fit_both l _ _ name body if1.true
 
-pub returns : goal.returns
-returns c =
+pub returns-else-field_fits : goal.returns-else-field_fits
+returns-else-field_fits c =
     let args = c.args in
     let line = c.line_at-line in
     let name-field = c.name_field in
     let field-fits = c.field_fits in
     let if1 = c.if-field_fits in
     let l = line_at args.file.now args.at in
-    let name = field-fits.ensures ∙ ap (λ x. leb (length x) 32) (name_at args.file.now _ _ args.at line.ensures name-field.ensures) in
-    fit_not l _ name if1.false
+    let name = field-fits.ensures ∙ ap (λ x. leb (length x) 32)
+    (name_at args.file.now _ _ args.at line.ensures name-field.ensures) in
+    if1.false ∙ fit_not l _ name if1.false

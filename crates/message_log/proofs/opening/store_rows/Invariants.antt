@@ -1,10 +1,6 @@
 -- The loop keeps that the rows left, stored from this entry on, give the whole (`Storing`).
-use Prim.Native.Nat.{◌-◌}
 use Rattle.message_log.proofs.StoreLaws.{Storing}
 use Rattle.message_log.proofs.opening.store_rows.Given as goal
 
 abbrev pub invariant-loop-i : goal.invariant-loop-i
-invariant-loop-i l = Storing l.file l.rows l.count l.initial.store l.initial.left l.store l.left l.i
-
-abbrev pub decreases-loop-i : goal.decreases-loop-i
-decreases-loop-i l = l.count - l.i
+invariant-loop-i l = Storing l.file l.rows l.initial.store l.initial.left l.store l.left l.i

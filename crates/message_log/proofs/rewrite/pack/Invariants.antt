@@ -1,10 +1,6 @@
 -- The loop keeps that the records left, packed from here on, give the whole (`Packing`).
-use Prim.Native.Nat.{◌-◌}
 use Rattle.message_log.proofs.RewriteLaws.{Packing}
 use Rattle.message_log.proofs.rewrite.pack.Given as goal
 
 abbrev pub invariant-loop-i : goal.invariant-loop-i
 invariant-loop-i l = Packing l.initial.log l.initial.records l.count l.log l.records l.to l.i
-
-abbrev pub decreases-loop-i : goal.decreases-loop-i
-decreases-loop-i l = l.count - l.i

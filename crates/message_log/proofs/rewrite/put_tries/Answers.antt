@@ -16,12 +16,6 @@ returns-then-tried-eq0 c =
     subst (λ t. Wrote args.log.now args.at t args.log.now args.at) (sym none)
     (wrote_none args.log.now args.at)
 
-pub slice_bounds-encode_retry-count : goal.slice_bounds-encode_retry-count
-slice_bounds-encode_retry-count c = omega (arith, c.requires)
-
-pub slice_bounds-encode_retry-start : goal.slice_bounds-encode_retry-start
-slice_bounds-encode_retry-start c = omega (arith, c.requires)
-
 pub overflow_add-result : goal.overflow_add-result
 overflow_add-result c =
     let args = c.args in

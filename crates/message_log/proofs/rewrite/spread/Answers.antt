@@ -12,11 +12,6 @@ loop-i-init c =
     spreading_begins args.log.now args.records.now args.count pre.0 (omega (arith, pre.1, pre.2))
     pre.3 args.end pre.2
 
-pub slice_copy_out-r : goal.slice_copy_out-r
-slice_copy_out-r c =
-    let loop = c.loop-i in
-    omega (arith, loop.invariant.few, loop.invariant.many, c.requires.0, c.loop-i-test.true)
-
 pub overflow_sub-to : goal.overflow_sub-to
 overflow_sub-to c =
     let args = c.args in
@@ -50,8 +45,8 @@ overflow_sub-to-in-loop-i c =
     (omega (arith, pre.1, pre.2)) pre.3 loop.invariant loop-test.true in
     omega (arith, lies.0, tries-len.ensures)
 
-pub move_up-requires : goal.move_up-requires
-move_up-requires c =
+pub move_to-requires : goal.move_to-requires
+move_to-requires c =
     let args = c.args in
     let pre = c.requires in
     let loop = c.loop-i in
@@ -64,13 +59,6 @@ move_up-requires c =
       omega (arith, lies.0, lies.1, tries-len.ensures, put-tries.auto.log),
     )
 
-pub bounds-records-i : goal.bounds-records-i
-bounds-records-i c =
-    let pre = c.requires in
-    let loop = c.loop-i in
-    let loop-test = c.loop-i-test in
-    omega (arith, loop.invariant.few, loop.invariant.many, pre.0, loop-test.true)
-
 pub loop-i-preserved : goal.loop-i-preserved
 loop-i-preserved c =
     let args = c.args in
@@ -79,16 +67,10 @@ loop-i-preserved c =
     let loop-test = c.loop-i-test in
     let tries-len = c.tries_len-to in
     let put-tries = c.put_tries in
-    let move_up = c.move_up in
+    let move_to = c.move_to in
     spread_on args.log.now args.records.now args.count pre.0 (omega (arith, pre.1, pre.2)) pre.3
     loop.invariant loop-test.true _ _ _ _ (ap (λ n. loop.to - n) tries-len.ensures) refl
-    put-tries.ensures.bytes move_up.ensures
-
-pub shape_of-log : goal.shape_of-log
-shape_of-log c = c.loop-i.invariant.long
-
-pub shape_of-records : goal.shape_of-records
-shape_of-records c = c.loop-i.invariant.many
+    put-tries.ensures.bytes move_to.ensures
 
 pub returns : goal.returns
 returns c =

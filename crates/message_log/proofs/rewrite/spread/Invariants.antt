@@ -4,6 +4,3 @@ use Rattle.message_log.proofs.rewrite.spread.Given as goal
 
 abbrev pub invariant-loop-i : goal.invariant-loop-i
 invariant-loop-i l = Spreading l.initial.log l.initial.records l.count l.log l.records l.to l.i
-
-abbrev pub decreases-loop-i : goal.decreases-loop-i
-decreases-loop-i l = l.i

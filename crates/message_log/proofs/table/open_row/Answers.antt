@@ -1,34 +1,19 @@
--- The loop keeps that the row in hand and those left, written from here on, give the whole.
--- The loop keeps that the row in hand and those left, written from here on, give the whole.
-use mathlib.Core.Path.{subst, ◌≡◌, refl, ◌∙◌}
-use mathlib.Core.List.{[], ◌∷◌}
+-- The rows are copied, and the new one stands before them.
+use Prim.Native.Nat.{◌+◌}
+use mathlib.Core.Path.{refl, ap, ◌∙◌}
 use native.Mathlib.Omega.{arith}
-use lib.ListN.{length-set}
-use Rattle.text.specs.Bytes.{write, part}
-use Rattle.text.proofs.WriteLaws.{shift_step, shift_end}
+use lib.ListN.{set}
+use Rattle.text.specs.Bytes.{part}
+use Rattle.text.proofs.WriteLaws.{length_part}
+use Rattle.message_log.proofs.TableLaws.{copied, set_before}
 use Rattle.message_log.proofs.table.open_row.Goals as goal
-
-pub loop-j-init : goal.loop-j-init
-loop-j-init c =
-    let pre = c.requires in
-    (pre.0, pre.1, refl, refl)
-
-pub loop-j-preserved : goal.loop-j-preserved
-loop-j-preserved c =
-    let args = c.args in
-    let loop = c.loop-j in
-    let loop-test = c.loop-j-test in
-    (omega (arith, loop-test.true), simp length-set loop.invariant.1, simp length-set loop.invariant.2, shift_step loop.rows loop.j args.n loop.carry [] loop-test.true (omega (arith, loop.invariant.1)) ∙ loop.invariant.3)
-
-pub shape_of-rows : goal.shape_of-rows
-shape_of-rows c =
-    let loop = c.loop-j in
-    simp length-set loop.invariant.2
 
 pub returns : goal.returns
 returns c =
     let args = c.args in
-    let loop = c.loop-j in
-    let loop-test = c.loop-j-test in
-    let done : loop.j ≡ args.n = omega (arith, loop.invariant.0, loop-test.false) in
-    shift_end loop.rows args.n loop.carry loop.invariant.1 ∙ subst (λ j. write loop.rows j (loop.carry ∷ part loop.rows j args.n) ≡ write args.rows.now args.i (args.row ∷ part args.rows.now args.i args.n)) done loop.invariant.3
+    let pre = c.requires in
+    let rows = args.rows.now in
+    let long = length_part rows args.i args.n pre.0 (omega (arith, pre.1)) in
+    ap (λ l. set l args.i args.row) (c.copy_within.ensures.after ∙ copied rows args.i args.n (args.i + 1) pre.0
+    (omega (arith, pre.1)))
+    ∙ set_before rows args.i (args.i + 1) args.row (part rows args.i args.n) refl (omega (arith, long, pre.0, pre.1))

@@ -1,28 +1,25 @@
 -- The loop keeps that the search that is left, from `lo` on and below `hi`, finds what the whole search finds.
-use mathlib.Core.Path.{◌≡◌, sym, ap}
+use mathlib.Core.Path.{◌≡◌, sym}
 use native.Mathlib.Omega.{arith}
 use borrow.Author.Rules.{rules}
 use lib.ListN.{length, take, length-take}
-use Rattle.message_log.specs.Table.{found_of}
 use Rattle.message_log.proofs.SearchLaws.{left_all, left_none, left_here, left_above, left_below}
 use Rattle.message_log.proofs.table.search_row.Goals as goal
-use Rattle.message_log.proofs.table.search_row.Goals.{then-rows-hi, else-rows-hi}
 
 pub loop-lo-init : goal.loop-lo-init
 loop-lo-init c =
     let args = c.args in
-    let long = length-take args.count args.rows.now in
-    let all : c.if-rows-hi.hi ≡ length (take args.count args.rows.now) =
-    elim c.if-rows-hi.branch [ then-rows-hi w ↦ omega arith | else-rows-hi w ↦ omega arith ] in
-    (omega arith, left_all args.id (take args.count args.rows.now) c.if-rows-hi.hi all)
+    let all : c.min-hi.result ≡ length (take args.count args.rows.now) = omega
+    (arith, length-take args.count args.rows.now, c.min-hi.ensures) in
+    (omega (arith, c.min-hi.ensures), left_all args.id (take args.count args.rows.now) _ all)
 
 pub returns-then-here-id : goal.returns-then-here-id
 returns-then-here-id c =
     let args = c.args in
     let loop = c.loop-lo in
     let loop-test = c.loop-lo-test in
-    sym (ap found_of (left_here args.rows.now args.count args.id loop.lo loop.hi loop-test.true
-    loop.invariant.1 c.if-here-id.true))
+    sym (left_here args.rows.now args.count args.id loop.lo loop.hi loop-test.true
+    loop.invariant.1 c.if-here-id.true)
 
 pub loop-lo-preserved-then-here-id-2 : goal.loop-lo-preserved-then-here-id-2
 loop-lo-preserved-then-here-id-2 c =
@@ -46,5 +43,5 @@ pub returns : goal.returns
 returns c =
     let args = c.args in
     let loop = c.loop-lo in
-    sym (ap found_of (left_none args.id (take args.count args.rows.now) loop.lo loop.hi loop.invariant.1
-    c.loop-lo-test.false))
+    sym (left_none args.id (take args.count args.rows.now) loop.lo loop.hi loop.invariant.1
+    c.loop-lo-test.false)

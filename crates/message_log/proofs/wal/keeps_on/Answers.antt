@@ -1,35 +1,24 @@
 -- The sum is made only where it fits, and is halved where it would be compared with a double.
-use mathlib.Core.Path.{sym}
+use mathlib.Core.Path.{sym, ◌∙◌}
 use Prim.Native.Nat.{◌+◌}
-use native.Mathlib.Omega.{arith}
+use borrow.Author.Tests.{leb-true, leb-false, lt-ltb}
 use Rattle.message_log.proofs.WalLaws.{keeps_long, keeps_limit, keeps_live}
 use Rattle.message_log.proofs.wal.keeps_on.Goals as goal
 
-pub returns-then-long-size : goal.returns-then-long-size
-returns-then-long-size c =
+pub returns-then-not-fits_behind : goal.returns-then-not-fits_behind
+returns-then-not-fits_behind c =
     let args = c.args in
-    let if1 = c.if-long-size in
-    sym (keeps_long args.limit args.long args.live (args.size + args.n) (omega (arith, if1.true)))
-
-pub returns-then-long-size-2 : goal.returns-then-long-size-2
-returns-then-long-size-2 c =
-    let args = c.args in
-    let if1 = c.if-long-size in
-    let if2 = c.if-long-size-2 in
-    sym (keeps_long args.limit args.long args.live (args.size + args.n) (omega (arith, if1.false, if2.true)))
+    sym (keeps_long args.limit args.long args.live (args.size + args.n) (leb-false _ _
+    (sym c.if-not-fits_behind.ensures)))
 
 pub returns-then-to-limit : goal.returns-then-to-limit
 returns-then-to-limit c =
     let args = c.args in
-    let if1 = c.if-long-size in
-    let if2 = c.if-long-size-2 in
-    let if3 = c.if-to-limit in
-    sym (keeps_limit args.limit args.long args.live (args.size + args.n) (omega (arith, if1.false, if2.false)) if3.true)
+    lt-ltb _ _ c.if-to-limit.true ∙ sym (keeps_limit args.limit args.long args.live (args.size + args.n)
+    (leb-true _ _ (sym c.if-not-fits_behind.ensures)) c.if-to-limit.true)
 
-pub returns : goal.returns
-returns c =
+pub returns-else-to-limit : goal.returns-else-to-limit
+returns-else-to-limit c =
     let args = c.args in
-    let if1 = c.if-long-size in
-    let if2 = c.if-long-size-2 in
-    let if3 = c.if-to-limit in
-    sym (keeps_live args.limit args.long args.live (args.size + args.n) (omega (arith, if1.false, if2.false)) if3.false)
+    sym (keeps_live args.limit args.long args.live (args.size + args.n) (leb-true _ _
+    (sym c.if-not-fits_behind.ensures)) c.if-to-limit.false)

@@ -13,7 +13,8 @@ returns c =
     let pre = c.requires in
     let encode-record = c.encode_record in
     let set_row = c.set_row in
-    let m : Message = untried args.counters.next args.name.now args.body.now in
-    let room : args.counters.size + length (record_line m) ≤ length args.log.now = omega (arith, pre.0.len_is, pre.1) in
-    logged_is args.log.now _ args.records.now _ args.counters m args.len pre.0.len_is
-    (filled_part args.log.now args.counters.size (record_line m) _ _ room encode-record.ensures) set_row.ensures
+    let m : Message = untried args.counters.now.next args.name.now args.body.now in
+    let room : args.counters.now.size + length (record_line m) ≤ length args.log.now = omega
+    (arith, pre.0.len_is, pre.1) in
+    logged_is args.log.now _ args.records.now _ args.counters.now m args.len pre.0.len_is
+    (filled_part args.log.now args.counters.now.size (record_line m) _ _ room encode-record.ensures) set_row.ensures

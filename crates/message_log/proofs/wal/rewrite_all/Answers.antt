@@ -7,5 +7,5 @@ pub returns : goal.returns
 returns c =
     let args = c.args in
     let compact = c.compact in
-    all_anew_lem (state args.log.now args.records.now args.counters) _
-    (compacted_is args.log.now _ args.records.now _ args.counters compact.ensures)
+    all_anew_lem (state args.log.now args.records.now args.counters.now) _
+    (compacted_is args.log.now _ args.records.now _ args.counters.now compact.ensures)

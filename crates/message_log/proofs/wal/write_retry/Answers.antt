@@ -7,52 +7,8 @@ use lib.ListN.{length}
 use borrow.Author.Tests.{leb-true}
 use native.Mathlib.Omega.{arith}
 use Prim.Native.Nat.{◌+◌}
-use mathlib.Core.Path.{sym, ◌∙◌}
+use mathlib.Core.Path.{refl, sym, ◌∙◌}
 use Rattle.message_log.proofs.wal.write_retry.Goals as goal
-
-pub slice_bounds-encode_retry-count : goal.slice_bounds-encode_retry-count
-slice_bounds-encode_retry-count c =
-    let args = c.args in
-    let retry-len = c.retry_len-n in
-    let fits-behind = c.fits_behind in
-    let if1 = c.if-fits_behind in
-    let room =
-    leb-true (args.counters.size + retry-len.result) (length args.log.now)
-    (sym fits-behind.ensures ∙ if1.true) in
-    omega (arith, room)
-
-pub slice_bounds-encode_retry-start : goal.slice_bounds-encode_retry-start
-slice_bounds-encode_retry-start c =
-    let args = c.args in
-    let retry-len = c.retry_len-n in
-    let fits-behind = c.fits_behind in
-    let if1 = c.if-fits_behind in
-    let room =
-    leb-true (args.counters.size + retry-len.result) (length args.log.now)
-    (sym fits-behind.ensures ∙ if1.true) in
-    omega (arith, room)
-
-pub grown-more-requires : goal.grown-more-requires
-grown-more-requires c =
-    let args = c.args in
-    let retry-len = c.retry_len-n in
-    let fits-behind = c.fits_behind in
-    let if1 = c.if-fits_behind in
-    let room =
-    leb-true (args.counters.size + retry-len.result) (length args.log.now)
-    (sym fits-behind.ensures ∙ if1.true) in
-    omega (arith, room)
-
-pub overflow_add-result : goal.overflow_add-result
-overflow_add-result c =
-    let args = c.args in
-    let retry-len = c.retry_len-n in
-    let fits-behind = c.fits_behind in
-    let if1 = c.if-fits_behind in
-    let room =
-    leb-true (args.counters.size + retry-len.result) (length args.log.now)
-    (sym fits-behind.ensures ∙ if1.true) in
-    omega (arith, room)
 
 pub returns-then-fits_behind : goal.returns-then-fits_behind
 returns-then-fits_behind c =
@@ -61,12 +17,11 @@ returns-then-fits_behind c =
     let fits-behind = c.fits_behind in
     let if1 = c.if-fits_behind in
     let encode-retry = c.encode_retry in
-    let grown = c.grown-more in
-    let w = state args.log.now args.records.now args.counters in
+    let w = state args.log.now args.records.now args.counters.now in
     let fit = sym fits-behind.ensures ∙ if1.true in
-    let room = leb-true (args.counters.size + retry-len.result) (length args.log.now) fit in
-    line_behind_lem w (retry_line args.id args.attempts) retry-len.result retry-len.ensures _ grown.ensures _
-    (filled_part args.log.now args.counters.size (retry_line args.id args.attempts) _ _
+    let room = leb-true (args.counters.now.size + retry-len.result) (length args.log.now) fit in
+    line_behind_lem w (retry_line args.id args.attempts) retry-len.result retry-len.ensures _ refl _
+    (filled_part args.log.now args.counters.now.size (retry_line args.id args.attempts) _ _
     (omega (arith, retry-len.ensures)) encode-retry.ensures)
     ∙ retry_behind w args.id args.attempts retry-len.result retry-len.ensures fit
 
@@ -77,7 +32,7 @@ returns c =
     let fits-behind = c.fits_behind in
     let if1 = c.if-fits_behind in
     let rewrite-all = c.rewrite_all in
-    let w = state args.log.now args.records.now args.counters in
+    let w = state args.log.now args.records.now args.counters.now in
     rewrite-all.ensures
     ∙ retry_anew w args.id args.attempts retry-len.result retry-len.ensures
     (sym fits-behind.ensures ∙ if1.false)

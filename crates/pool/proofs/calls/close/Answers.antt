@@ -1,21 +1,18 @@
--- `calls::close` meets its contract: by its calls and its tests. Assumes nothing.
-use Rattle.pool.specs.Calls.{close_of}
+-- `calls::close` meets its contract: by its table. Assumes nothing.
+use mathlib.Core.Path.{refl}
+use Rattle.std.proofs.lemmas.Result.{err_from_is_err_and}
 use Rattle.answers.specs.Answers.{shown}
+use Rattle.answers.proofs.RefusalLaws.{by_refused, by_effect}
+use Rattle.pool.specs.Calls.{close_of}
 use Rattle.pool.proofs.calls.close.Goals as goal
 
-pub returns-in-Refuse : goal.returns-in-Refuse
-unfolding close_of shown
-returns-in-Refuse c bytes records store groups links rows keys actors =
-    let e1 = c.sync_check-check.ensures in
-    let h1 = simp (e1) at c.in-Refuse.is in
-    let e2 = c.refused.ensures in
-    simp (e1, e2, h1)
+pub returns-in_err-sync_check : goal.returns-in_err-sync_check
+unfolding close_of
+returns-in_err-sync_check c bytes records store groups links rows keys actors =
+    let p = err_from_is_err_and c.from_residual.result c.from_residual.ensures.1 in
+    rw (p.1, p.2) (by_refused _ _ _ _ _ c.sync_check.ensures _ c.in_err-sync_check.was refl)
 
-pub returns-in-Fine : goal.returns-in-Fine
+pub returns : goal.returns
 unfolding close_of shown
-returns-in-Fine c bytes records store groups links rows keys actors =
-    let e1 = c.sync_check-check.ensures in
-    let h1 = simp (e1) at c.in-Fine.is in
-    let e2 = c.close.ensures in
-    let e3 = c.shown_now.ensures in
-    simp (e1, e2, e3, h1)
+returns c bytes records store groups links rows keys actors =
+    by_effect _ _ _ _ _ c.sync_check.ensures c.in_ok-sync_check.was (simp c.close.ensures)

@@ -1,50 +1,43 @@
 -- `calls::reply` meets its contract: by its table, and by what the reply is. Assumes nothing.
+use Rattle.std.proofs.Common.{rules}
+use mathlib.Core.Path.{refl, ap}
+use Rattle.std.proofs.lemmas.Result.{err_from_is_err_and}
+use Rattle.answers.specs.Refusals.{is_message}
 use Rattle.answers.proofs.RefusalLaws.{by_refused, by_effect}
-use Rattle.pool.proofs.ReplyLaws.{stores, fails, sends, resumes}
-use Rattle.pool.specs.Calls.{reply_of}
+use Rattle.pool.proofs.ReplyLaws.{stores, fails, sends, resumes, answers_turn}
+use Rattle.pool.specs.Calls.{stored_in, reply_of}
 use Rattle.pool.proofs.calls.reply.Goals as goal
 
-pub returns-then-message : goal.returns-then-message
+pub returns-in_err-reply_check : goal.returns-in_err-reply_check
 unfolding reply_of
-returns-then-message c =
-    let e1 = c.reply_check-check.ensures in
-    let h1 = c.in-Fine.is in
-    let h2 = simp c.stored_in-kind.ensures at c.in-Other.is in
-    let h3 = simp c.is_message-message.ensures at c.if-message.true in
-    let e2 = c.collect_send.ensures in
-    by_effect _ _ _ _ _ (e1 _ _ _ _ _ _) h1 (sends _ _ _ _ _ h2 h3 (e2 _ _ _ _ _))
-
-pub returns-in-Refuse : goal.returns-in-Refuse
-unfolding reply_of
-returns-in-Refuse c =
-    let e1 = c.reply_check-check.ensures in
-    let h1 = c.in-Refuse.is in
-    let e2 = c.refused.ensures in
-    by_refused _ _ _ _ _ (e1 _ _ _ _ _ _) _ h1 (simp (e2))
+returns-in_err-reply_check c =
+    let p = err_from_is_err_and c.from_residual.result c.from_residual.ensures.1 in
+    rw (p.1, p.2) (by_refused _ _ _ _ _ (c.reply_check.ensures _ _ _ _ _ _) _ c.in_err-reply_check.was refl)
 
 pub returns-in-Stored : goal.returns-in-Stored
 unfolding reply_of
 returns-in-Stored c =
-    let e1 = c.reply_check-check.ensures in
-    let h1 = c.in-Fine.is in
-    let h2 = simp c.stored_in-kind.ensures at c.in-Stored.is in
-    by_effect _ _ _ _ _ (e1 _ _ _ _ _ _) h1 (stores _ _ _ _ _ h2 c.stored.ensures)
+    let did = c.stored.ensures.did in
+    by_effect _ _ _ _ _ (c.reply_check.ensures _ _ _ _ _ _) c.in_ok-reply_check.was
+    (stores _ c.args.reply _ _ _ (ap stored_in c.in-Stored.is) (search (rules, did)))
 
 pub returns-in-Failed : goal.returns-in-Failed
 unfolding reply_of
 returns-in-Failed c =
-    let e1 = c.reply_check-check.ensures in
-    let h1 = c.in-Fine.is in
-    let h2 = simp c.stored_in-kind.ensures at c.in-Failed.is in
-    let e2 = c.failed.ensures in
-    by_effect _ _ _ _ _ (e1 _ _ _ _ _ _) h1 (fails _ _ _ _ _ h2 (e2 _ _ _ _ _ _ _ _))
+    by_effect _ _ _ _ _ (c.reply_check.ensures _ _ _ _ _ _) c.in_ok-reply_check.was
+    (fails _ _ _ _ _ (ap stored_in c.in-Failed.is) (c.failed.ensures _ _ _ _ _ _ _ _))
 
-pub returns-else-message : goal.returns-else-message
+pub returns-in-Message : goal.returns-in-Message
 unfolding reply_of
-returns-else-message c =
-    let e1 = c.reply_check-check.ensures in
-    let h1 = c.in-Fine.is in
-    let h2 = simp c.stored_in-kind.ensures at c.in-Other.is in
-    let h3 = simp c.is_message-message.ensures at c.if-message.false in
-    let e2 = c.resumed.ensures in
-    by_effect _ _ _ _ _ (e1 _ _ _ _ _ _) h1 (resumes _ _ _ _ _ h2 h3 e2)
+returns-in-Message c =
+    by_effect _ _ _ _ _ (c.reply_check.ensures _ _ _ _ _ _) c.in_ok-reply_check.was
+    (sends _ _ _ _ _ (ap stored_in c.in-Message.is) (ap is_message c.in-Message.is)
+    (c.collect_send.ensures _ _ _ _ _))
+
+pub returns-in_default : goal.returns-in_default
+unfolding reply_of
+returns-in_default c =
+    let other = answers_turn _ c.in_default.not-Stored c.in_default.not-Failed c.in_default.not-Message in
+    let did = c.resumed.ensures.did in
+    by_effect _ _ _ _ _ (c.reply_check.ensures _ _ _ _ _ _) c.in_ok-reply_check.was
+    (resumes _ _ _ _ _ other.0 other.1 (search (rules, did)))

@@ -5,21 +5,13 @@ use Rattle.pool.specs.Open.{open_effect, opened_by}
 use Rattle.pool.proofs.OpenLaws.{open_refused, open_effect_lem}
 use Rattle.pool.proofs.open.open.Goals as goal
 
-pub returns-in-Refuse : goal.returns-in-Refuse
-returns-in-Refuse c =
-    let e1 = c.open_check-check.ensures in
-    let h1 = c.in-Refuse.is in
-    let e2 = c.no_pool.ensures in
-    let e3 = c.refused.ensures in
-    open_refused _ _ _ (sym (e1 _ _ _ _) ∙ h1) (simp (e2, e3))
+pub returns-in-Err : goal.returns-in-Err
+returns-in-Err c =
+    open_refused _ _ _ (sym (c.open_check.ensures _ _ _ _) ∙ c.in-Err.is) (simp c.no_pool.ensures)
 
-pub returns-in-Ordered : goal.returns-in-Ordered
+pub returns-in-Ok : goal.returns-in-Ok
 unfolding open_effect opened_by
-returns-in-Ordered c =
-    let e1 = c.open_check-check.ensures in
-    let h1 = c.in-Fine.is in
-    let e2 = c.open_log-s.ensures in
-    let h2 = c.in-Ordered.is in
+returns-in-Ok c =
     let a = c.args in
     let l : Lent = record {
       settings = a.settings;
@@ -34,17 +26,12 @@ returns-in-Ordered c =
       keys = a.keys.now;
       actors = a.actors.now;
     } in
-    let opened = simp (h2) at (ap (opened_by l) e2) in
-    let e3 = c.open_pool.ensures in
-    open_effect_lem _ _ (sym (e1 _ _ _ _) ∙ h1) (simp (← e3) at opened)
+    let opened = simp c.in-Ok.is at (ap (opened_by l) c.open_log-s.ensures) in
+    open_effect_lem _ _ (sym (c.open_check.ensures _ _ _ _) ∙ c.in_default.is) (simp (← c.open_pool.ensures) at opened)
 
-pub returns-in-Refused : goal.returns-in-Refused
+pub returns-in-Err-answer : goal.returns-in-Err-answer
 unfolding open_effect opened_by
-returns-in-Refused c =
-    let e1 = c.open_check-check.ensures in
-    let h1 = c.in-Fine.is in
-    let e2 = c.open_log-s.ensures in
-    let h2 = c.in-Refused.is in
+returns-in-Err-answer c =
     let a = c.args in
     let l : Lent = record {
       settings = a.settings;
@@ -59,8 +46,6 @@ returns-in-Refused c =
       keys = a.keys.now;
       actors = a.actors.now;
     } in
-    let opened = simp (h2) at (ap (opened_by l) e2) in
-    let e3 = c.no_pool-in-Refused.ensures in
-    let e4 = c.log_refusal.ensures in
-    let e5 = c.refused-in-Refused.ensures in
-    open_effect_lem _ _ (sym (e1 _ _ _ _) ∙ h1) (simp (e3, e4, e5) opened)
+    let opened = simp c.in-Err-answer.is at (ap (opened_by l) c.open_log-s.ensures) in
+    open_effect_lem _ _ (sym (c.open_check.ensures _ _ _ _) ∙ c.in_default.is)
+    (simp (c.no_pool-in-Err-answer.ensures, c.from.ensures) opened)

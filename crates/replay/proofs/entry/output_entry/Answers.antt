@@ -9,25 +9,25 @@ pub returns : goal.returns
 unfolding output_entry
 returns c =
     let args = c.args in
-    let size = ap (λ (n : Counters). n.size) c.counters-counters.ensures in
-    let said = c.numbers_of-s.ensures ∙ ap numbers_of c.answer_of-answer.ensures in
+    let size = ap (λ (n : Counters). n.size) c.counters-size.ensures in
+    let said = c.numbers_of-s.ensures ∙ ap numbers_of c.answer_of.ensures in
     let shown = c.numbers_of-s.result.message in
-    let length = c.counters-counters.result.size in
+    let length = c.counters-size.result.size in
     let d1 = c.output_head-a.ensures in
     let d2 =
-    c.output_message-b.ensures ∙ ap (λ d. output_message d shown args.rows.now args.store.now) d1 in
+    c.output_message-b.ensures ∙ ap (λ d. output_message d shown args.t.now.rows args.store.now) d1 in
     let d3 = c.output_log-c.ensures ∙ ap (λ d. output_log args.show d args.log.now length) d2 in
     let d4 =
     c.output_tables-e.ensures
     ∙ ap
     (λ d. output_tables args.show d
     (record {
-      records = args.records.now;
-      groups = args.groups.now;
-      links = args.links.now;
-      rows = args.rows.now;
-      keys = args.keys.now;
-      actors = args.actors.now;
+      records = args.t.now.records;
+      groups = args.t.now.groups;
+      links = args.t.now.links;
+      rows = args.t.now.rows;
+      keys = args.t.now.keys;
+      actors = args.t.now.actors;
     }))
     d3 in
     simp (size, said) at (c.output_store.ensures ∙ ap (λ d. output_store args.show d args.store.now) d4)

@@ -16,10 +16,8 @@ returns-then-show-lt1 c = rw (lt-ltb c.args.show 1 c.if-show-lt1.true)
 pub returns : goal.returns
 unfolding output_log
 returns c =
-    let file = c in
-    let test = c in
     let args = c.args in
     let all : args.size - 0 ≡ args.size = omega arith in
     let front : part args.log.now 0 args.size ≡ take args.size args.log.now = rw all refl in
     rw (le-ltb args.show 1 c.if-show-lt1.false)
-    (c.output_bytes.ensures ∙ ap (output _) (c.bytes_in-file.ensures ∙ front))
+    (c.output_bytes.ensures ∙ ap (output _) (c.bytes_in.ensures ∙ front))

@@ -2,17 +2,14 @@
 use Rattle.replay.specs.Entry.{output_message}
 use Rattle.replay.proofs.entry.output_message.Goals as goal
 
-pub returns-in-Nothing : goal.returns-in-Nothing
+pub returns-in-None : goal.returns-in-None
 unfolding output_message
-returns-in-Nothing c = rw c.in-Nothing.is c.output_numbers.ensures
+returns-in-None c = rw c.in-None.is c.output_numbers.ensures
 
-pub returns-in-Entry : goal.returns-in-Entry
+pub returns-in-Some : goal.returns-in-Some
 unfolding output_message
-returns-in-Entry c =
-    let body = c in
-    let name = c in
-    let shown = c in
-    let entry = c.in-Entry.is in
+returns-in-Some c =
+    let entry = c.in-Some.is in
     rw entry
-    (simp (c.bytes_in.ensures, c.bytes_in-in-Entry.ensures, c.message_part-shown.ensures, entry) at
+    (simp (c.bytes_in.ensures, c.bytes_in-in-Some.ensures, c.message_part-shown.ensures, entry) at
     c.output_texts.ensures)

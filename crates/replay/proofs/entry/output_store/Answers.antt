@@ -10,5 +10,4 @@ returns-then-show-lt3 c = rw (lt-ltb c.args.show 3 c.if-show-lt3.true)
 pub returns : goal.returns
 unfolding output_store
 returns c =
-    let test = c in
     rw (le-ltb c.args.show 3 c.if-show-lt3.false) c.output_bytes.ensures

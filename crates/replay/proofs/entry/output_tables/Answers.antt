@@ -12,15 +12,8 @@ returns-then-show-lt2 c = rw (lt-ltb c.args.show 2 c.if-show-lt2.true)
 pub returns : goal.returns
 unfolding output_tables
 returns c =
-    let actors = c in
-    let keys = c in
-    let messages = c in
-    let links = c in
-    let groups = c in
-    let records = c in
-    let test = c in
     let args = c.args in
-    let d2 = c.output_groups-b.ensures ∙ ap (λ d. output_rows d args.groups.now) c.output_records-a.ensures in
-    let d4 = c.output_messages-e.ensures ∙ ap (λ d. output_rows d args.rows.now) (c.output_links-c.ensures ∙ ap (λ d. output_rows d args.links.now) d2) in
-    let d6 = c.output_actors.ensures ∙ ap (λ d. output_rows d args.actors.now) (c.output_keys-f.ensures ∙ ap (λ d. output_keys d args.keys.now) d4) in
+    let d2 = c.output_rows-b.ensures ∙ ap (λ d. output_rows d args.groups.now) c.output_rows-a.ensures in
+    let d4 = c.output_rows-e.ensures ∙ ap (λ d. output_rows d args.rows.now) (c.output_rows-c.ensures ∙ ap (λ d. output_rows d args.links.now) d2) in
+    let d6 = c.output_rows.ensures ∙ ap (λ d. output_rows d args.actors.now) (c.output_keys-f.ensures ∙ ap (λ d. output_keys d args.keys.now) d4) in
     rw (le-ltb args.show 2 c.if-show-lt2.false) d6

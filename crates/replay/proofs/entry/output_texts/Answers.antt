@@ -5,8 +5,5 @@ use Rattle.replay.proofs.entry.output_texts.Goals as goal
 
 pub returns : goal.returns
 returns c =
-    let last = c in
-    let second = c in
-    let first = c in
     let args = c.args in
     c.output_bytes.ensures ∙ ap (λ d. output d args.body.now) (c.output_bytes-b.ensures ∙ ap (λ d. output d args.name.now) c.output_numbers-a.ensures)

@@ -4,66 +4,42 @@ use Rattle.wire.specs.Script.{HasFile}
 use lib.Seq.{length-take-le}
 use mathlib.Core.Path.{sym, subst, ◌∙◌}
 use native.Mathlib.Omega.{arith}
+use Rattle.replay.proofs.play.play.Goals.{then-log-h-via-then-log-h, then-log-h-via-else-log-h+then-store-h}
 use Rattle.replay.proofs.play.play.Goals as goal
 
-pub place_file-requires : goal.place_file-requires
-place_file-requires c =
-    let args = c.args in
-    let read-header = c.read_header-read in
-    let read = c.in-Fields in
-    (subst (HasFile args.script.now) read.is read-header.ensures.inside).1
+pub returns-in_default : goal.returns-in_default
+returns-in_default c = script_torn _ _ _ _ (sym c.in_default.is ∙ c.read_header.ensures.says)
 
-pub overflow_add-file : goal.overflow_add-file
-overflow_add-file c =
-    let args = c.args in
-    let read-header = c.read_header-read in
-    let read = c.in-Fields in
-    omega (arith, (subst (HasFile args.script.now) read.is read-header.ensures.inside).1)
+pub returns-then-log-h : goal.returns-then-log-h
+returns-then-log-h c =
+    let read = sym c.in-Some.is ∙ c.read_header.ensures.says in
+    elim c.then-log-h.branch [
+      | then-log-h-via-then-log-h w ↦ script_long _ _ _ _ c.in-Some.h read w.if-log-h.true
+      | then-log-h-via-else-log-h+then-store-h w ↦
+          script_stored _ _ _ _ c.in-Some.h read w.if-log-h.false w.if-store-h.true
+    ]
+
+pub place_file-requires : goal.place_file-requires
+place_file-requires c = (subst (HasFile c.args.script.now) c.in-Some.is c.read_header.ensures.inside).1
+
+pub overflow_add-h : goal.overflow_add-h
+overflow_add-h c =
+    let inside = subst (HasFile c.args.script.now) c.in-Some.is c.read_header.ensures.inside in
+    omega (arith, inside.1)
 
 pub slice_bounds-run_opened-end : goal.slice_bounds-run_opened-end
 slice_bounds-run_opened-end c =
-    let args = c.args in
+    let inside = subst (HasFile c.args.script.now) c.in-Some.is c.read_header.ensures.inside in
+    given_room _ _ c.requires.0 c.read_groups.auto.given inside.0
+
+pub slice_bounds-run_opened-end-2 : goal.slice_bounds-run_opened-end-2
+slice_bounds-run_opened-end-2 c =
+    let inside = subst (HasFile c.args.script.now) c.in-Some.is c.read_header.ensures.inside in
+    sym (length-take-le c.in-Some.h.groups _ (given_room _ _ c.requires.0 c.read_groups.auto.given inside.0))
+
+pub returns : goal.returns
+returns c =
     let pre = c.requires in
-    let read-header = c.read_header-read in
-    let read = c.in-Fields in
-    let read-groups = c.read_groups in
-    given_room _ _ pre.0 read-groups.auto.given (subst (HasFile args.script.now) read.is read-header.ensures.inside).0
-
-pub slice_bounds-run_opened-end-then-store-h : goal.slice_bounds-run_opened-end-then-store-h
-slice_bounds-run_opened-end-then-store-h c =
-    let args = c.args in
-    let pre = c.requires in
-    let read-header = c.read_header-read in
-    let read = c.in-Fields in
-    let read-groups = c.read_groups in
-    sym (length-take-le read.h.groups _ (given_room _ _ pre.0 read-groups.auto.given (subst (HasFile args.script.now) read.is read-header.ensures.inside).0))
-
-pub returns-then-store-h : goal.returns-then-store-h
-returns-then-store-h c =
-    let pre = c.requires in
-    let read-header = c.read_header-read in
-    let read = c.in-Fields in
-    let if1 = c.if-log-h in
-    let if2 = c.if-store-h in
-    let read-groups = c.read_groups in
-    let place-file = c.place_file in
-    let run-opened = c.run_opened in
-    script_opened _ _ _ _ read.h (sym read.is ∙ read-header.ensures.says) if1.true if2.true pre.0 pre.1 pre.2 pre.3 pre.4 pre.5 pre.6 read-groups.ensures place-file.ensures run-opened.ensures
-
-pub returns-in-Malformed : goal.returns-in-Malformed
-returns-in-Malformed c = script_torn _ _ _ _ (sym c.in-Malformed.is ∙ c.read_header-read.ensures.says)
-
-pub returns-else-store-h : goal.returns-else-store-h
-returns-else-store-h c =
-    let read-header = c.read_header-read in
-    let read = c.in-Fields in
-    let if1 = c.if-log-h in
-    let if2 = c.if-store-h in
-    script_stored _ _ _ _ read.h (sym read.is ∙ read-header.ensures.says) if1.true if2.false
-
-pub returns-else-log-h : goal.returns-else-log-h
-returns-else-log-h c =
-    let read-header = c.read_header-read in
-    let read = c.in-Fields in
-    let if1 = c.if-log-h in
-    script_long _ _ _ _ read.h (sym read.is ∙ read-header.ensures.says) if1.false
+    let read = sym c.in-Some.is ∙ c.read_header.ensures.says in
+    script_opened _ _ _ _ c.in-Some.h read c.if-log-h.false c.if-store-h.false pre.0 pre.1 pre.2 pre.3 pre.4 pre.5
+    pre.6 c.read_groups.ensures c.place_file.ensures c.run_opened.ensures

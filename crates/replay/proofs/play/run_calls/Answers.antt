@@ -6,58 +6,38 @@ use Rattle.replay.proofs.PlayLaws.{running_begins, running_stops, running_ends, 
 use Rattle.replay.proofs.play.run_calls.Goals as goal
 
 pub loop-e-init : goal.loop-e-init
-loop-e-init c = (refl, refl, refl, refl, refl, refl, refl, refl, running_begins _ _ _ _ _)
+loop-e-init c = (refl, refl, refl, running_begins _ _ _ _ _)
 
 pub returns-then-script-p : goal.returns-then-script-p
-returns-then-script-p c = running_ends c.loop-e.invariant.8 c.if-script-p.true
+returns-then-script-p c = running_ends c.loop-e.invariant.3 c.if-script-p.true
 
-pub returns-in-Malformed : goal.returns-in-Malformed
-returns-in-Malformed c =
-    let loop = c.loop-e in
-    let if1 = c.loop-e-test in
-    let if2 = c.if-script-p in
-    let read-call = c.read_call-read in
-    let enum_told = c.in-Malformed in
-    running_torn loop.invariant.8 if1.true if2.false (sym enum_told.is ∙ read-call.ensures.says)
+pub returns-in_default : goal.returns-in_default
+returns-in_default c =
+    let torn = sym c.in_default.is ∙ c.read_call.ensures.says in
+    running_torn c.loop-e.invariant.3 c.loop-e-test.true c.if-script-p.false torn
 
 pub step-called-requires : goal.step-called-requires
 step-called-requires c =
-    let args = c.args in
-    let loop = c.loop-e in
-    let read-call = c.read_call-read in
-    let read = c.in-Next in
-    let within = subst (InScript args.script.now loop.p) read.is read-call.ensures.inside in
+    let within = subst (InScript c.args.script.now c.loop-e.p) c.in-Some.is c.read_call.ensures.inside in
     (within.1, within.2, within.3)
 
 pub loop-e-smaller : goal.loop-e-smaller
 loop-e-smaller c =
-    let args = c.args in
-    let loop = c.loop-e in
-    let if2 = c.if-script-p in
-    let read-call = c.read_call-read in
-    let read = c.in-Next in
-    omega (arith, if2.false, (subst (InScript args.script.now loop.p) read.is read-call.ensures.inside).0)
+    let within = subst (InScript c.args.script.now c.loop-e.p) c.in-Some.is c.read_call.ensures.inside in
+    omega (arith, c.if-script-p.false, within.0)
 
 pub loop-e-preserved : goal.loop-e-preserved
 loop-e-preserved c =
-    let args = c.args in
     let loop = c.loop-e in
-    let if1 = c.loop-e-test in
-    let if2 = c.if-script-p in
-    let read-call = c.read_call-read in
-    let read = c.in-Next in
-    let step = c.step-called in
-    let output-entry = c.output_entry-next in (
+    let within = subst (InScript c.args.script.now loop.p) c.in-Some.is c.read_call.ensures.inside in
+    let read = sym c.in-Some.is ∙ c.read_call.ensures.says in
+    let step = c.step-called in (
       step.auto.log ∙ loop.invariant.0,
-      step.auto.records ∙ loop.invariant.1,
-      step.auto.store ∙ loop.invariant.2,
-      step.auto.links ∙ loop.invariant.3,
-      step.auto.rows ∙ loop.invariant.4,
-      step.auto.keys ∙ loop.invariant.5,
-      step.auto.actors ∙ loop.invariant.6,
-      output-entry.auto.out ∙ loop.invariant.7,
-      running_on loop.invariant.8 if1.true if2.false read.call (sym read.is ∙ read-call.ensures.says) (subst (InScript args.script.now loop.p) read.is read-call.ensures.inside).0 step.ensures output-entry.ensures,
+      step.auto.store ∙ loop.invariant.1,
+      c.output_entry-e.auto.out ∙ loop.invariant.2,
+      running_on loop.invariant.3 c.loop-e-test.true c.if-script-p.false c.in-Some.call read within.0 step.ensures
+          c.output_entry-e.ensures,
     )
 
 pub returns : goal.returns
-returns c = running_stops c.loop-e.invariant.8 c.loop-e-test.false
+returns c = running_stops c.loop-e.invariant.3 c.loop-e-test.false

@@ -1,12 +1,10 @@
--- The loop keeps that what is counted and what is left make the whole. It stops over the limit as soon as one more byte would pass it.
-use mathlib.Core.Path.{◌≡◌}
-use Prim.Native.Nat.{◌+◌, ◌-◌, ◌≤◌}
-use lib.ListN.{length, drop}
+-- The loop keeps that what is counted and what is left make the whole.
+use Rattle.std.proofs.Common.{◌≡◌, ◌+◌, ◌≤◌, length, drop}
 use Rattle.text.specs.Format.{escape}
 use Rattle.text.proofs.escape.escaped_len.Given as goal
 
-abbrev pub invariant-loop-i : goal.invariant-loop-i
-invariant-loop-i l = (l.i ≤ length l.s) × (l.n ≤ l.most) × (l.n + length (escape (drop l.i l.s)) ≡ length (escape l.s))
-
-abbrev pub decreases-loop-i : goal.decreases-loop-i
-decreases-loop-i l = length l.s - l.i
+abbrev pub invariant-loop-b : goal.invariant-loop-b
+invariant-loop-b l = record {
+  small : l.n ≤ l.most;
+  whole : l.n + length (escape (drop l.b-index l.s)) ≡ length (escape l.s);
+}

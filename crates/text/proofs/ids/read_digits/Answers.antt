@@ -1,56 +1,53 @@
--- The loop keeps that the digits left, read behind the value so far, give the whole; a value that is too large stays so.
-use mathlib.Core.Path.{ap, sym, ◌∙◌}
-use native.Mathlib.Omega.{arith}
-use Rattle.text.specs.Answers.{id_of}
-use Rattle.text.proofs.IdLaws.{read_start, read_empty, read_low, read_high, read_next, read_large, read_end}
+-- The loop keeps that the digits left, read behind the value so far, give the whole; a value that is too large stays
+-- so.
+use Rattle.std.proofs.Common.{◌≡◌, ◌+◌, ◌-◌, ◌*◌, ◌∙◌, get_or, sym, arith}
+use Rattle.std.proofs.lemmas.Bool.Decides.{nat_tests}
+use Rattle.text.proofs.IdLaws.{read_start, read_empty, read_other, read_next, read_large, read_end}
 use Rattle.text.proofs.ids.read_digits.Goals as goal
 
-pub returns-then-s-eq0 : goal.returns-then-s-eq0
-returns-then-s-eq0 c = ap id_of (sym (read_empty _ c.if-s-eq0.true))
+pub returns-then-is_empty : goal.returns-then-is_empty
+returns-then-is_empty c = sym (read_empty _ (grind (arith, nat_tests)))
 
-pub loop-i-init : goal.loop-i-init
-loop-i-init c = (omega arith, omega arith, read_start _ c.if-s-eq0.false)
+pub loop-b-init : goal.loop-b-init
+loop-b-init c = record { below = omega arith; same = read_start _ (grind (arith, nat_tests)) }
 
-pub returns-then-b-lt48 : goal.returns-then-b-lt48
-returns-then-b-lt48 c =
-    let loop = c.loop-i in
-    let loop-test = c.loop-i-test in
-    let if2 = c.if-b-lt48 in
-    let l = loop in ap id_of (sym (read_low _ l.i l.high loop-test.true if2.true) ∙ l.invariant.2)
+pub returns-then-not-is_ascii_digit : goal.returns-then-not-is_ascii_digit
+returns-then-not-is_ascii_digit c =
+    let l = c.loop-b in
+    sym (read_other _ l.b-index l.high c.loop-b-test.true c.if-not-is_ascii_digit.ensures.cases) ∙ l.invariant.same
 
-pub returns-then-b-gt57 : goal.returns-then-b-gt57
-returns-then-b-gt57 c =
-    let loop = c.loop-i in
-    let loop-test = c.loop-i-test in
-    let if3 = c.if-b-gt57 in
-    let l = loop in ap id_of (sym (read_high _ l.i l.high loop-test.true if3.true) ∙ l.invariant.2)
+pub returns-in_err-checked_mul : goal.returns-in_err-checked_mul
+returns-in_err-checked_mul c =
+    let l = c.loop-b in
+    let digit = c.if-not-is_ascii_digit.ensures.cases in
+    let e = read_large _ l.b-index l.high c.loop-b-test.true digit.0 digit.1 (omega (
+      arith,
+      c.in_err-checked_mul.ensures,
+    )) in
+    c.from_residual.ensures ∙ (sym e ∙ l.invariant.same)
 
-pub returns-then-high-gt1844674407370955161 : goal.returns-then-high-gt1844674407370955161
-returns-then-high-gt1844674407370955161 c =
-    let loop = c.loop-i in
-    let loop-test = c.loop-i-test in
-    let if2 = c.if-b-lt48 in
-    let if3 = c.if-b-gt57 in
-    let l = loop in ap id_of (sym (read_large _ l.i l.high loop-test.true if2.false if3.false (omega arith)) ∙ l.invariant.2)
+pub returns-in_err-high : goal.returns-in_err-high
+returns-in_err-high c =
+    let l = c.loop-b in
+    let digit = c.if-not-is_ascii_digit.ensures.cases in
+    let e = read_large _ l.b-index l.high c.loop-b-test.true digit.0 digit.1 (omega (arith, c.in_err-high.ensures)) in
+    c.from_residual-in_err-high.ensures ∙ (sym e ∙ l.invariant.same)
 
-pub returns-then-high-d : goal.returns-then-high-d
-returns-then-high-d c =
-    let loop = c.loop-i in
-    let loop-test = c.loop-i-test in
-    let if2 = c.if-b-lt48 in
-    let if3 = c.if-b-gt57 in
-    let l = loop in ap id_of (sym (read_large _ l.i l.high loop-test.true if2.false if3.false (omega arith)) ∙ l.invariant.2)
-
-pub loop-i-preserved : goal.loop-i-preserved
-loop-i-preserved c =
-    let loop = c.loop-i in
-    let loop-test = c.loop-i-test in
-    let if2 = c.if-b-lt48 in
-    let if3 = c.if-b-gt57 in
-    let l = loop in (omega arith, omega arith, read_next _ l.i l.high loop-test.true if2.false if3.false ∙ l.invariant.2)
+pub loop-b-preserved : goal.loop-b-preserved
+loop-b-preserved c =
+    let l = c.loop-b in
+    let digit = c.if-not-is_ascii_digit.ensures.cases in
+    let next : c.in_ok-high.high ≡ l.high * 10 + (get_or c.args.s.now l.b-index 0 - 48) = omega (
+      arith,
+      c.in_ok-checked_mul.ensures,
+      c.from.ensures,
+      c.in_ok-high.ensures,
+    ) in
+    record {
+      below = omega (arith, c.in_ok-high.ensures);
+      same = rw next (read_next _ l.b-index l.high c.loop-b-test.true digit.0 digit.1 ∙ l.invariant.same);
+    }
 
 pub returns : goal.returns
 returns c =
-    let loop = c.loop-i in
-    let loop-test = c.loop-i-test in
-    let l = loop in ap id_of (sym (read_end _ l.i l.high loop-test.false l.invariant.1) ∙ l.invariant.2)
+    let l = c.loop-b in sym (read_end _ l.b-index l.high c.loop-b-test.false l.invariant.below) ∙ l.invariant.same

@@ -1,90 +1,54 @@
 -- The places of the first three TABs part the line into its fields.
-use Rattle.text.proofs.LineLaws.{from, kind_one, kind_two, kind_more, kind_three}
-use Rattle.text.specs.Answers.{id_of, done_kind, retry_kind, put_kind}
-use Rattle.text.specs.Format.{read_id}
-use lib.ListN.{length, take}
+use Rattle.std.proofs.Common.{◌+◌, ◌∙◌, length, take, sym, ap, arith}
 use lib.Seq.{length-take-le}
-use native.Mathlib.Omega.{arith}
-use Prim.Native.Nat.{◌+◌, ◌<◌}
-use mathlib.Core.Path.{sym, ap, ◌∙◌}
+use Rattle.text.specs.Format.{read_id}
+use Rattle.text.specs.Answers.{done_kind, retry_kind, put_kind}
+use Rattle.text.proofs.LineLaws.{from, kind_one, kind_two, kind_more, kind_three}
 use Rattle.text.proofs.line.line_kind.Goals as goal
 
 pub returns-then-a-n : goal.returns-then-a-n
 returns-then-a-n c =
-    let args = c.args in
-    let find = c.find-a in
-    let if1 = c.if-a-n in
-    let read-id = c.read_id in
-    let done-kind = c.done_kind in
-    done-kind.ensures ∙ (ap done_kind read-id.ensures
-    ∙ sym (kind_one args.line.now find.result find.ensures (omega (arith, if1.true))))
+    let kind = kind_one c.args.line.now c.find-a.result c.find-a.ensures (omega (arith, c.if-a-n.true)) in
+    c.done_kind.ensures ∙ (ap done_kind c.read_id.ensures ∙ sym kind)
 
 pub slice_bounds-read_id-end : goal.slice_bounds-read_id-end
-slice_bounds-read_id-end c =
-    let args = c.args in
-    let find = c.find-a in
-    sym (length-take-le find.result args.line.now find.ensures.within)
+slice_bounds-read_id-end c = sym (length-take-le c.find-a.result c.args.line.now c.find-a.ensures.within)
 
 pub returns-then-b-n : goal.returns-then-b-n
 returns-then-b-n c =
-    let args = c.args in
-    let find = c.find-a in
-    let if1 = c.if-a-n in
-    let find-from = c.find_from-b in
-    let if2 = c.if-b-n in
-    let read-id2 = c.read_id-id in
-    let read-id3 = c.read_id-then-b-n in
-    let retry-kind = c.retry_kind in
-    let s = args.line.now in
-    let a = find.result in
-    let within = find.ensures.within in
-    retry-kind.ensures
-    ∙ (ap (λ i. retry_kind i read-id3.result) read-id2.ensures
-    ∙ (ap (retry_kind (id_of (read_id (take a s)))) (read-id3.ensures ∙ ap (λ t. id_of (read_id t)) (from s (a + 1)))
-    ∙ sym (kind_two s a find-from.result find.ensures (omega (arith, if1.false)) find-from.ensures
-    (omega (arith, if2.true)))))
+    let s = c.args.line.now in
+    let a = c.find-a.result in
+    let within = c.find-a.ensures.within in
+    let kind = kind_two s a _ c.find-a.ensures (omega (arith, c.if-a-n.false)) c.find_from-b.ensures (omega (
+      arith,
+      c.if-b-n.true,
+    )) in
+    c.retry_kind.ensures
+    ∙ (ap (λ i. retry_kind i c.read_id-then-b-n-2.result) c.read_id-then-b-n.ensures
+    ∙ (ap (retry_kind (read_id (take a s))) (c.read_id-then-b-n-2.ensures ∙ ap read_id (from s (a + 1)))
+    ∙ sym kind))
 
 pub returns-then-c-n : goal.returns-then-c-n
 returns-then-c-n c =
-    let args = c.args in
-    let find = c.find-a in
-    let if1 = c.if-a-n in
-    let find-from = c.find_from-b in
-    let if2 = c.if-b-n in
-    let find-from2 = c.find_from-c in
-    let if3 = c.if-c-n in
-    let s = args.line.now in
-    let a = find.ensures.within in
-    let b = find-from.ensures.within in
-    let one : find.result < length s = omega (arith, if1.false) in
-    let two : find-from.result < length s = omega (arith, if2.false) in
-    sym (kind_more s find.result find-from.result find.ensures one find-from.ensures two
-    find-from2.result find-from2.ensures if3.true)
+    let a = c.find-a.ensures.within in
+    let b = c.find_from-b.ensures.within in
+    sym (kind_more c.args.line.now _ _ c.find-a.ensures (omega (arith, c.if-a-n.false)) c.find_from-b.ensures (omega (
+      arith,
+      c.if-b-n.false,
+    )) _ c.find_from-c.ensures c.if-c-n.true)
 
 pub slice_bounds-read_id-end-2 : goal.slice_bounds-read_id-end-2
-slice_bounds-read_id-end-2 c =
-    let args = c.args in
-    let find = c.find-a in
-    sym (length-take-le find.result args.line.now find.ensures.within)
+slice_bounds-read_id-end-2 c = sym (length-take-le c.find-a.result c.args.line.now c.find-a.ensures.within)
 
 pub returns : goal.returns
 returns c =
-    let args = c.args in
-    let find = c.find-a in
-    let if1 = c.if-a-n in
-    let find-from = c.find_from-b in
-    let if2 = c.if-b-n in
-    let find-from2 = c.find_from-c in
-    let if3 = c.if-c-n in
-    let read-id4 = c.read_id-2 in
-    let put-kind = c.put_kind in
-    let s = args.line.now in
-    let a = find.ensures.within in
-    let b = find-from.ensures.within in
-    let one : find.result < length s = omega (arith, if1.false) in
-    let two : find-from.result < length s = omega (arith, if2.false) in
-    put-kind.ensures
-    ∙ (ap (λ i. put_kind i (find.result + 1) find-from.result (find-from.result + 1) (length s))
-    read-id4.ensures
-    ∙ sym (kind_three s find.result find-from.result find.ensures one find-from.ensures two
-    find-from2.result find-from2.ensures if3.false))
+    let s = c.args.line.now in
+    let a = c.find-a.ensures.within in
+    let b = c.find_from-b.ensures.within in
+    let kind = kind_three s c.find-a.result c.find_from-b.result c.find-a.ensures (omega (
+      arith,
+      c.if-a-n.false,
+    )) c.find_from-b.ensures (omega (arith, c.if-b-n.false)) _ c.find_from-c.ensures c.if-c-n.false in
+    c.put_kind.ensures
+    ∙ (ap (λ i. put_kind i (c.find-a.result + 1) c.find_from-b.result (c.find_from-b.result + 1) (length s))
+    c.read_id-2.ensures ∙ sym kind)

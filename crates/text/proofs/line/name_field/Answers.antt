@@ -1,60 +1,23 @@
--- The line's kind has the places of the name, and the part there is the field.
-use Rattle.text.proofs.LineLaws.{Inside, name_part, kind_inside, kind_name}
-use native.Mathlib.Omega.{arith}
-use mathlib.Core.Path.{sym, ap, ◌∙◌, subst}
+-- A record's kind has the places of the name, and the part there is the field; any other line has none.
+use Rattle.std.proofs.Common.{◌∙◌, sym, arith}
+use Rattle.text.proofs.LineLaws.{places, put_has_name, other_no_name}
 use Rattle.text.proofs.line.name_field.Goals as goal
 
-pub slice_bounds-result-count : goal.slice_bounds-result-count
-slice_bounds-result-count c =
-    let args = c.args in
-    let line-kind = c.line_kind in
-    let name = c.in-Put in
-    let inside = subst (Inside args.line.now) name.is
-    (subst (Inside args.line.now) (sym line-kind.ensures) (kind_inside args.line.now)) in
-    omega (arith, inside)
+pub returns-in_default : goal.returns-in_default
+returns-in_default c =
+    other_no_name c.args.line.now (λ id a b d e k. c.in_default.not-Put id a b d e (c.line_kind.ensures ∙ k))
 
-pub slice_bounds-result-start : goal.slice_bounds-result-start
-slice_bounds-result-start c =
-    let args = c.args in
-    let line-kind = c.line_kind in
-    let name = c.in-Put in
-    let inside = subst (Inside args.line.now) name.is
-    (subst (Inside args.line.now) (sym line-kind.ensures) (kind_inside args.line.now)) in
-    omega (arith, inside)
+pub slice_bounds-result-count-2 : goal.slice_bounds-result-count-2
+slice_bounds-result-count-2 c =
+    omega (arith, places c.args.line.now _ _ _ _ _ (sym c.line_kind.ensures ∙ c.in-Put.is))
 
-pub slice_bounds-result-end : goal.slice_bounds-result-end
-slice_bounds-result-end c =
-    let args = c.args in
-    let line-kind = c.line_kind in
-    let name = c.in-Put in
-    let inside = subst (Inside args.line.now) name.is
-    (subst (Inside args.line.now) (sym line-kind.ensures) (kind_inside args.line.now)) in
-    omega (arith, inside)
+pub slice_bounds-result-start-2 : goal.slice_bounds-result-start-2
+slice_bounds-result-start-2 c =
+    omega (arith, places c.args.line.now _ _ _ _ _ (sym c.line_kind.ensures ∙ c.in-Put.is))
 
-pub returns-in-Put : goal.returns-in-Put
-returns-in-Put c =
-    let args = c.args in
-    let line-kind = c.line_kind in
-    let name = c.in-Put in
-    ap (name_part args.line.now) (sym name.is ∙ line-kind.ensures) ∙ kind_name args.line.now
+pub slice_bounds-result-end-2 : goal.slice_bounds-result-end-2
+slice_bounds-result-end-2 c =
+    omega (arith, places c.args.line.now _ _ _ _ _ (sym c.line_kind.ensures ∙ c.in-Put.is))
 
-pub returns-in-Done : goal.returns-in-Done
-returns-in-Done c =
-    let args = c.args in
-    let line-kind = c.line_kind in
-    let enum_told = c.in-Done in
-    ap (name_part args.line.now) (sym enum_told.is ∙ line-kind.ensures) ∙ kind_name args.line.now
-
-pub returns-in-Retry : goal.returns-in-Retry
-returns-in-Retry c =
-    let args = c.args in
-    let line-kind = c.line_kind in
-    let enum-told2 = c.in-Retry in
-    ap (name_part args.line.now) (sym enum-told2.is ∙ line-kind.ensures) ∙ kind_name args.line.now
-
-pub returns-in-Other : goal.returns-in-Other
-returns-in-Other c =
-    let args = c.args in
-    let line-kind = c.line_kind in
-    let enum-told3 = c.in-Other in
-    ap (name_part args.line.now) (sym enum-told3.is ∙ line-kind.ensures) ∙ kind_name args.line.now
+pub returns : goal.returns
+returns c = put_has_name c.args.line.now _ _ _ _ _ (sym c.line_kind.ensures ∙ c.in-Put.is)

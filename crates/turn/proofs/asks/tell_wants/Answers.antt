@@ -2,14 +2,14 @@
 use Rattle.turn.specs.Asks.{wanted_by}
 use Rattle.turn.proofs.asks.tell_wants.Goals as goal
 
-pub returns-in-From : goal.returns-in-From
+pub returns-in-Some : goal.returns-in-Some
 unfolding wanted_by
-returns-in-From c o =
-    let h1 = c.in-From.is in
+returns-in-Some c o =
+    let h1 = c.in-Some.is in
     simp (h1)
 
-pub returns-in-Nobody : goal.returns-in-Nobody
+pub returns-in-None : goal.returns-in-None
 unfolding wanted_by
-returns-in-Nobody c o =
-    let h1 = c.in-Nobody.is in
+returns-in-None c o =
+    let h1 = c.in-None.is in
     simp (h1)

@@ -9,21 +9,21 @@ returns-then-left-eq0 c pool bytes records store actors =
     let h1 = eq-eqb _ _ c.if-left-eq0.true in
     simp (h1)
 
-pub returns-in-At : goal.returns-in-At
+pub returns-in-Some : goal.returns-in-Some
 unfolding again_at
-returns-in-At c pool bytes records store actors =
+returns-in-Some c pool bytes records store actors =
     let h1 = ne_eqb _ _ c.if-left-eq0.false in
     let e1 = c.front_at.ensures in
-    let h2 = simp (e1) at c.in-At.is in
+    let h2 = simp (e1) at c.in-Some.is in
     let e2 = c.slot_at-slot.ensures in
     let e3 = c.hand-hand.ensures in
     let e4 = c.again_first.ensures in
     simp (e1, e2, e3, e4, h1, h2)
 
-pub returns-in-Nothing : goal.returns-in-Nothing
+pub returns-in-None : goal.returns-in-None
 unfolding again_at
-returns-in-Nothing c pool bytes records store actors =
+returns-in-None c pool bytes records store actors =
     let h1 = ne_eqb _ _ c.if-left-eq0.false in
     let e1 = c.front_at.ensures in
-    let h2 = simp (e1) at c.in-Nothing.is in
+    let h2 = simp (e1) at c.in-None.is in
     simp (e1, h1, h2)

@@ -2,18 +2,18 @@
 use Rattle.turn.specs.Resume.{clock_reply}
 use Rattle.turn.proofs.resume.clock_reply.Goals as goal
 
-pub returns-in-Of : goal.returns-in-Of
+pub returns-in-Some : goal.returns-in-Some
 unfolding clock_reply
-returns-in-Of c =
+returns-in-Some c =
     let e1 = c.clock_in-came.ensures in
-    let h1 = simp (e1) at c.in-Of.is in
+    let h1 = simp (e1) at c.in-Some.is in
     let e2 = c.wake.ensures in
     simp (e1, e2, h1)
 
-pub returns-in-Other : goal.returns-in-Other
+pub returns-in-None : goal.returns-in-None
 unfolding clock_reply
-returns-in-Other c =
+returns-in-None c =
     let e1 = c.clock_in-came.ensures in
-    let h1 = simp (e1) at c.in-Other.is in
+    let h1 = simp (e1) at c.in-None.is in
     let e2 = c.tick_clock.ensures in
     simp (e1, e2, h1)

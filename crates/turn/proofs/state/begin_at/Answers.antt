@@ -1,9 +1,8 @@
--- `state::begin_at` meets its contract: by its calls and its tests. Assumes nothing.
-use Rattle.turn.specs.Words.{is_yes}
-use Rattle.turn.specs.Words.{pool_of}
-use mathlib.Core.Path.{refl}
+-- `state::begin_at` meets its contract: by the cells that it writes. Assumes nothing.
+use Rattle.turn.specs.Words.{pool_of, is_yes}
+use Rattle.turn.proofs.CellLaws.{cells_read}
 use Rattle.turn.proofs.state.begin_at.Goals as goal
 
 pub returns : goal.returns
 unfolding pool_of is_yes
-returns c = refl
+returns c = rw (c.stand_at.ensures, cells_read c.args.pool.now c.told-pool)

@@ -1,8 +1,8 @@
--- `state::set_disk` meets its contract: by its calls and its tests. Assumes nothing.
+-- `state::set_disk` meets its contract: by the cells that it writes. Assumes nothing.
 use Rattle.turn.specs.Words.{pool_of}
-use mathlib.Core.Path.{refl}
+use Rattle.turn.proofs.CellLaws.{cells_read}
 use Rattle.turn.proofs.state.set_disk.Goals as goal
 
 pub returns : goal.returns
 unfolding pool_of
-returns c = refl
+returns c = rw (cells_read c.args.pool.now c.told-pool, c.from.ensures, c.from-2.ensures)

@@ -1,8 +1,8 @@
--- `state::stand_at` meets its contract: by its calls and its tests. Assumes nothing.
+-- `state::stand_at` meets its contract: by the cells that it writes. Assumes nothing.
 use Rattle.turn.specs.Words.{pool_of}
-use mathlib.Core.Path.{refl}
+use Rattle.turn.proofs.CellLaws.{cells_read}
 use Rattle.turn.proofs.state.stand_at.Goals as goal
 
 pub returns : goal.returns
 unfolding pool_of
-returns c = refl
+returns c = rw (cells_read c.args.pool.now c.told-pool, c.from.ensures, c.key_word.ensures)

@@ -1,13 +1,9 @@
--- The two halves, the upper one times 2 ^ 32.
-use mathlib.Core.Path.{◌≡◌, ap}
-use Prim.Native.Nat.{◌+◌}
-use native.Mathlib.Omega.{arith}
-use Rattle.wire.specs.Number.{four_at, number_at}
+-- The eight bytes, each times its weight.
+use Rattle.std.proofs.Common.{◌∙◌, arith}
+use Rattle.wire.proofs.NumberLaws.{number_said}
 use Rattle.wire.proofs.number.number_at.Goals as goal
 
 pub returns : goal.returns
-unfolding number_at
 returns c =
-    let a = c.args in
-    let z : a.p + 0 ≡ a.p = omega arith in
-    omega (arith, c.four_at.ensures, c.four_at-2.ensures, ap (four_at a.s.now) z)
+    c.from_le_bytes.ensures
+    ∙ number_said c.args.s.now c.args.p c.loop-k.bytes (λ i h. c.loop-k.invariant.read i (omega arith))

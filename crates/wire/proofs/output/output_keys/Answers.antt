@@ -1,22 +1,13 @@
 -- The loop keeps that the rows left, poured from here on, give the whole.
-use mathlib.Core.Path.{refl}
-use native.Mathlib.Omega.{arith}
 use Rattle.wire.specs.Output.{output_with}
 use Rattle.wire.proofs.OutputLaws.{keys_more, keys_end}
 use Rattle.wire.proofs.output.output_keys.Goals as goal
 
-pub loop-i-init : goal.loop-i-init
-loop-i-init c = (refl, refl)
-
-pub loop-i-preserved : goal.loop-i-preserved
-loop-i-preserved c =
-    let call = c in
-    let test = c in
-    let l = c.loop-i in
-    (omega arith, keys_more _ l.i (output_with l.out l.e.at l.e.code) c.loop-i-test.true c.output_bytes-next.ensures l.invariant.1)
-
-pub shape_of-out : goal.shape_of-out
-shape_of-out c = c.loop-i.invariant.0
+pub loop-row-preserved : goal.loop-row-preserved
+loop-row-preserved c =
+    let l = c.loop-row in
+    keys_more _ l.row-index (output_with l.out l.e.at l.e.code) c.loop-row-test.true c.output_bytes-e.ensures
+    l.invariant
 
 pub returns : goal.returns
-returns c = keys_end _ _ c.loop-i-test.false c.loop-i.invariant.1
+returns c = keys_end _ _ c.loop-row-test.false c.loop-row.invariant

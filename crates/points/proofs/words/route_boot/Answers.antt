@@ -1,8 +1,0 @@
--- `words::route_boot` meets its contract: its words mean that place. Assumes nothing.
-use Rattle.points.specs.Words.{ask_kind_of, at_kind_of, at_of}
-use mathlib.Core.Path.{refl}
-use Rattle.points.proofs.words.route_boot.Goals as goal
-
-pub returns : goal.returns
-unfolding at_of at_kind_of ask_kind_of
-returns c = refl

@@ -1,8 +1,0 @@
--- `step::done` meets its contract: its words mean that end. Assumes nothing.
-use Rattle.steps.specs.Words.{step_of, step_kind_of}
-use mathlib.Core.Path.{refl}
-use Rattle.steps.proofs.step.done.Goals as goal
-
-pub returns : goal.returns
-unfolding step_of step_kind_of
-returns c = refl

@@ -1,8 +1,0 @@
--- `state::disk_in` meets its contract: by its calls and its tests. Assumes nothing.
-use Rattle.turn.specs.Words.{pool_of}
-use mathlib.Core.Path.{refl}
-use Rattle.turn.proofs.state.disk_in.Goals as goal
-
-pub returns : goal.returns
-unfolding pool_of
-returns c = refl

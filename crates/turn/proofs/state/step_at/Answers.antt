@@ -1,9 +1,0 @@
--- `state::step_at` meets its contract: by its calls and its tests. Assumes nothing.
-use Rattle.turn.specs.Words.{pool_of}
-use Rattle.turn.proofs.state.step_at.Goals as goal
-
-pub returns : goal.returns
-unfolding pool_of
-returns c =
-    let e1 = c.flag_cell-flag.ensures in
-    simp (e1)
