@@ -1,5 +1,7 @@
 // A message from outside, for a program that is loaded: logged if nobody waits for its outcome, then queued in the
 // inbox.
+// Kept: the tables stay parameters, since a message is written in the body store, which a `Rail` lends only to be
+// read; and `admit` is public, where the host lends each table by itself, and neither lists of keys nor actors.
 ghost use Rattle.std.specs.Prelude.{◌≡◌, List, ℕ};
 ghost use Rattle.lists.specs.Links.{Table};
 ghost use Rattle.turn.specs.Words.{pool_of};

@@ -1,4 +1,7 @@
 // The calls turn, reply, sync and close: each is refused by its table, or has its effect.
+// Kept: the tables stay parameters of `turn` and `reply`: these are public, where the host lends each table by itself,
+// and make the `Rail` for what they call; and of `collect_send`, which writes the body store, where a `Rail` lends it
+// only to be read.
 ghost use Rattle.std.specs.Prelude.{◌≡◌, List, ℕ};
 ghost use Rattle.lists.specs.Links.{Table};
 ghost use Rattle.points.specs.Words.{at_of};
@@ -117,35 +120,12 @@ fn stored(t: &mut Rail) -> Called
 }
 
 // The order failed: nothing is open, and nothing is taken any more.
-fn failed(pool: &mut PoolCells) -> Called
-    ensures { (bytes : List ℕ) (records : Table) (store : List ℕ) (groups links rows keys actors : Table) →
-        record {
-          state = record {
-            pool = pool_of pool.new;
-            bytes = bytes;
-            records = records;
-            store = store;
-            groups = groups;
-            links = links;
-            rows = rows;
-            keys = keys;
-            actors = actors;
-          };
-          answer = answer_of result (pool_of pool.new) links rows;
-        }
-        ≡ failed_of
-        (record {
-          pool = pool_of pool.old;
-          bytes = bytes;
-          records = records;
-          store = store;
-          groups = groups;
-          links = links;
-          rows = rows;
-          keys = keys;
-          actors = actors;
-        }) }
+#[tactic(auto, unfolding(crate::specs::Calls::failed_of, answers::specs::Answers::shown))]
+fn failed(t: &mut Rail) -> Called
+    ensures kept { RailKept t.old t.new }
+    ensures did { did_in t.new result ≡ failed_of (state_in t.old) }
 {
+    let pool = &mut *t.pool;
     state::set_disk(pool, state::failed());
     Ok(Accepted::Open)
 }
@@ -267,34 +247,24 @@ pub fn reply(
         reply name.now body.now }
 {
     refusals::reply_check(pool, links, rows, reply, name, body)?;
+    if let Reply::Message = reply {
+        return collect_send(pool, store, links, rows, name, body);
+    }
+    let t = &mut Rail {
+        pool,
+        log,
+        records,
+        store,
+        groups,
+        links,
+        rows,
+        keys,
+        actors,
+    };
     match reply {
-        Reply::Stored => stored(&mut Rail {
-            pool,
-            log,
-            records,
-            store,
-            groups,
-            links,
-            rows,
-            keys,
-            actors,
-        }),
-        Reply::Failed => failed(pool),
-        Reply::Message => collect_send(pool, store, links, rows, name, body),
-        _ => resumed(
-            &mut Rail {
-                pool,
-                log,
-                records,
-                store,
-                groups,
-                links,
-                rows,
-                keys,
-                actors,
-            },
-            reply,
-        ),
+        Reply::Stored => stored(t),
+        Reply::Failed => failed(t),
+        _ => resumed(t, reply),
     }
 }
 

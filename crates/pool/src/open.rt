@@ -1,4 +1,6 @@
 // An opening: refused by its table; else the tables at the start, and the messages left in pending.
+// Kept: the tables stay parameters, since the body store and the groups are written, which a `Rail` lends only to be
+// read; and `open` is public, where the host lends each table by itself.
 ghost use Rattle.std.specs.Prelude.{◌≡◌};
 ghost use Rattle.turn.specs.Words.{pool_of};
 ghost use Rattle.answers.specs.Answers.{answer_of};

@@ -1,9 +1,7 @@
 // A turn runs on, and what the call that ran it answers: the question or order that is open, or how the turn ended.
-ghost use Rattle.std.specs.Prelude.{◌≡◌, List, ℕ};
-ghost use Rattle.lists.specs.Links.{Table};
+ghost use Rattle.std.specs.Prelude.{◌≡◌};
 ghost use Rattle.turn.specs.Words.{pool_of};
 ghost use Rattle.turn.specs.Rail.{state_in, RailKept};
-ghost use Rattle.answers.specs.Answers.{answer_of};
 ghost use Rattle.pool.specs.Run.{waiters_from, busy_of, answered_of, did_in, run_of};
 
 use answers::answer::{Accepted, Called};
@@ -35,41 +33,15 @@ fn busy(pool: &PoolCells, links: &[LinkRow]) -> bool
 }
 
 // The turn ended where it is at rest; else a question or an order is open.
-fn answered(pool: &PoolCells, links: &[LinkRow], keys: &[KeyRow]) -> Called
-    ensures { (bytes : List ℕ) (records : Table) (store : List ℕ) (groups rows actors : Table) →
-        record {
-          state = record {
-            pool = pool_of pool.now;
-            bytes = bytes;
-            records = records;
-            store = store;
-            groups = groups;
-            links = links.now;
-            rows = rows;
-            keys = keys.now;
-            actors = actors;
-          };
-          answer = answer_of result (pool_of pool.now) links.now rows;
-        }
-        ≡ answered_of
-        (record {
-          pool = pool_of pool.now;
-          bytes = bytes;
-          records = records;
-          store = store;
-          groups = groups;
-          links = links.now;
-          rows = rows;
-          keys = keys.now;
-          actors = actors;
-        }) }
+fn answered(t: &Rail) -> Called
+    ensures { did_in t.now result ≡ answered_of (state_in t.now) }
 {
-    if refusals::in_turn(state::where_in(pool)) {
+    if refusals::in_turn(state::where_in(t.pool)) {
         return Ok(Accepted::Open);
     }
     Ok(Accepted::Ended {
-        busy: busy(pool, links),
-        waiters: waiters(keys, state::groups(pool)),
+        busy: busy(t.pool, t.links),
+        waiters: waiters(t.keys, state::groups(t.pool)),
     })
 }
 
@@ -80,8 +52,5 @@ pub(crate) fn run(t: &mut Rail) -> Called
     ensures ran { did_in t.new result ≡ run_of (state_in t.old) }
 {
     step::advance(t);
-    let pool = &mut *t.pool;
-    let links = &mut *t.links;
-    let keys = &mut *t.keys;
-    answered(pool, links, keys)
+    answered(t)
 }

@@ -124,7 +124,8 @@ pub fn fixed_start(actors: &mut [ActorRow], slot: usize) -> FixedKind
 }
 
 // Kept, here and below: each function takes the tables that it changes, and not a struct of all of them as in `eval`.
-// Hardly two take the same ones, and each would have to say besides that it leaves the others as they were.
+// Four take `links`, `actors`, a slot and `queued`, and three `links` and a slot alone; of a struct of all, each would
+// have to say besides that it leaves the others as they were.
 
 // It raised: the message that it was at goes to the step's hand.
 #[tactic(auto, unfolding(crate::specs::Words::fixed_next_of, crate::specs::StepFixed::fixed_failed))]

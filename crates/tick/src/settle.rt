@@ -27,8 +27,7 @@ use points::{at, words};
 use steps::step;
 use steps::step::{End, StepEnd, StepWords};
 
-// The next point, and the new queued. Kept: `Routed` of `route` has these fields too, but neither crate uses the
-// other, and a type of both would lie in a crate below, under a name that says neither.
+// The next point, and the new queued.
 #[derive(Drop)]
 pub struct Settled {
     pub at: Where,

@@ -1,6 +1,5 @@
 -- What code lends as one: the state that it has, and that it is the same rail.
-use Rattle.std.specs.Prelude.{◌≡◌, List, ℕ}
-use Rattle.lists.specs.Links.{Table}
+use Rattle.std.specs.Prelude.{◌≡◌}
 use Rattle.turn.specs.declared.state.Rail.{Rail}
 use Rattle.turn.specs.State.{State}
 use Rattle.turn.specs.Words.{pool_of}

@@ -1,20 +1,15 @@
 // One running point of a turn: each is a function of route or tick.
-ghost use Rattle.std.specs.Prelude.{◌≡◌, List, ℕ};
-ghost use Rattle.lists.specs.Links.{Table};
+ghost use Rattle.std.specs.Prelude.{◌≡◌};
 ghost use Rattle.points.specs.Words.{point_of};
 ghost use Rattle.points.specs.declared.at.Point.TheVariants as Point;
-ghost use Rattle.turn.specs.State.{Pool};
 ghost use Rattle.turn.specs.Rail.{state_in, RailKept};
 ghost use Rattle.turn.specs.Go.{go_of};
 ghost use Rattle.turn.specs.Retry.{again_at};
 
 use crate::state;
 use crate::state::Rail;
-use actor::message::MessageRow;
 use group::roster;
-use group::settings::GroupRow;
-use lists::keys::KeyRow;
-use lists::{LinkRow, keys};
+use lists::keys;
 use points::at::Cursor;
 use points::words;
 use points::words::{Place, Where};
@@ -22,70 +17,29 @@ use route::{batch, intake, seed};
 use tick::{crash, ready, settle, waking};
 
 // The message in the hand of the next trapped actor, if it is tried again when that is retired.
-fn again_trapped(
-    groups: &[GroupRow],
-    links: &[LinkRow],
-    rows: &[MessageRow],
-    keys: &[KeyRow],
-    c: Cursor,
-    left: u64,
-) -> Option<usize>
-    ensures { (pool : Pool) (bytes : List ℕ) (records : Table) (store : List ℕ) (actors : Table) →
-        result
-        ≡ again_at
-        (record {
-          pool = pool;
-          bytes = bytes;
-          records = records;
-          store = store;
-          groups = groups.now;
-          links = links.now;
-          rows = rows.now;
-          keys = keys.now;
-          actors = actors;
-        })
-        (Point.CrashTrapped c left) }
+fn again_trapped(t: &Rail, c: Cursor, left: u64) -> Option<usize>
+    ensures { result ≡ again_at (state_in t.now) (Point.CrashTrapped c left) }
 {
     if left == 0 {
         return None;
     }
-    match keys::front_at(keys, roster::TRAPPED) {
+    match keys::front_at(t.keys, roster::TRAPPED) {
         Some(key) => {
             let slot = roster::slot_at(c.group, key);
             let hand = lists::hand(slot);
-            crash::again_first(groups, links, rows, c.group, hand)
+            crash::again_first(t.groups, t.links, t.rows, c.group, hand)
         }
         None => None,
     }
 }
 
-// The message that a point tries again, if any, whatever the pool, the log and the actors are.
+// The message that a point tries again, if any.
 #[tactic(auto, unfolding(crate::specs::Retry::again_at))]
-pub(crate) fn again_at(
-    groups: &[GroupRow],
-    links: &[LinkRow],
-    rows: &[MessageRow],
-    keys: &[KeyRow],
-    w: Where,
-) -> Option<usize>
-    ensures { (pool : Pool) (bytes : List ℕ) (records : Table) (store : List ℕ) (actors : Table) →
-        result
-        ≡ again_at
-        (record {
-          pool = pool;
-          bytes = bytes;
-          records = records;
-          store = store;
-          groups = groups.now;
-          links = links.now;
-          rows = rows.now;
-          keys = keys.now;
-          actors = actors;
-        })
-        (point_of w) }
+pub(crate) fn again_at(t: &Rail, w: Where) -> Option<usize>
+    ensures { result ≡ again_at (state_in t.now) (point_of w) }
 {
     match w.place {
-        Place::Crash => crash::again_first(groups, links, rows, w.group, lists::HAND),
+        Place::Crash => crash::again_first(t.groups, t.links, t.rows, w.group, lists::HAND),
         Place::Seed
         | Place::Intake
         | Place::Route
@@ -97,11 +51,11 @@ pub(crate) fn again_at(
         | Place::Settle
         | Place::AskTrap => None,
         // `CrashTrapped`, and what is no point is read as it
-        _ => again_trapped(groups, links, rows, keys, words::cursor_of(w), w.more),
+        _ => again_trapped(t, words::cursor_of(w), w.more),
     }
 }
 
-// A point of a turn that runs, whatever the log is.
+// A point of a turn that runs.
 pub(crate) fn go(t: &mut Rail, w: Where)
     ensures kept { RailKept t.old t.new }
     ensures went { state_in t.new ≡ go_of (state_in t.old) (point_of w) }

@@ -50,6 +50,8 @@ fn sends_reply(c: Cursor, step: StepWords, reply: Reply) -> Where
 }
 
 // The turn's question is answered, whatever the log and the body store are.
+// Kept: the tables stay parameters: it asks for the rows to be read only, and for no log and no store, all of which a
+// `Rail` would ask of its caller.
 pub fn resume(
     pool: &mut PoolCells,
     groups: &[GroupRow],

@@ -94,10 +94,7 @@ fn run_point(t: &mut Rail, w: Where)
     ensures kept { RailKept t.old t.new }
     ensures ran { state_in t.new ≡ ran_of (state_in t.old) (point_of w) }
 {
-    let links = &mut *t.links;
-    let rows = &mut *t.rows;
-    let keys = &mut *t.keys;
-    let again = go::again_at(t.groups, links, rows, keys, w);
+    let again = go::again_at(t, w);
     go::go(t, w);
     retry_entry(t, again);
 }

@@ -24,8 +24,9 @@ returns-in-Stored c =
 pub returns-in-Failed : goal.returns-in-Failed
 unfolding reply_of
 returns-in-Failed c =
+    let did = c.failed.ensures.did in
     by_effect _ _ _ _ _ (c.reply_check.ensures _ _ _ _ _ _) c.in_ok-reply_check.was
-    (fails _ _ _ _ _ (ap stored_in c.in-Failed.is) (c.failed.ensures _ _ _ _ _ _ _ _))
+    (fails _ c.args.reply _ _ _ (ap stored_in c.in-Failed.is) (search (rules, did)))
 
 pub returns-in-Message : goal.returns-in-Message
 unfolding reply_of
@@ -34,10 +35,10 @@ returns-in-Message c =
     (sends _ _ _ _ _ (ap stored_in c.in-Message.is) (ap is_message c.in-Message.is)
     (c.collect_send.ensures _ _ _ _ _))
 
-pub returns-in_default : goal.returns-in_default
+pub returns-in_default-reply : goal.returns-in_default-reply
 unfolding reply_of
-returns-in_default c =
-    let other = answers_turn _ c.in_default.not-Stored c.in_default.not-Failed c.in_default.not-Message in
+returns-in_default-reply c =
+    let other = answers_turn _ c.in_default-reply.not-Stored c.in_default-reply.not-Failed c.in_default.not-Message in
     let did = c.resumed.ensures.did in
     by_effect _ _ _ _ _ (c.reply_check.ensures _ _ _ _ _ _) c.in_ok-reply_check.was
     (resumes _ _ _ _ _ other.0 other.1 (search (rules, did)))

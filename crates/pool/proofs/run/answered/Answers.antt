@@ -5,12 +5,12 @@ use Rattle.pool.proofs.run.answered.Goals as goal
 
 pub returns-then-in_turn : goal.returns-then-in_turn
 unfolding answered_of shown
-returns-then-in_turn c bytes records store groups rows actors =
+returns-then-in_turn c =
     let during = simp (c.where_in.ensures, c.in_turn.ensures) at c.if-in_turn.true in
     simp (c.where_in.ensures, during)
 
 pub returns : goal.returns
 unfolding answered_of shown
-returns c bytes records store groups rows actors =
+returns c =
     let over = simp (c.where_in.ensures, c.in_turn.ensures) at c.if-in_turn.false in
     simp (c.where_in.ensures, c.busy.ensures, c.groups.ensures, c.waiters.ensures, over)

@@ -5,13 +5,13 @@ use Rattle.turn.proofs.go.again_trapped.Goals as goal
 
 pub returns-then-left-eq0 : goal.returns-then-left-eq0
 unfolding again_at
-returns-then-left-eq0 c pool bytes records store actors =
+returns-then-left-eq0 c =
     let h1 = eq-eqb _ _ c.if-left-eq0.true in
     simp (h1)
 
 pub returns-in-Some : goal.returns-in-Some
 unfolding again_at
-returns-in-Some c pool bytes records store actors =
+returns-in-Some c =
     let h1 = ne_eqb _ _ c.if-left-eq0.false in
     let e1 = c.front_at.ensures in
     let h2 = simp (e1) at c.in-Some.is in
@@ -22,7 +22,7 @@ returns-in-Some c pool bytes records store actors =
 
 pub returns-in-None : goal.returns-in-None
 unfolding again_at
-returns-in-None c pool bytes records store actors =
+returns-in-None c =
     let h1 = ne_eqb _ _ c.if-left-eq0.false in
     let e1 = c.front_at.ensures in
     let h2 = simp (e1) at c.in-None.is in
