@@ -72,7 +72,7 @@ kind_wanted (ask.Store o) = 7
 unfoldable pub fits_of : Question → Reply → Bool
 fits_of q r = eqb (kind_wanted q) (kind_of r)
 
--- the outcome of a number; any from 6 on is stuck in receive
+-- the outcome of a number, which is that with Tell in docs/PROTOCOL.md; any from 6 on is stuck in receive
 unfoldable pub outcome_of : ℕ → Outcome
 outcome_of n =
     pick (eqb n 0) outcome.Ran

@@ -67,7 +67,9 @@ pub struct Actor {
     pub blocked: bool,
     // it took a message from its mailbox
     pub consumed: bool,
+    // when a blocked actor is woken at the latest (the Rust's name)
     pub wake_at: Option<u64>,
+    // an eval run between steps, with its deadline; its message is in the actor's hands
     pub run: Option<u64>,
 }
 

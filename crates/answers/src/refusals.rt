@@ -84,7 +84,7 @@ pub fn open_check(
 pub fn in_turn(at: Where) -> bool
     ensures { result ≡ in_turn (at_of at) }
 {
-    at.place != Place::Rest
+    Place::from(at.place) != Place::Rest
 }
 
 // A name over 32 bytes or a body over 128.
@@ -99,7 +99,7 @@ fn too_long(name: &[u8], body: &[u8]) -> bool
 pub fn sync_check(pool: &PoolCells) -> Result<(), Refusal>
     ensures { result ≡ judged (sync_refusals (pool_of pool.now)) }
 {
-    match state::disk_in(pool).disk {
+    match DiskKind::from(state::disk_in(pool).disk) {
         DiskKind::Free => Ok(()),
         DiskKind::Failed => Err(Refusal::StoreFailed),
         _ => Err(Refusal::OrderWaits),
@@ -217,7 +217,7 @@ pub fn reply_check(
         reply name.now body.now) }
 {
     let disk = state::disk_in(pool);
-    if disk.disk == DiskKind::Failed {
+    if DiskKind::from(disk.disk) == DiskKind::Failed {
         return Err(Refusal::StoreFailed);
     }
     if !fits_in(disk, state::where_in(pool), links, rows, reply) {

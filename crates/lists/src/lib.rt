@@ -66,12 +66,15 @@ pub struct Link {
     pub next: u64,
 }
 
-// A cell of a row of a table; past the table's end it is 0.
+// A cell of a row of a table; past the table's end, or the row's, it is 0.
 pub fn cell_at<const N: usize>(rows: &[[u64; N]], row: usize, i: usize) -> u64
-    requires { i < N }
     ensures { result ≡ get_or (get_or rows.now row []) i 0 }
 {
-    if row < rows.len() { rows[row][i] } else { 0 }
+    if row < rows.len() {
+        rows[row].get(i).map_or(0, |cell| *cell)
+    } else {
+        0
+    }
 }
 
 // The mailbox of an actor's slot, or a number that no list has.

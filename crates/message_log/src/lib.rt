@@ -54,7 +54,7 @@ pub struct Counters {
 }
 
 // An order to the disk: append bytes a to b of the log, replace the file by the first n, flush.
-#[derive(Drop)]
+#[derive(Clone, Copy)]
 pub enum Order {
     Append(usize, usize),
     Replace(usize),

@@ -3,7 +3,7 @@ use Rattle.std.specs.Prelude.{Bool, true, false, not, ℕ, eqb, ltb}
 use Rattle.lists.specs.Links.{pick}
 use Rattle.steps.specs.declared.step.End.TheVariants as end
 use Rattle.steps.specs.declared.step.StepWords.{StepWords}
-use Rattle.steps.specs.Words.{parked_of, step_end_of, step_of, fixed_kind_of, fixed_ask_of, eval_kind_of, eval_ask_of}
+use Rattle.steps.specs.Words.{parked_of, step_of, fixed_kind_of, fixed_ask_of, eval_kind_of, eval_ask_of}
 use Rattle.actor.specs.Questions.{outcome_of}
 use Rattle.points.specs.declared.at.Cursor.{Cursor}
 use Rattle.points.specs.declared.at.At.{At}
@@ -20,13 +20,13 @@ use Rattle.points.specs.declared.words.Where.{Where}
 abbrev pub key_of : ℕ → ℕ
 key_of n = pick (ltb n 256) n 0
 
--- the step under way: its actor's group and key, the tick's clock, and the pops left to the group
+-- the step under way: its actor's group and key (0 if not below 256), the tick's clock, and the pops left to the group
 abbrev pub cursor_of : Where → Cursor
-cursor_of w = record { group = w.group; key = w.key; now = w.now; pops = w.left }
+cursor_of w = record { group = w.group; key = key_of w.key; now = w.now; pops = w.left }
 
--- how the step ended, as words of its own: the end of the number, and the deadline of one that has it
+-- how the step ended, as words of its own: the number of the end, and the deadline of one that has it
 abbrev pub end_of : Where → StepWords
-end_of w = record { end = step_end_of w.step; until = w.more }
+end_of w = record { end = w.step; until = w.more }
 
 -- the place that a number says: 0 is at rest, 1 to 12 are the points, with two for the end of a step, a fixed actor's
 -- and an eval one's, 13 to 20 the questions from SeedBoot to Trap; any other number is Trapped
@@ -80,16 +80,16 @@ abbrev pub ask_by : Place → Where → Ask
 ask_by place.SeedBoot w = asks.SeedBoot w.group
 ask_by place.RouteBoot w = asks.RouteBoot w.group w.left
 ask_by place.TickClock w = asks.TickClock
-ask_by place.WakePoll w = asks.WakePoll w.group w.key w.now w.left
+ask_by place.WakePoll w = asks.WakePoll w.group (key_of w.key) w.now w.left
 ask_by place.Fixed w = asks.Fixed (cursor_of w) (fixed_ask_of (fixed_kind_of w.step))
 ask_by place.Eval w = asks.Eval (cursor_of w) (eval_ask_of (eval_kind_of w.step) (outcome_of w.more))
 ask_by place.Sends w = asks.Sends (cursor_of w) (step_of (end_of w))
 ask_by place.Trap w = asks.Trap (cursor_of w)
 ask_by p w = asks.Trapped (cursor_of w) (key_of w.more)
 
--- the question that the words mean, by their place; one that is no question is read as Trapped
+-- the question that the words mean, by the number of their place; one that is no question is read as Trapped
 abbrev pub ask_of : Where → Ask
-ask_of w = ask_by w.place w
+ask_of w = ask_by (place_of w.place) w
 
 -- the point of this place, with what a turn keeps at it taken from the words; a step's end is one point for both modes
 abbrev pub point_by : Place → Where → Point
@@ -106,9 +106,9 @@ point_by place.Crash w = point.Crash (cursor_of w)
 point_by place.AskTrap w = point.AskTrap (cursor_of w)
 point_by p w = point.CrashTrapped (cursor_of w) w.more
 
--- the point that the words mean, by their place; one that is no point is read as CrashTrapped
+-- the point that the words mean, by the number of their place; one that is no point is read as CrashTrapped
 abbrev pub point_of : Where → Point
-point_of w = point_by w.place w
+point_of w = point_by (place_of w.place) w
 
 -- by the place: at rest, whatever else the words say; at the question that they mean; or at the point that they mean
 abbrev pub at_by : Place → Where → At
@@ -126,4 +126,4 @@ at_by p w = at.Runs (point_of w)
 
 -- where a turn stands by these words: at rest, at a question or at a point, with what it keeps there
 unfoldable pub at_of : Where → At
-at_of w = at_by w.place w
+at_of w = at_by (place_of w.place) w

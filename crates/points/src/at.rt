@@ -111,23 +111,23 @@ pub fn ready_after(c: Cursor) -> Where
 }
 
 // A step of a fixed actor is at its next question, or ended.
-#[tactic(auto, unfolding(steps::specs::Words::fixed_next_of))]
+#[tactic(auto, unfolding(steps::specs::Words::fixed_next_of, steps::specs::Words::fixed_kind_of))]
 pub fn fixed_after(c: Cursor, next: FixedWords) -> Where
     ensures { at_of result ≡ fixed_after c (fixed_next_of next) }
 {
     match next.ask {
-        Some(ask) => words::fixed(c, ask),
+        Some(ask) => words::fixed(c, ask as u64),
         None => words::fixed_end(c, next.step),
     }
 }
 
 // A step of an eval actor is at its next question, or ended.
-#[tactic(auto, unfolding(steps::specs::Words::eval_next_of))]
+#[tactic(auto, unfolding(steps::specs::Words::eval_next_of, steps::specs::Words::eval_kind_of, actor::specs::Questions::outcome_of))]
 pub fn eval_after(c: Cursor, next: EvalWords) -> Where
     ensures { at_of result ≡ eval_after c (eval_next_of next) }
 {
     match next.ask {
-        Some(ask) => words::eval(c, ask, next.outcome),
+        Some(ask) => words::eval(c, ask as u64, next.outcome as u64),
         None => words::eval_end(c, next.step),
     }
 }

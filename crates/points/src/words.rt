@@ -1,14 +1,12 @@
 // Where a turn stands, as words: handing it on copies a few words without payloads and nothing else. What the words
 // mean is `At` (specs/Words); each maker here makes the words of one place.
 ghost use Rattle.std.specs.Prelude.{◌≡◌};
-ghost use Rattle.steps.specs.Words.{parked_of, step_of, fixed_ask_of, eval_ask_of};
+ghost use Rattle.actor.specs.Questions.{outcome_of};
+ghost use Rattle.steps.specs.Words.{parked_of, step_of, fixed_kind_of, fixed_ask_of, eval_kind_of, eval_ask_of};
 ghost use Rattle.points.specs.Words.{key_of, cursor_of, end_of, place_of, place_asks, place_runs, at_of};
 
 use crate::at::{Ask, At, Cursor, Point};
-use actor::question::Outcome;
-use steps::eval::EvalKind;
-use steps::fixed::FixedKind;
-use steps::step::{End, StepEnd, StepWords};
+use steps::step::{End, StepWords};
 
 // The places: no turn, the points, the questions. The end of a step is one of two, by the actor's mode.
 #[derive(Clone, Copy, PartialEq, Eq)]
@@ -109,10 +107,12 @@ impl Place {
 
 #[derive(Clone, Copy)]
 pub struct Where {
-    pub place: Place,
+    // the number of a `Place`. Kept a number, as are the key and the step: any means a place, and a function that takes
+    // these words answers for all.
+    pub place: u64,
     // the group, the actor's key, and the tick's clock
     pub group: usize,
-    pub key: u8,
+    pub key: u64,
     pub now: u64,
     // at most so many more: messages, waiting actors, keys of the ready list
     pub left: u64,
@@ -143,7 +143,7 @@ pub fn cursor_of(w: Where) -> Cursor
 {
     Cursor {
         group: w.group,
-        key: w.key,
+        key: key_of(w.key),
         now: w.now,
         pops: w.left,
     }
@@ -154,17 +154,18 @@ pub fn end_of(w: Where) -> StepWords
     ensures { result ≡ end_of w }
 {
     StepWords {
-        end: StepEnd::from(w.step),
+        end: w.step,
         until: w.more,
     }
 }
 
 // A place with nothing beside it.
 fn nothing_at(place: Place) -> Where
-    ensures { result ≡ record { place = place; group = 0; key = 0; now = 0; left = 0; step = 0; more = 0 } }
+    ensures place { place_of result.place ≡ place }
+    ensures rest { result ≡ record { place = result.place; group = 0; key = 0; now = 0; left = 0; step = 0; more = 0 } }
 {
     Where {
-        place,
+        place: u64::from(place),
         group: 0,
         key: 0,
         now: 0,
@@ -176,19 +177,12 @@ fn nothing_at(place: Place) -> Where
 
 // A place of an actor.
 fn actor_at(place: Place, cursor: Cursor) -> Where
-    ensures { result ≡ record {
-      place = place;
-      group = cursor.group;
-      key = cursor.key;
-      now = cursor.now;
-      left = cursor.pops;
-      step = 0;
-      more = 0;
-    } }
+    ensures place { place_of result.place ≡ place }
+    ensures cursor { cursor_of result ≡ cursor }
 {
     Where {
         group: cursor.group,
-        key: cursor.key,
+        key: key_word(cursor.key),
         now: cursor.now,
         left: cursor.pops,
         ..nothing_at(place)
@@ -196,14 +190,13 @@ fn actor_at(place: Place, cursor: Cursor) -> Where
 }
 
 // A place of an actor whose step ended.
-#[tactic(auto, unfolding(steps::specs::Words::step_end_of))]
 fn ended_at(place: Place, cursor: Cursor, step: StepWords) -> Where
-    ensures place { result.place ≡ place }
+    ensures place { place_of result.place ≡ place }
     ensures cursor { cursor_of result ≡ cursor }
     ensures end { end_of result ≡ step }
 {
     Where {
-        step: step.end as u64,
+        step: step.end,
         more: step.until,
         ..actor_at(place, cursor)
     }
@@ -257,32 +250,32 @@ pub fn wake_poll(group: usize, key: u8, now: u64, left: u64) -> Where
 {
     Where {
         group,
-        key,
+        key: key_word(key),
         now,
         left,
         ..nothing_at(Place::WakePoll)
     }
 }
 
-// A question of a fixed actor's step.
-#[tactic(auto, unfolding(crate::specs::Words::at_of, steps::specs::Words::fixed_kind_of))]
-pub fn fixed(cursor: Cursor, ask: FixedKind) -> Where
-    ensures { at_of result ≡ At.Asks (Ask.Fixed cursor (fixed_ask_of ask)) }
+// A question of a fixed actor's step, by the number of its kind (steps).
+#[tactic(auto, unfolding(crate::specs::Words::at_of))]
+pub fn fixed(cursor: Cursor, ask: u64) -> Where
+    ensures { at_of result ≡ At.Asks (Ask.Fixed cursor (fixed_ask_of (fixed_kind_of ask))) }
 {
     Where {
-        step: ask as u64,
+        step: ask,
         ..actor_at(Place::Fixed, cursor)
     }
 }
 
-// A question of an eval actor's step, with the outcome that Tell tells.
-#[tactic(auto, unfolding(crate::specs::Words::at_of, steps::specs::Words::eval_kind_of, actor::specs::Questions::outcome_of))]
-pub fn eval(cursor: Cursor, ask: EvalKind, outcome: Outcome) -> Where
-    ensures { at_of result ≡ At.Asks (Ask.Eval cursor (eval_ask_of ask outcome)) }
+// A question of an eval actor's step, with the outcome that Tell tells, each by its number.
+#[tactic(auto, unfolding(crate::specs::Words::at_of))]
+pub fn eval(cursor: Cursor, ask: u64, outcome: u64) -> Where
+    ensures { at_of result ≡ At.Asks (Ask.Eval cursor (eval_ask_of (eval_kind_of ask) (outcome_of outcome))) }
 {
     Where {
-        step: ask as u64,
-        more: outcome as u64,
+        step: ask,
+        more: outcome,
         ..actor_at(Place::Eval, cursor)
     }
 }

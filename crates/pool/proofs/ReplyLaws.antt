@@ -11,7 +11,7 @@ use Rattle.points.specs.declared.at.At.{At}
 use Rattle.points.specs.declared.at.At.TheVariants as at
 use Rattle.points.specs.declared.at.Ask.{Ask}
 use Rattle.points.specs.declared.words.Where.{Where}
-use Rattle.points.specs.Words.{place_asks, at_of}
+use Rattle.points.specs.Words.{place_asks, place_of, at_of}
 use Rattle.points.proofs.WordLaws.{at_unasked}
 use Rattle.turn.specs.State.{Pool, State, with_pool}
 use Rattle.turn.specs.Resume.{resume_of}
@@ -33,8 +33,8 @@ turn_runs s p did fine begun runs = rw fine (runs ∙ ap (λ (q : Pool). run_of 
 -- ---- where a reply finds the turn
 
 -- where nothing is asked the state is as it was
-pub resume_unasked : (s : State) (w : Where) (r : Reply) → s.pool.turn.at ≡ at_of w → place_asks w.place ≡ false
-    → s ≡ resume_at s r
+pub resume_unasked : (s : State) (w : Where) (r : Reply) → s.pool.turn.at ≡ at_of w
+    → place_asks (place_of w.place) ≡ false → s ≡ resume_at s r
 unfolding resume_at
 resume_unasked s w r is none =
     sym (ap (λ (a : At). resume_in s a r) is ∙ at_unasked w (λ (a : At). resume_in s a r) s none refl (λ p. refl))

@@ -69,7 +69,11 @@ fn admit_logged(
         id: Some(id),
     };
     entry::keep(store, links, rows, message, lists::INBOX);
-    state::set_log(pool, counters, state::waits(order, What::Record, 0));
+    state::set_log(
+        pool,
+        counters,
+        state::waits(order, u64::from(What::Record), 0),
+    );
     Ok(Accepted::Open)
 }
 

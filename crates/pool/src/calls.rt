@@ -27,7 +27,7 @@ use lists::LinkRow;
 use lists::keys::KeyRow;
 use message_log::{RecordRow, wal};
 use points::words;
-use points::words::Where;
+use points::words::{Place, Where};
 use turn::state::{PoolCells, Rail, What};
 use turn::{resume, state};
 
@@ -186,7 +186,7 @@ fn resume_at(t: &mut Rail, reply: Reply)
 {
     let pool = &mut *t.pool;
     let w = state::where_in(pool);
-    if w.place.asks() {
+    if Place::from(w.place).asks() {
         let rows = &mut *t.rows;
         resume::resume(pool, t.groups, t.links, rows, t.keys, t.actors, w, reply);
     }
@@ -300,7 +300,11 @@ fn sync_log(pool: &mut PoolCells) -> Called
 {
     let mut counters = state::counters(pool);
     if let Some(order) = wal::sync(&mut counters) {
-        state::set_log(pool, counters, state::waits(order, What::Nothing, 0));
+        state::set_log(
+            pool,
+            counters,
+            state::waits(order, u64::from(What::Nothing), 0),
+        );
     }
     Ok(Accepted::Open)
 }

@@ -95,7 +95,7 @@ fn open_pool(
         pool,
         limits_from(settings, given.len()),
         counters,
-        state::waits(order, What::Nothing, 0),
+        state::waits(order, u64::from(What::Nothing), 0),
     );
     Ok(Accepted::Open)
 }

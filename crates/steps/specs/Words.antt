@@ -47,7 +47,7 @@ parked_by ends.Yield until = parked.Yield
 
 -- the end of a step after which the actor goes on, as of every eval step; done and failed are yield here
 unfoldable pub parked_of : StepWords → Parked
-parked_of w = parked_by w.end w.until
+parked_of w = parked_by (step_end_of w.end) w.until
 
 -- the end of a step; how the actor goes on is taken only where it does
 abbrev pub step_by : StepEnd → Parked → Step
@@ -60,7 +60,7 @@ step_by ends.Yield p = step.Parked p
 
 -- how a step ended, by its words: done, failed, or how the actor goes on
 unfoldable pub step_of : StepWords → Step
-step_of w = step_by w.end (parked_of w)
+step_of w = step_by (step_end_of w.end) (parked_of w)
 
 -- ---- a fixed actor's step: the question that is open, and what a reply leads to
 

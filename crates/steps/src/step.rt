@@ -71,7 +71,8 @@ impl From<u64> for StepEnd {
 // A step's end as words. They mean a `Step`, and of an eval actor a `Parked` (specs/Words).
 #[derive(Clone, Copy)]
 pub struct StepWords {
-    pub end: StepEnd,
+    // the number of a `StepEnd`. Kept a number: any means an end, and functions that take these words answer for all.
+    pub end: u64,
     // the deadline of `Until`. Kept beside the end: an end that holds it would be an enum with a payload, which a call
     // is not to copy (docs/DECISIONS.md, Words in code).
     pub until: u64,
@@ -93,10 +94,15 @@ pub struct Stepped<N> {
 }
 
 // The end of a kind that has no deadline.
+#[tactic(auto, unfolding(crate::specs::Words::step_end_of))]
 const fn ended(end: StepEnd) -> StepWords
-    ensures { result ≡ record { end = end; until = 0 } }
+    ensures end { step_end_of result.end ≡ end }
+    ensures until { result.until ≡ 0 }
 {
-    StepWords { end, until: 0 }
+    StepWords {
+        end: end as u64,
+        until: 0,
+    }
 }
 
 // The actor ran to its end.
@@ -140,8 +146,8 @@ pub fn blocked_until(until: u64) -> StepWords
     ensures parked { parked_of result ≡ Parked.Blocked (Some until) }
 {
     StepWords {
-        end: StepEnd::Until,
         until,
+        ..ended(StepEnd::Until)
     }
 }
 
@@ -160,7 +166,7 @@ pub fn yields() -> StepWords
 pub fn going_on(step: StepWords) -> StepWords
     ensures { step_of result ≡ Step.Parked (parked_of step) }
 {
-    match step.end {
+    match StepEnd::from(step.end) {
         StepEnd::Done | StepEnd::Failed => yields(),
         _ => step,
     }

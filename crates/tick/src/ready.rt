@@ -40,11 +40,11 @@ fn rests(actors: &[ActorRow], slot: usize, waiting: u64) -> bool
 }
 
 // A step of a fixed actor begins.
-#[tactic(auto, unfolding(crate::specs::Ready::begin_fixed))]
+#[tactic(auto, unfolding(steps::specs::Words::fixed_kind_of, crate::specs::Ready::begin_fixed))]
 fn begin_fixed(actors: &mut [ActorRow], c: Cursor, slot: usize) -> Where
     ensures { record { actors = actors.new; at = at_of result } ≡ begin_fixed actors.old c slot }
 {
-    words::fixed(c, fixed::fixed_start(actors, slot))
+    words::fixed(c, fixed::fixed_start(actors, slot) as u64)
 }
 
 // A step of an eval actor begins; one with no run and no mail ends at once.

@@ -128,7 +128,7 @@ fn park(keys: &mut [KeyRow], actors: &mut [ActorRow], c: Cursor, step: StepWords
     ensures { record { keys = keys.new; actors = actors.new }
         ≡ park_at keys.old actors.old c (parked_of step) }
 {
-    match step.end {
+    match StepEnd::from(step.end) {
         StepEnd::Waiting => roster::push_key(keys, roster::idle_row(c.group), c.key),
         StepEnd::Forever => block_at(keys, actors, c, None),
         StepEnd::Until => block_at(keys, actors, c, Some(step.until)),
@@ -157,7 +157,7 @@ pub fn settle(
         (turn_tables links.old keys.old actors.old queued) c (step_of step) }
 {
     let next = at::ready_after(c);
-    match step.end {
+    match StepEnd::from(step.end) {
         StepEnd::Done => {
             let fewer = release(links, rows, keys, actors, c, queued);
             Settled {

@@ -4,7 +4,7 @@ use mathlib.Core.Path.{◌≡◌, refl, sym, ◌∙◌, ap}
 use mathlib.Core.Bool.{false}
 use Rattle.points.specs.declared.at.Point.{Point}
 use Rattle.points.specs.declared.words.Where.{Where}
-use Rattle.points.specs.Words.{place_runs, at_of}
+use Rattle.points.specs.Words.{place_runs, place_of, at_of}
 use Rattle.points.proofs.WordLaws.{at_stays}
 use Rattle.turn.specs.declared.state.Rail.{Rail}
 use Rattle.turn.specs.Rail.{RailKept}
@@ -13,7 +13,8 @@ use Rattle.turn.specs.Go.{go_of}
 use Rattle.turn.specs.Retry.{again_at, retry_entry, ran_of}
 use Rattle.turn.specs.Step.{step_at, turn_step}
 
-pub step_stays : (s : State) (w : Where) → s.pool.turn.at ≡ at_of w → place_runs w.place ≡ false → s ≡ turn_step s
+pub step_stays : (s : State) (w : Where) → s.pool.turn.at ≡ at_of w → place_runs (place_of w.place) ≡ false
+    → s ≡ turn_step s
 unfolding turn_step
 step_stays s w is stays = sym (ap (step_at s) is ∙ at_stays w (step_at s) s stays refl (λ q. refl))
 

@@ -6,7 +6,7 @@ use Rattle.message_log.specs.declared.Counters.{Counters}
 use Rattle.message_log.specs.declared.Order.{Order}
 use Rattle.message_log.specs.declared.Order.TheVariants.{Append, Replace, Flush}
 use Rattle.points.specs.declared.words.Where.{Where}
-use Rattle.points.specs.Words.{key_of, place_of, at_of}
+use Rattle.points.specs.Words.{at_of}
 use Rattle.turn.specs.declared.state.OrderFor.{OrderFor}
 use Rattle.turn.specs.declared.state.OrderFor.TheVariants as orderFor
 use Rattle.turn.specs.declared.state.Disk.{Disk}
@@ -52,7 +52,7 @@ order_by kind.Failed w = Flush
 
 -- the order that the words of a disk name
 abbrev pub order_in : DiskWords → Order
-order_in w = order_by w.disk w
+order_in w = order_by (disk_kind_of w.disk) w
 
 -- what it is for, with the message that a mark or a retry is for
 abbrev pub order_for_of : What → ℕ → OrderFor
@@ -64,37 +64,36 @@ order_for_of what.Retry id = orderFor.Retry (record { 0 = id })
 -- by the kind: free, failed, or the words' order waits, for what the words say it is for
 abbrev pub disk_by : DiskKind → DiskWords → Disk
 disk_by kind.Free w = disk.Free
-disk_by kind.Append w = disk.Waits (order_in w) (order_for_of w.what w.id)
-disk_by kind.Replace w = disk.Waits (order_in w) (order_for_of w.what w.id)
-disk_by kind.Flush w = disk.Waits (order_in w) (order_for_of w.what w.id)
+disk_by kind.Append w = disk.Waits (order_in w) (order_for_of (what_of w.what) w.id)
+disk_by kind.Replace w = disk.Waits (order_in w) (order_for_of (what_of w.what) w.id)
+disk_by kind.Flush w = disk.Waits (order_in w) (order_for_of (what_of w.what) w.id)
 disk_by kind.Failed w = disk.Failed
 
 -- the disk that words mean: its kind alone says that it is free or failed
 unfoldable pub disk_of : DiskWords → Disk
-disk_of w = disk_by w.disk w
+disk_of w = disk_by (disk_kind_of w.disk) w
 
 -- ---- the cells
 
--- cells 0 to 6 are where the turn stands, as words: the place and the key by their numbers; a cell that is not there is
--- 0, here and below
+-- cells 0 to 6 are where the turn stands, as words; a cell that is not there is 0, here and below
 abbrev pub where_in : List ℕ → Where
 where_in c = record {
-  place = place_of (get_or c 0 0);
+  place = get_or c 0 0;
   group = get_or c 1 0;
-  key = key_of (get_or c 2 0);
+  key = get_or c 2 0;
   now = get_or c 3 0;
   left = get_or c 4 0;
   step = get_or c 5 0;
   more = get_or c 6 0;
 }
 
--- cells 7 to 11 are the disk, as words: its kind and what the order is for by their numbers
+-- cells 7 to 11 are the disk, as words
 abbrev pub disk_in : List ℕ → DiskWords
 disk_in c = record {
-  disk = disk_kind_of (get_or c 7 0);
+  disk = get_or c 7 0;
   from = get_or c 8 0;
   to = get_or c 9 0;
-  what = what_of (get_or c 10 0);
+  what = get_or c 10 0;
   id = get_or c 11 0;
 }
 

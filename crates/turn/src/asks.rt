@@ -25,8 +25,8 @@ use steps::{eval, fixed, step};
 fn asked_by(w: Where, links: &[LinkRow], rows: &[MessageRow]) -> Option<Question>
     ensures { result ≡ asked_by (ask_of w) links.now rows.now }
 {
-    let who = at::who_of(w.group, w.key);
-    match w.place {
+    let who = at::who_of(w.group, words::key_of(w.key));
+    match Place::from(w.place) {
         Place::SeedBoot | Place::RouteBoot => Some(Question::Boot(w.group)),
         Place::TickClock => Some(Question::Clock),
         Place::WakePoll => Some(Question::Poll(who)),
@@ -52,8 +52,8 @@ pub fn asked_in(
 ) -> Option<Question>
     ensures { result ≡ asked_in (disk_of disk) (at_of at) links.now rows.now }
 {
-    match disk.disk {
-        DiskKind::Free if at.place.asks() => asked_by(at, links, rows),
+    match DiskKind::from(disk.disk) {
+        DiskKind::Free if Place::from(at.place).asks() => asked_by(at, links, rows),
         DiskKind::Free | DiskKind::Failed => None,
         _ => Some(Question::Store(state::order_in(disk))),
     }
@@ -128,7 +128,7 @@ fn eval_wants(ask: EvalKind, links: &[LinkRow], rows: &[MessageRow]) -> u64
 fn wanted_by(w: Where, links: &[LinkRow], rows: &[MessageRow]) -> u64
     ensures { result ≡ wanted_by (asked_by (ask_of w) links.now rows.now) }
 {
-    match w.place {
+    match Place::from(w.place) {
         Place::TickClock => CLOCK,
         Place::WakePoll => COUNT,
         Place::Fixed => fixed_wants(FixedKind::from(w.step)),
@@ -144,8 +144,8 @@ fn wanted_by(w: Where, links: &[LinkRow], rows: &[MessageRow]) -> u64
 pub fn wanted_in(disk: DiskWords, at: Where, links: &[LinkRow], rows: &[MessageRow]) -> u64
     ensures { result ≡ wanted_by (asked_in (disk_of disk) (at_of at) links.now rows.now) }
 {
-    match disk.disk {
-        DiskKind::Free if at.place.asks() => wanted_by(at, links, rows),
+    match DiskKind::from(disk.disk) {
+        DiskKind::Free if Place::from(at.place).asks() => wanted_by(at, links, rows),
         DiskKind::Free | DiskKind::Failed => NO_REPLY,
         _ => STORED,
     }

@@ -38,21 +38,16 @@ fn again_trapped(t: &Rail, c: Cursor, left: u64) -> Option<usize>
 pub(crate) fn again_at(t: &Rail, w: Where) -> Option<usize>
     ensures { result ≡ again_at (state_in t.now) (point_of w) }
 {
-    match w.place {
-        Place::Crash => crash::again_first(t.groups, t.links, t.rows, w.group, lists::HAND),
-        Place::Seed
-        | Place::Intake
-        | Place::Route
-        | Place::Wake
-        | Place::WakeNext
-        | Place::Ready
-        | Place::FixedEnd
-        | Place::EvalEnd
-        | Place::Settle
-        | Place::AskTrap => None,
-        // `CrashTrapped`, and what is no point is read as it
-        _ => again_trapped(t, words::cursor_of(w), w.more),
+    // Kept: tests and no `match`, for which the compiler looks up again what the turn's step has tested.
+    let place = Place::from(w.place);
+    if place == Place::Crash {
+        return crash::again_first(t.groups, t.links, t.rows, w.group, lists::HAND);
     }
+    if place.runs() && place != Place::CrashTrapped {
+        return None;
+    }
+    // `CrashTrapped`, and what is no point is read as it
+    again_trapped(t, words::cursor_of(w), w.more)
 }
 
 // A point of a turn that runs.
@@ -60,44 +55,43 @@ pub(crate) fn go(t: &mut Rail, w: Where)
     ensures kept { RailKept t.old t.new }
     ensures went { state_in t.new ≡ go_of (state_in t.old) (point_of w) }
 {
+    // Each arm takes of the rail what it uses, so that no arm loads the rest.
     let pool = &mut *t.pool;
-    let store = t.store;
-    let groups = t.groups;
-    let links = &mut *t.links;
-    let rows = &mut *t.rows;
-    let keys = &mut *t.keys;
-    let actors = &mut *t.actors;
     let count = state::groups(pool);
     let queued = state::queued(pool);
     let c = words::cursor_of(w);
-    match w.place {
+    match Place::from(w.place) {
         Place::Seed => {
-            let next = seed::seed(groups, count, keys, actors, c.group);
+            let next = seed::seed(t.groups, count, t.keys, t.actors, c.group);
             state::stand_at(pool, next);
         }
         Place::Intake => {
             let backlog = state::backlog(pool);
-            let next = intake::intake(links, queued, backlog, w.left);
+            let next = intake::intake(t.links, queued, backlog, w.left);
             state::stand_at(pool, next);
         }
         Place::Route => {
+            let rows = &mut *t.rows;
             let s = batch::route(
-                groups, count, store, links, rows, keys, actors, queued, w.left,
+                t.groups, count, t.store, t.links, rows, t.keys, t.actors, queued, w.left,
             );
             let next = s.at;
             state::queue_at(pool, next, s.queued);
         }
         Place::Wake => {
-            let next = waking::wake(keys, count, c.group, c.now);
+            let next = waking::wake(t.keys, count, c.group, c.now);
             state::stand_at(pool, next);
         }
         Place::WakeNext => {
-            let next = waking::wake_next(keys, actors, c.group, c.now, w.left);
+            let next = waking::wake_next(t.keys, t.actors, c.group, c.now, w.left);
             state::stand_at(pool, next);
         }
         Place::Ready => {
+            let links = &mut *t.links;
             let stepped = state::stepped(pool);
-            let s = ready::ready(links, keys, actors, queued, stepped, c.group, c.now, w.left);
+            let s = ready::ready(
+                links, t.keys, t.actors, queued, stepped, c.group, c.now, w.left,
+            );
             let next = s.at;
             state::step_at(pool, next, s.queued, s.stepped);
         }
@@ -112,14 +106,15 @@ pub(crate) fn go(t: &mut Rail, w: Where)
             state::stand_at(pool, next);
         }
         Place::Settle => {
+            let rows = &mut *t.rows;
             let step = words::end_of(w);
-            let s = settle::settle(links, rows, keys, actors, c, step, queued);
+            let s = settle::settle(t.links, rows, t.keys, t.actors, c, step, queued);
             let next = s.at;
             state::queue_at(pool, next, s.queued);
         }
         Place::Crash => {
             let losses = state::losses(pool);
-            let more = crash::crash(groups, links, rows, c, losses);
+            let more = crash::crash(t.groups, t.links, t.rows, c, losses);
             let next = words::ask_trap(c);
             state::lose_at(pool, next, queued, more);
         }
@@ -130,7 +125,9 @@ pub(crate) fn go(t: &mut Rail, w: Where)
         // `CrashTrapped`, and what is no point is read as it
         _ => {
             let losses = state::losses(pool);
-            let s = crash::crash_trapped(groups, links, rows, keys, c, w.more, queued, losses);
+            let s = crash::crash_trapped(
+                t.groups, t.links, t.rows, t.keys, c, w.more, queued, losses,
+            );
             let next = s.at;
             let more = s.losses;
             state::lose_at(pool, next, s.queued, more);

@@ -90,7 +90,7 @@ pub fn resume(
 {
     let queued = state::queued(pool);
     let c = words::cursor_of(w);
-    match w.place {
+    match Place::from(w.place) {
         Place::SeedBoot => {
             let next = seed::seed_reply(keys, actors, c.group, reply);
             state::stand_at(pool, next);

@@ -112,12 +112,14 @@ impl From<What> for u64 {
 // The disk as words.
 #[derive(Clone, Copy)]
 pub struct DiskWords {
-    pub disk: DiskKind,
+    // the number of a `DiskKind`. Kept a number, as is `what`: any means a kind, and a function that takes these words
+    // answers for all.
+    pub disk: u64,
     // of an append: from this byte of the log to that one; of a replace: the first bytes up to that one
     pub from: usize,
     pub to: usize,
-    // what the order is for, and the message that a mark or a retry is for
-    pub what: What,
+    // what the order is for (`What`), and the message that a mark or a retry is for
+    pub what: u64,
     pub id: u64,
 }
 
@@ -171,10 +173,10 @@ pub fn free() -> DiskWords
     ensures { disk_of result ≡ Disk.Free }
 {
     DiskWords {
-        disk: DiskKind::Free,
+        disk: u64::from(DiskKind::Free),
         from: 0,
         to: 0,
-        what: What::Nothing,
+        what: u64::from(What::Nothing),
         id: 0,
     }
 }
@@ -184,32 +186,32 @@ pub fn failed() -> DiskWords
     ensures { disk_of result ≡ Disk.Failed }
 {
     DiskWords {
-        disk: DiskKind::Failed,
+        disk: u64::from(DiskKind::Failed),
         ..free()
     }
 }
 
-// An order waits.
-pub fn waits(order: Order, what: What, id: u64) -> DiskWords
-    ensures { disk_of result ≡ Disk.Waits order (order_for_of what id) }
+// An order waits, for what the number of a `What` says.
+pub fn waits(order: Order, what: u64, id: u64) -> DiskWords
+    ensures { disk_of result ≡ Disk.Waits order (order_for_of (what_of what) id) }
 {
     match order {
         Order::Append(from, to) => DiskWords {
-            disk: DiskKind::Append,
+            disk: u64::from(DiskKind::Append),
             from,
             to,
             what,
             id,
         },
         Order::Replace(n) => DiskWords {
-            disk: DiskKind::Replace,
+            disk: u64::from(DiskKind::Replace),
             from: 0,
             to: n,
             what,
             id,
         },
         Order::Flush => DiskWords {
-            disk: DiskKind::Flush,
+            disk: u64::from(DiskKind::Flush),
             from: 0,
             to: 0,
             what,
@@ -219,8 +221,8 @@ pub fn waits(order: Order, what: What, id: u64) -> DiskWords
 }
 
 // What is due waits, for this.
-pub fn waiting(due: Option<Order>, what: What, id: u64) -> DiskWords
-    ensures { disk_of result ≡ disk_for due (order_for_of what id) }
+pub fn waiting(due: Option<Order>, what: u64, id: u64) -> DiskWords
+    ensures { disk_of result ≡ disk_for due (order_for_of (what_of what) id) }
 {
     match due {
         Some(order) => waits(order, what, id),
@@ -232,7 +234,7 @@ pub fn waiting(due: Option<Order>, what: What, id: u64) -> DiskWords
 pub(crate) fn order_in(disk: DiskWords) -> Order
     ensures { result ≡ order_in disk }
 {
-    match disk.disk {
+    match DiskKind::from(disk.disk) {
         DiskKind::Append => Order::Append(disk.from, disk.to),
         DiskKind::Replace => Order::Replace(disk.to),
         _ => Order::Flush,
@@ -244,9 +246,9 @@ pub fn where_in(pool: &PoolCells) -> Where
     ensures { (pool_of pool.now).turn.at ≡ at_of result }
 {
     Where {
-        place: Place::from(pool[0]),
+        place: pool[0],
         group: pool[1] as usize,
-        key: words::key_of(pool[2]),
+        key: pool[2],
         now: pool[3],
         left: pool[4],
         step: pool[5],
@@ -259,10 +261,10 @@ pub fn disk_in(pool: &PoolCells) -> DiskWords
     ensures { (pool_of pool.now).turn.disk ≡ disk_of result }
 {
     DiskWords {
-        disk: DiskKind::from(pool[7]),
+        disk: pool[7],
         from: pool[8] as usize,
         to: pool[9] as usize,
-        what: What::from(pool[10]),
+        what: pool[10],
         id: pool[11],
     }
 }
@@ -354,10 +356,10 @@ pub fn set_disk(pool: &mut PoolCells, disk: DiskWords)
     ensures { pool_of pool.new
         ≡ with_disk (pool_of pool.old) (pool_of pool.old).turn.counters (disk_of disk) }
 {
-    pool[7] = u64::from(disk.disk);
+    pool[7] = disk.disk;
     pool[8] = disk.from as u64;
     pool[9] = disk.to as u64;
-    pool[10] = u64::from(disk.what);
+    pool[10] = disk.what;
     pool[11] = disk.id;
 }
 
@@ -377,9 +379,9 @@ pub fn set_log(pool: &mut PoolCells, counters: Counters, disk: DiskWords)
 pub(crate) fn stand_at(pool: &mut PoolCells, at: Where)
     ensures { pool_of pool.new ≡ stood_at (pool_of pool.old) (at_of at) }
 {
-    pool[0] = u64::from(at.place);
+    pool[0] = at.place;
     pool[1] = at.group as u64;
-    pool[2] = words::key_word(at.key);
+    pool[2] = at.key;
     pool[3] = at.now;
     pool[4] = at.left;
     pool[5] = at.step;
@@ -440,10 +442,10 @@ pub fn start(pool: &mut PoolCells, limits: Limits, counters: Counters, disk: Dis
         0,
         0,
         0,
-        u64::from(disk.disk),
+        disk.disk,
         disk.from as u64,
         disk.to as u64,
-        u64::from(disk.what),
+        disk.what,
         disk.id,
         0,
         0,
@@ -470,16 +472,17 @@ pub(crate) fn marks_at(w: Where) -> bool
     ensures { result ≡ marks_at (point_of w) }
 {
     !matches!(
-        w.place,
+        Place::from(w.place),
         Place::Seed | Place::Intake | Place::Wake | Place::WakeNext | Place::Settle
     )
 }
 
 // Whether no order waits and none failed.
+#[tactic(auto, unfolding(crate::specs::Words::pool_of, crate::specs::Words::disk_of, crate::specs::Words::disk_kind_of))]
 pub(crate) fn disk_free(pool: &PoolCells) -> bool
     ensures { result ≡ is_free (pool_of pool.now).turn.disk }
 {
-    DiskKind::from(pool[7]) == DiskKind::Free
+    pool[7] == DiskKind::Free as u64
 }
 
 // Whether the turn runs on by itself: no order waits, and it is between questions.

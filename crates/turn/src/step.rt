@@ -10,7 +10,7 @@ use crate::state::{Rail, What};
 use crate::{go, state};
 use actor::message;
 use message_log::{LogId, wal};
-use points::words::Where;
+use points::words::{Place, Where};
 
 // A message that was logged as `id` gets its mark.
 #[tactic(auto, unfolding(crate::specs::Step::mark_logged))]
@@ -22,7 +22,11 @@ fn mark_logged(t: &mut Rail, id: LogId)
     let mut counters = state::counters(pool);
     let limit = state::compact_at(pool);
     let due = wal::mark(&mut counters, t.log, t.records, limit, id);
-    state::set_log(pool, counters, state::waiting(due, What::Mark, id.0));
+    state::set_log(
+        pool,
+        counters,
+        state::waiting(due, u64::from(What::Mark), id.0),
+    );
 }
 
 // The first message that is over: its entry is free, and its mark is ordered.
@@ -32,9 +36,9 @@ fn mark_first(t: &mut Rail)
     ensures marked { state_in t.new ≡ mark_first (state_in t.old) }
 {
     let links = &mut *t.links;
-    let rows = &mut *t.rows;
     match lists::first(links, lists::OVER) {
         Some(e) => {
+            let rows = &mut *t.rows;
             let id = message::id_at(rows, e);
             lists::move_first(links, lists::OVER, lists::FREE);
             match id {
@@ -65,7 +69,11 @@ fn retry_logged(t: &mut Rail, id: LogId, attempts: u64)
     let pool = &mut *t.pool;
     let mut counters = state::counters(pool);
     let due = wal::retry(&mut counters, t.log, t.records, id, attempts);
-    state::set_log(pool, counters, state::waiting(due, What::Retry, id.0));
+    state::set_log(
+        pool,
+        counters,
+        state::waiting(due, u64::from(What::Retry), id.0),
+    );
 }
 
 // The attempts of the message that a point tried again are written, if it was logged.
@@ -74,9 +82,9 @@ fn retry_entry(t: &mut Rail, again: Option<usize>)
     ensures kept { RailKept t.old t.new }
     ensures wrote { state_in t.new ≡ retry_entry (state_in t.old) again }
 {
-    let rows = &mut *t.rows;
     match again {
         Some(e) => {
+            let rows = &mut *t.rows;
             let id = message::id_at(rows, e);
             let attempts = message::attempts_at(rows, e);
             match id {
@@ -107,7 +115,7 @@ fn step(t: &mut Rail)
 {
     let pool = &mut *t.pool;
     let w = state::where_in(pool);
-    if w.place.runs() {
+    if Place::from(w.place).runs() {
         mark_at(t, w);
         let pool = &mut *t.pool;
         let free = state::disk_free(pool);

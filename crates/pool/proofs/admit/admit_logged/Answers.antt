@@ -18,5 +18,5 @@ unfolding admit_logged shown
 returns c groups keys actors =
     let did = simp c.counters-counters.ensures at c.append.ensures in
     let keeps = simp c.counters-counters.ensures at c.keep.ensures in
-    simp (c.waits.ensures, c.set_log.ensures)
+    simp (c.waits.ensures, c.from.ensures, c.set_log.ensures)
     (logged_kept _ _ _ _ _ _ c.in_ok-order.was keeps ∙ ap (recorded_by _ _ _) did)

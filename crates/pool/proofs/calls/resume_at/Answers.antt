@@ -6,5 +6,5 @@ use Rattle.pool.proofs.calls.resume_at.Goals as goal
 
 pub returns-then-asks-clause-resumed : goal.returns-then-asks-clause-resumed
 returns-then-asks-clause-resumed c =
-    let stands = c.where_in-w.ensures ∙ at_asks _ (simp c.asks.ensures at c.if-asks.true) in
+    let stands = c.where_in-w.ensures ∙ at_asks _ (simp (c.asks.ensures, c.from.ensures) at c.if-asks.true) in
     c.resume.ensures _ _ _ ∙ resume_asks _ _ _ stands

@@ -7,7 +7,7 @@ pub returns-in-Some : goal.returns-in-Some
 unfolding shown
 returns-in-Some c bytes records store groups links rows keys actors =
     let did = simp (c.counters-counters.ensures, c.in-Some.is) at c.sync.ensures in
-    simp (c.waits.ensures, c.set_log.ensures) (sync_due _ _ _ did)
+    simp (c.waits.ensures, c.from.ensures, c.set_log.ensures) (sync_due _ _ _ did)
 
 pub returns-in_default : goal.returns-in_default
 unfolding shown

@@ -11,6 +11,6 @@ returns c =
     let e2 = c.start.ensures in
     let e3 = simp (e2) at c.put_left.ensures in
     let e4 = c.blank_keys.ensures in
-    let e5 = simp (c.limits_from.ensures, c.waits.ensures) at c.start-2.ensures in
+    let e5 = simp (c.limits_from.ensures, c.waits.ensures, c.from.ensures) at c.start-2.ensures in
     let e6 = ap answer.Open (store_open _ _ _ _ _ _ (ap (λ (p : Pool). p.turn.disk) e5)) in
     filled _ _ _ _ _ _ _ _ _ e1 e3 e4 e5 e6

@@ -5,4 +5,4 @@ use Rattle.turn.proofs.state.set_disk.Goals as goal
 
 pub returns : goal.returns
 unfolding pool_of
-returns c = rw (cells_read c.args.pool.now c.told-pool, c.from.ensures, c.from-2.ensures)
+returns c = rw (cells_read c.args.pool.now c.told-pool)

@@ -5,4 +5,4 @@ use Rattle.turn.proofs.state.stand_at.Goals as goal
 
 pub returns : goal.returns
 unfolding pool_of
-returns c = rw (cells_read c.args.pool.now c.told-pool, c.from.ensures, c.key_word.ensures)
+returns c = rw (cells_read c.args.pool.now c.told-pool)
