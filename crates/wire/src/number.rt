@@ -15,15 +15,21 @@ fn byte_at(s: &[u8], p: usize, k: usize) -> u8
 
 // The number of eight bytes that all stand there. Kept beside the one below, which tests each byte: a script is read by
 // nothing else, and of eight bytes that need no test the compiler makes one load.
+#[tactic(auto, unfolding(crate::specs::Number::number_at, crate::specs::Number::four_at))]
 fn number_inside(s: &[u8], p: usize) -> u64
     requires { p + 8 ≤ length s.now }
     ensures { result ≡ number_at s.now p }
 {
-    let mut bytes = [0u8; 8];
-    for k in 0..8 {
-        bytes[k] = s[p + k];
-    }
-    u64::from_le_bytes(bytes)
+    u64::from_le_bytes([
+        s[p],
+        s[p + 1],
+        s[p + 2],
+        s[p + 3],
+        s[p + 4],
+        s[p + 5],
+        s[p + 6],
+        s[p + 7],
+    ])
 }
 
 // The number at a place; bytes past the end count as 0.
